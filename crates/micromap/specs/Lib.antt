@@ -1,0 +1,2 @@
+pub use Rattle.micromap_core.specs.Pairs
+pub use Rattle.micromap_core.specs.Calls

@@ -1,0 +1,4 @@
+//! What no contract says: values from outside, and that each call can be made as a user makes it.
+
+mod map;
+mod tagged;

@@ -1,0 +1,37 @@
+//! The worked rows, each a function that compares every value of its row.
+use micromap::Map;
+use std::alloc::Global;
+
+/// The greatest number of a row.
+pub const LAST: u8 = 32;
+
+/// Whether the values of the row came out, or `None` where there is no such row.
+pub fn row(_alloc: Global, number: u8) -> Option<bool> {
+    match number {
+        1 => Some(row_1()),
+        2 => Some(row_2()),
+        _ => None,
+    }
+}
+
+// The three outcomes of `checked_insert`.
+fn row_1() -> bool {
+    let mut map = Map::<_, _, 3>::new();
+    map.checked_insert(1, "a") == Some(None)
+        && map.checked_insert(1, "A") == Some(Some("a"))
+        && map.checked_insert(2, "b") == Some(None)
+        && map.checked_insert(3, "c") == Some(None)
+        && map.checked_insert(2, "B") == Some(Some("b"))
+        && map.checked_insert(4, "d").is_none()
+        && map.len() == 3
+}
+
+// A map with no room at all.
+fn row_2() -> bool {
+    let mut map: Map<u8, u8, 0> = Map::new();
+    map.get(&1).is_none()
+        && map.checked_insert(1, 1).is_none()
+        && !map.fits(&1)
+        && map.len() == 0
+        && map.capacity() == 0
+}

@@ -1,0 +1,5 @@
+pub mod Edits
+pub mod Examples
+pub mod Lists
+pub mod PairsLemmas
+pub mod PlacesLemmas

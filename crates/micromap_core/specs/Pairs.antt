@@ -1,0 +1,57 @@
+-- A map's content as a list of pairs of a key and a value, from front to end, and what one look-up, insertion
+-- or removal makes of it. Keys are compared by eq, which need not be identity; N is the capacity.
+use Rattle.std.specs.Prelude.{ℕ, ◌-◌, ◌≤◌, Bool, ◌||◌, List, [], ◌∷◌, ◌++◌, length, take, drop, Option, is_some, if◌then◌else◌, nat_lt}
+use Rattle.std.specs.List.{IsDistinct, position}
+use Rattle.std.specs.Map.{keys_of, lookup, lookup_entry, set_value, set_key}
+
+-- the last element comes first
+abbrev pub last_first : {X : Type 0} → List X → List X
+last_first xs = drop (length xs - 1) xs ++ take (length xs - 1) xs
+
+module _ {K V : Type 0} where
+  -- fewer pairs than the capacity
+  abbrev pub has_room : ℕ → List (K × V) → Bool
+  has_room N pairs = nat_lt (length pairs) N
+
+  module _ (eq : K → K → Bool) where
+    -- no two keys are equal
+    abbrev pub IsUnique : List (K × V) → Type 0
+    IsUnique pairs = IsDistinct eq (keys_of pairs)
+
+    -- what a map of capacity N may hold
+    pub record IsContent (N : ℕ) (pairs : List (K × V)) : Type 0 where
+      pub unique : IsUnique pairs
+      pub bounded : length pairs ≤ N
+
+    -- the value of the pair whose key equals k
+    abbrev pub at : List (K × V) → K → Option V
+    at pairs k = lookup (eq k) pairs
+
+    -- that pair
+    abbrev pub pair : List (K × V) → K → Option (K × V)
+    pair pairs k = lookup_entry (eq k) pairs
+
+    -- the number of pairs before it
+    abbrev pub place : List (K × V) → K → Option ℕ
+    place pairs k = position (eq k) (keys_of pairs)
+
+    -- whether some key equals k
+    abbrev pub has : List (K × V) → K → Bool
+    has pairs k = is_some (at pairs k)
+
+    -- whether a pair with the key k can be put
+    abbrev pub fits : ℕ → List (K × V) → K → Bool
+    fits N pairs k = has pairs k || has_room N pairs
+
+    -- v is the value at k; a stored key stays, and a new pair goes last
+    unfoldable pub put : List (K × V) → K → V → List (K × V)
+    put pairs k v = if has pairs k then set_value (eq k) pairs v else pairs ++ (k, v) ∷ []
+
+    -- the same, and k is the stored key
+    unfoldable pub put_key : List (K × V) → K → V → List (K × V)
+    put_key pairs k v = set_key (eq k) (put pairs k v) k
+
+    -- without the pair whose key equals k: the last pair moves into the gap
+    unfoldable pub take_out : List (K × V) → K → List (K × V)
+    take_out [] k = []
+    take_out (e ∷ es) k = if eq k e.0 then last_first es else e ∷ take_out es k

@@ -1,0 +1,24 @@
+-- The places that a map keeps its pairs in. No contract of a public call cites this file.
+use Rattle.std.specs.Prelude.{◌≡◌, ℕ, Bool, List, map, Option, Some, slice_get, slice_set}
+use Rattle.std.specs.List.{filter_map}
+use Rattle.micromap_core.specs.Pairs.{IsUnique}
+
+module _ {X : Type 0} where
+  -- what stands in the places, in order
+  abbrev pub items_of : List (Option X) → List X
+  items_of places = filter_map (λ place. place) places
+
+  -- no place is empty
+  abbrev pub AreFilled : List (Option X) → Type 0
+  AreFilled places = places ≡ map Some (items_of places)
+
+-- the places of a map: filled, with keys pairwise unequal
+pub record ArePlaces {K V : Type 0} (eq : K → K → Bool) (places : List (Option (K × V))) : Type 0 where
+  pub filled : AreFilled places
+  pub unique : IsUnique eq (items_of places)
+
+-- new is old with another value at the index, where was stood
+pub record ReplacesValue {K V : Type 0} (old : List (K × V)) (index : ℕ) (value was : V) (new : List (K × V)) : Type 0 where
+  pub key : K
+  pub pair : slice_get old index ≡ Some (key, was)
+  pub pairs : new ≡ slice_set old index (key, value)

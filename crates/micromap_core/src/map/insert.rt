@@ -1,0 +1,27 @@
+//! Putting a pair.
+ghost use Rattle.std.specs.Prelude.{◌≡◌, Some, None, if◌then◌else◌};
+ghost use Rattle.micromap_core.specs.Pairs.{at, fits, put};
+
+use super::Map;
+
+impl<K: Eq + Drop, V: Drop, const N: usize> Map<K, V, N> {
+    /// Puts the pair, by one scan, or refuses it.
+    ///
+    /// Where an equal key is stored, it stays, its value is replaced, and the answer is `Some` of the old value, also
+    /// at a full map. A new pair goes last, and the answer is `Some(None)`. A new key at a full map is refused: the
+    /// answer is `None`, the map is unchanged, and key and value are dropped.
+    #[inline]
+    pub fn checked_insert(&mut self, key: K, value: V) -> Option<Option<V>>
+        ensures answer { result ≡ (if fits K.eq N self.old key then Some (at K.eq self.old key) else None) }
+        ensures pairs { self.new ≡ (if fits K.eq N self.old key then put K.eq self.old key value else self.old) }
+    {
+        match self.place_of(&key) {
+            Some(index) => Some(Some(self.replace_at(index, value))),
+            None if self.has_room() => {
+                self.push_pair(key, value);
+                Some(None)
+            }
+            None => None,
+        }
+    }
+}

@@ -1,0 +1,19 @@
+//! Taking a pair out.
+ghost use Rattle.std.specs.Prelude.{◌≡◌};
+ghost use Rattle.micromap_core.specs.Pairs.{at, pair, take_out};
+
+use super::Map;
+
+impl<K: Eq + Drop, V: Drop, const N: usize> Map<K, V, N> {
+    /// Takes the pair of `key` out, by one scan, and answers its value; the last pair moves into the gap. Where the
+    /// key is missing the answer is `None`, and the map is unchanged.
+    #[inline]
+    pub fn remove(&mut self, key: &K) -> Option<V>
+        ensures answer { result ≡ at K.eq self.old key.now }
+        ensures pairs { self.new ≡ take_out K.eq self.old key.now }
+    {
+        let index = self.place_of(key)?;
+        let (_key, value) = self.take_at(index);
+        Some(value)
+    }
+}
