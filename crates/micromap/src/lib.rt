@@ -1,7 +1,7 @@
-//! A map and a set of fixed capacity that find their keys by `==` alone.
+//! A map of fixed capacity that finds its keys by `==` alone.
 #![tactic(auto)]
 
-pub use micromap_core::{Map, map};
+pub use micromap_core::{Map, Probe, Text, map, probe};
 
 #[cfg(test)]
 mod tests;

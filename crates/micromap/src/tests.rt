@@ -1,4 +1,5 @@
 //! What no contract says: values from outside, and that each call can be made as a user makes it.
 
+mod keyed;
 mod map;
 mod tagged;

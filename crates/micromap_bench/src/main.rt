@@ -3,8 +3,10 @@
 
 ghost use Rattle.std.specs.Prelude.{◌≤◌};
 
+mod calls;
 mod rows;
 
+pub use calls::{Call, lockstep};
 use std::alloc::Global;
 use std::io::{self, Write};
 use std::process::ExitCode;

@@ -1,4 +1,7 @@
 //! The worked rows, each a function that compares every value of its row.
+pub mod marked;
+
+use marked::Marked;
 use micromap::Map;
 use std::alloc::Global;
 
@@ -10,6 +13,7 @@ pub fn row(_alloc: Global, number: u8) -> Option<bool> {
     match number {
         1 => Some(row_1()),
         2 => Some(row_2()),
+        7 => Some(row_7()),
         _ => None,
     }
 }
@@ -34,4 +38,30 @@ fn row_2() -> bool {
         && !map.fits(&1)
         && map.len() == 0
         && map.capacity() == 0
+}
+
+// Equal keys that aren't identical: one call keeps the stored one, the other replaces it.
+fn row_7() -> bool {
+    let mut map: Map<Marked, char, 1> = Map::new();
+    if map.insert(Marked::new(1, 'x'), 'p').is_some() {
+        return false;
+    }
+    let (second, third) = (Marked::new(1, 'y'), Marked::new(1, 'z'));
+    if !map.fits(&second) || map.insert(second, 'q') != Some('p') {
+        return false;
+    }
+    if !stores(&map, third, 'x', 'q') || !map.fits(&third) {
+        return false;
+    }
+    let old = map.insert_key_value(third, 'r');
+    matches!(old, Some((key, value)) if key.mark == 'x' && value == 'q')
+        && stores(&map, second, 'z', 'r')
+}
+
+// Whether the key equal to `key` has the mark, and the value.
+fn stores(map: &Map<Marked, char, 1>, key: Marked, mark: char, value: char) -> bool {
+    match map.get_key_value(&key) {
+        Some((stored, found)) => stored.mark == mark && *found == value,
+        None => false,
+    }
 }

@@ -3,3 +3,4 @@ pub mod Examples
 pub mod Lists
 pub mod PairsLemmas
 pub mod PlacesLemmas
+pub mod ProbeLemmas

@@ -1,5 +1,6 @@
--- Facts about lists alone.
-use Rattle.std.proofs.Common.{◌≡◌, ℕ, suc, ◌+◌, ◌-◌, ◌<◌, List, [], ◌∷◌, length, get_or, take, map, refl, arith, sub-one}
+-- Facts about lists and options alone.
+use Rattle.std.proofs.Common.{Option, Some, None, is_some, ◌≡◌, ℕ, suc, ◌+◌, ◌-◌, ◌<◌, List, [], ◌∷◌, length, get_or, take, map, refl, arith, sub-one}
+use Rattle.std.specs.Option.{option_map}
 use Rattle.std.specs.List.{swap_remove, refill}
 use Rattle.std.proofs.lemmas.List.{get_or-map, map-set, take-map, length-map, drop_more, drop_all, take_at}
 use Rattle.micromap_core.specs.Pairs.{last_first}
@@ -29,3 +30,8 @@ swap_remove-zero x (y ∷ ys) d = rw (last_first_is y ys d) (simp sub-one)
 pub swap_remove-suc : {X : Type 0} (x : X) (xs : List X) (i : ℕ) (d : X) → i < length xs → swap_remove (x ∷ xs) (suc i) d ≡ x ∷ swap_remove xs i d
 swap_remove-suc x [] i d within = absurd (omega arith)
 swap_remove-suc x (y ∷ ys) i d within = simp sub-one
+
+-- a function of the value leaves whether there is one
+pub is_some-option_map : {X Y : Type 0} (f : X → Y) (o : Option X) → is_some (option_map f o) ≡ is_some o
+is_some-option_map f None = refl
+is_some-option_map f (Some x) = refl

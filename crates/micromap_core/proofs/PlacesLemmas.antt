@@ -1,5 +1,6 @@
 -- Facts about filled places, and about the pairs that stand in them.
-use Rattle.std.proofs.Common.{◌≡◌, ℕ, zero, suc, ◌<◌, Bool, List, [], ◌∷◌, ◌++◌, length, get_or, set, map, Option, Some, is_some, slice_get, true, refl, ap, sym, ◌∙◌, arith}
+use Rattle.std.proofs.Common.{◌≡◌, ℕ, zero, suc, ◌<◌, Bool, List, [], ◌∷◌, ◌++◌, length, get_or, set, map, Option, Some, None, is_some, slice_get, true, refl, ap, sym, ◌∙◌, arith}
+use Rattle.std.proofs.lemmas.Bool.{false≢true}
 use Rattle.std.proofs.lemmas.Option.{slice_get-get_or}
 use Rattle.std.specs.List.{IsDistinct, swap_remove}
 use Rattle.std.proofs.lemmas.List.{length-map, get_or-map, map-set, map-append}
@@ -45,6 +46,11 @@ module _ {X : Type 0} where
     pub item_read : (i : ℕ) (d : Option X) (x : X) → i < length places → get_or places i d ≡ Some x → slice_get (items_of places) i ≡ Some x
     item_read i d x within read =
         slice_get-get_or (items_of places) i x (rw length_filled within) ∙ sym (filled_at i d x within) ∙ read
+
+    -- a place within is the item at its index
+    pub item_at : (i : ℕ) (place : Option X) → i < length places → place ≡ get_or places i place → slice_get (items_of places) i ≡ place
+    item_at i None within stands = absurd (false≢true (ap is_some stands ∙ some_at i None within))
+    item_at i (Some x) within stands = item_read i (Some x) x within (sym stands)
 
     -- another item at an index
     pub set_filled : (i : ℕ) (x : X) → set places i (Some x) ≡ map Some (set (items_of places) i x)

@@ -1,5 +1,8 @@
 -- The keyed calls of a map of capacity N, what each answers, and what a list of them does.
-use Rattle.std.specs.Prelude.{ℕ, Bool, List, [], ◌∷◌, length, Option, if◌then◌else◌, ◌==◌}
+use Rattle.std.specs.Prelude.{ℕ, Bool, true, false, ◌&&◌, List, [], ◌∷◌, length, Option, if◌then◌else◌, ◌==◌, IsTrue}
+use Rattle.std.specs.Bool.{beq}
+use Rattle.std.specs.Option.{option_eq}
+use Rattle.std.specs.Cmp.Lexicographic.{pointwise}
 use Rattle.micromap_core.specs.Pairs.{at, pair, has, fits, put, put_key, take_out}
 
 -- the calls that read or change a map by its keys
@@ -55,3 +58,19 @@ module _ {K V : Type 0} (eq : K → K → Bool) (N : ℕ) where
   abbrev pub run : List (K × V) → List (Call K V) → List (Answer K V) × List (K × V)
   run pairs [] = ([], pairs)
   run pairs (call ∷ calls) = let rest = run (after pairs call) calls in (answer pairs call ∷ rest.0, rest.1)
+
+module _ {K V : Type 0} (eq : K → K → Bool) (same : V → V → Bool) where
+  -- whether two answers agree: values where they are equal, pairs where keys and values are, numbers and truth values
+  -- where they are the same, done with done, and refused with refused alone
+  abbrev pub agree : Answer K V → Answer K V → Bool
+  agree (value x) (value y) = option_eq same x y
+  agree (entry p) (entry q) = option_eq (λ a b. eq a.0 b.0 && same a.1 b.1) p q
+  agree (truth x) (truth y) = beq x y
+  agree (number m) (number n) = m == n
+  agree done done = true
+  agree refused refused = true
+  agree x y = false
+
+  -- two lists of answers agree place by place
+  abbrev pub Agree : List (Answer K V) → List (Answer K V) → Type 0
+  Agree xs ys = IsTrue (pointwise agree xs ys)

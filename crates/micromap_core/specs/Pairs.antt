@@ -13,6 +13,15 @@ module _ {K V : Type 0} where
   abbrev pub has_room : ℕ → List (K × V) → Bool
   has_room N pairs = nat_lt (length pairs) N
 
+  -- the number of pairs before the first whose key passes the test
+  abbrev pub place_by : (K → Bool) → List (K × V) → Option ℕ
+  place_by test pairs = position test (keys_of pairs)
+
+  -- without the first pair whose key passes the test: the last pair moves into the gap
+  unfoldable pub take_out_by : (K → Bool) → List (K × V) → List (K × V)
+  take_out_by test [] = []
+  take_out_by test (e ∷ es) = if test e.0 then last_first es else e ∷ take_out_by test es
+
   module _ (eq : K → K → Bool) where
     -- no two keys are equal
     abbrev pub IsUnique : List (K × V) → Type 0
@@ -33,7 +42,7 @@ module _ {K V : Type 0} where
 
     -- the number of pairs before it
     abbrev pub place : List (K × V) → K → Option ℕ
-    place pairs k = position (eq k) (keys_of pairs)
+    place pairs k = place_by (eq k) pairs
 
     -- whether some key equals k
     abbrev pub has : List (K × V) → K → Bool
@@ -49,9 +58,8 @@ module _ {K V : Type 0} where
 
     -- the same, and k is the stored key
     unfoldable pub put_key : List (K × V) → K → V → List (K × V)
-    put_key pairs k v = set_key (eq k) (put pairs k v) k
+    put_key pairs k v = if has pairs k then set_key (eq k) (set_value (eq k) pairs v) k else pairs ++ (k, v) ∷ []
 
-    -- without the pair whose key equals k: the last pair moves into the gap
-    unfoldable pub take_out : List (K × V) → K → List (K × V)
-    take_out [] k = []
-    take_out (e ∷ es) k = if eq k e.0 then last_first es else e ∷ take_out es k
+    -- without the pair whose key equals k
+    abbrev pub take_out : List (K × V) → K → List (K × V)
+    take_out pairs k = take_out_by (eq k) pairs

@@ -1,6 +1,7 @@
 -- The places that a map keeps its pairs in. No contract of a public call cites this file.
 use Rattle.std.specs.Prelude.{◌≡◌, ℕ, Bool, List, map, Option, Some, slice_get, slice_set}
 use Rattle.std.specs.List.{filter_map}
+use Rattle.std.specs.Option.{option_map, option_map_or}
 use Rattle.micromap_core.specs.Pairs.{IsUnique}
 
 module _ {X : Type 0} where
@@ -22,3 +23,16 @@ pub record ReplacesValue {K V : Type 0} (old : List (K × V)) (index : ℕ) (val
   pub key : K
   pub pair : slice_get old index ≡ Some (key, was)
   pub pairs : new ≡ slice_set old index (key, value)
+
+module _ {K V : Type 0} where
+  -- the place with v as the value of its pair
+  abbrev pub with_value : Option (K × V) → V → Option (K × V)
+  with_value place v = option_map (λ p. (p.0, v)) place
+
+  -- the value of the pair in the place
+  abbrev pub value_of : Option (K × V) → Option V
+  value_of place = option_map (λ p. p.1) place
+
+-- the pairs with v as the value of the pair at the index
+abbrev pub with_value_at : {K V : Type 0} → List (K × V) → ℕ → V → List (K × V)
+with_value_at pairs index v = option_map_or (λ p. slice_set pairs index (p.0, v)) (slice_get pairs index) pairs

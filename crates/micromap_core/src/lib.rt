@@ -3,5 +3,7 @@
 
 pub mod map;
 mod places;
+pub mod probe;
 
 pub use map::Map;
+pub use probe::{Probe, Text};

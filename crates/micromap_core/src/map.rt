@@ -5,6 +5,7 @@ ghost use Rattle.micromap_core.specs.Pairs.{IsContent};
 mod indexed;
 mod insert;
 mod lookup;
+mod probed;
 mod remove;
 
 use arrayvec::ArrayVec;
@@ -39,6 +40,16 @@ impl<K: Eq, V, const N: usize> Map<K, V, N> {
         Map {
             places: ArrayVec::new(),
         }
+    }
+
+    /// An empty map, where `capacity` is the one that the type has.
+    #[inline]
+    pub fn with_capacity(capacity: usize) -> Self
+        requires { capacity ≡ N }
+        ensures { result ≡ [] }
+    {
+        let _same = capacity;
+        Map::new()
     }
 
     /// The number of pairs. Callers also learn here what holds of each map's content.

@@ -1,9 +1,13 @@
-//! The places in which a map keeps its pairs. Only this module changes where the layout does.
-ghost use Rattle.std.specs.Prelude.{◌≡◌, ◌<◌, length, Some, IsSome};
+//! The places in which a map keeps its pairs. Only this module and `map::indexed` change where the layout does.
+ghost use Rattle.std.specs.Prelude.{◌≡◌, ◌<◌, length, Some, IsSome, slice_get, slice_set};
+ghost use Rattle.std.specs.Borrow.{sem};
+ghost use Rattle.std.specs.Map.{lookup_entry};
 ghost use Rattle.std.specs.Option.{option_copied};
-ghost use Rattle.micromap_core.specs.Pairs.{at, place};
-ghost use Rattle.micromap_core.specs.Places.{items_of, AreFilled, ReplacesValue};
+ghost use Rattle.micromap_core.specs.Pairs.{place_by};
+ghost use Rattle.micromap_core.specs.Places.{items_of, AreFilled, ReplacesValue, value_of};
+ghost use Rattle.micromap_core.specs.Lends.{lends_value_in};
 
+use crate::probe::Probe;
 use std::mem;
 
 // What stands in a filled place.
@@ -30,33 +34,46 @@ pub(crate) fn into_filled<X>(place: Option<X>) -> X
     }
 }
 
-/// The value of the pair whose key equals `key`.
+/// The first pair whose key the probe matches.
 #[inline]
-pub(crate) fn value_at<'a, K: Eq, V>(places: &'a [Option<(K, V)>], key: &K) -> Option<&'a V>
+pub(crate) fn pair_of<'a, K: Eq, V, P: Probe<K>>(
+    places: &'a [Option<(K, V)>],
+    probe: &P,
+) -> Option<&'a (K, V)>
     requires { AreFilled places.now }
-    ensures { option_copied result ≡ at K.eq (items_of places.now) key.now }
+    ensures { option_copied result ≡ lookup_entry (P.matches probe.now) (items_of places.now) }
 {
     for place in places {
         let pair = filled(place);
-        if *key == pair.0 {
-            return Some(&pair.1);
+        if probe.matches(&pair.0) {
+            return Some(pair);
         }
     }
     None
 }
 
-/// The place of the pair whose key equals `key`.
+/// The place of that pair.
 #[inline]
-pub(crate) fn place_of<K: Eq, V>(places: &[Option<(K, V)>], key: &K) -> Option<usize>
+pub(crate) fn place_of<K: Eq, V, P: Probe<K>>(places: &[Option<(K, V)>], probe: &P) -> Option<usize>
     requires { AreFilled places.now }
-    ensures { result ≡ place K.eq (items_of places.now) key.now }
+    ensures { result ≡ place_by (P.matches probe.now) (items_of places.now) }
 {
     for (index, place) in places.iter().enumerate() {
-        if *key == filled(place).0 {
+        if probe.matches(&filled(place).0) {
             return Some(index);
         }
     }
     None
+}
+
+/// The pair at `index`.
+#[inline]
+pub(crate) fn pair_in<X>(places: &[Option<X>], index: usize) -> &X
+    requires filled { AreFilled places.now }
+    requires within { index < length places.now }
+    ensures { slice_get (items_of places.now) index ≡ Some result.now }
+{
+    filled(&places[index])
 }
 
 /// Writes `value` over that of the pair at `index`, and answers the old one.
@@ -69,6 +86,34 @@ pub(crate) fn replace_value<K, V>(places: &mut [Option<(K, V)>], index: usize, v
 {
     match &mut places[index] {
         Some(pair) => mem::replace(&mut pair.1, value),
+        None => unreachable!(),
+    }
+}
+
+/// Writes `pair` over the one at `index`, and answers the old one.
+#[inline]
+pub(crate) fn replace_pair<X>(places: &mut [Option<X>], index: usize, pair: X) -> X
+    requires filled { AreFilled places.old }
+    requires within { index < length places.old }
+    ensures old { slice_get (items_of places.old) index ≡ Some result }
+    ensures pairs { items_of places.new ≡ slice_set (items_of places.old) index pair }
+    ensures places { AreFilled places.new }
+{
+    match &mut places[index] {
+        Some(old) => mem::replace(old, pair),
+        None => unreachable!(),
+    }
+}
+
+/// The value in a filled place, for writing.
+#[inline]
+pub(crate) fn value_in<K, V>(place: &mut Option<(K, V)>) -> &mut V
+    requires { IsSome place.old }
+    ensures* writes_back { sem 𝓛 (lends_value_in K.row V.row place.entry result) }
+    ensures value { value_of place.old ≡ Some result.now }
+{
+    match place {
+        Some(pair) => &mut pair.1,
         None => unreachable!(),
     }
 }

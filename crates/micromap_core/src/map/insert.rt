@@ -1,10 +1,58 @@
 //! Putting a pair.
-ghost use Rattle.std.specs.Prelude.{◌≡◌, Some, None, if◌then◌else◌};
-ghost use Rattle.micromap_core.specs.Pairs.{at, fits, put};
+ghost use Rattle.std.specs.Prelude.{◌≡◌, Some, None, IsTrue, if◌then◌else◌};
+ghost use Rattle.micromap_core.specs.Pairs.{at, pair, fits, put, put_key};
 
 use super::Map;
 
 impl<K: Eq + Drop, V: Drop, const N: usize> Map<K, V, N> {
+    /// Puts the pair, by one scan, and answers the old value.
+    ///
+    /// Where an equal key is stored, it stays, and its value is replaced. A new pair goes last, and the answer is
+    /// `None`. There must be room for a new key: `fits` tells.
+    #[inline]
+    pub fn insert(&mut self, key: K, value: V) -> Option<V>
+        requires { IsTrue (fits K.eq N self.old key) }
+        ensures answer { result ≡ at K.eq self.old key }
+        ensures pairs { self.new ≡ put K.eq self.old key value }
+    {
+        match self.place_of(&key) {
+            Some(index) => Some(self.replace_at(index, value)),
+            None => {
+                self.push_pair(key, value);
+                None
+            }
+        }
+    }
+
+    /// `insert`, with the same condition.
+    #[inline]
+    pub fn insert_unchecked(&mut self, key: K, value: V) -> Option<V>
+        requires { IsTrue (fits K.eq N self.old key) }
+        ensures answer { result ≡ at K.eq self.old key }
+        ensures pairs { self.new ≡ put K.eq self.old key value }
+    {
+        self.insert(key, value)
+    }
+
+    /// Puts the pair, by one scan, and answers the old pair.
+    ///
+    /// Where an equal key is stored, key and value are both replaced. A new pair goes last, and the answer is `None`.
+    /// There must be room for a new key: `fits` tells.
+    #[inline]
+    pub fn insert_key_value(&mut self, key: K, value: V) -> Option<(K, V)>
+        requires { IsTrue (fits K.eq N self.old key) }
+        ensures answer { result ≡ pair K.eq self.old key }
+        ensures pairs { self.new ≡ put_key K.eq self.old key value }
+    {
+        match self.place_of(&key) {
+            Some(index) => Some(self.replace_pair_at(index, key, value)),
+            None => {
+                self.push_pair(key, value);
+                None
+            }
+        }
+    }
+
     /// Puts the pair, by one scan, or refuses it.
     ///
     /// Where an equal key is stored, it stays, its value is replaced, and the answer is `Some` of the old value, also

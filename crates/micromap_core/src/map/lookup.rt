@@ -1,10 +1,11 @@
 //! Looking a key up.
-ghost use Rattle.std.specs.Prelude.{◌≡◌};
-ghost use Rattle.std.specs.Option.{option_copied};
-ghost use Rattle.micromap_core.specs.Pairs.{at, has, fits};
+ghost use Rattle.std.specs.Prelude.{◌≡◌, Some, IsTrue};
+ghost use Rattle.std.specs.Borrow.{sem};
+ghost use Rattle.std.specs.Option.{option_copied, option_copied_mut, option_map};
+ghost use Rattle.micromap_core.specs.Pairs.{at, pair, has, fits};
+ghost use Rattle.micromap_core.specs.Lends.{lends_at, lends_at_if};
 
 use super::Map;
-use crate::places::value_at;
 
 impl<K: Eq, V, const N: usize> Map<K, V, N> {
     /// The value at `key`, by one scan.
@@ -12,7 +13,34 @@ impl<K: Eq, V, const N: usize> Map<K, V, N> {
     pub fn get(&self, key: &K) -> Option<&V>
         ensures { option_copied result ≡ at K.eq self.now key.now }
     {
-        value_at(self.places.as_slice(), key)
+        match self.find(key) {
+            Some(pair) => Some(&pair.1),
+            None => None,
+        }
+    }
+
+    /// The value at `key`, for writing, by one scan. Once the borrow ends the map has what was written, and all else
+    /// is unchanged.
+    #[inline]
+    pub fn get_mut(&mut self, key: &K) -> Option<&mut V>
+        ensures* writes_back { sem 𝓛 (lends_at_if K.row V.row N.row K.eq self.entry key.now result) }
+        ensures value { option_copied_mut result ≡ at K.eq self.old key.now }
+    {
+        match self.place_of(key) {
+            Some(index) => Some(self.value_at(index)),
+            None => None,
+        }
+    }
+
+    /// The stored key and its value, by one scan.
+    #[inline]
+    pub fn get_key_value(&self, key: &K) -> Option<(&K, &V)>
+        ensures { option_map (λ p. (p.0.now, p.1.now)) result ≡ pair K.eq self.now key.now }
+    {
+        match self.find(key) {
+            Some(pair) => Some((&pair.0, &pair.1)),
+            None => None,
+        }
     }
 
     /// Whether some stored key equals `key`, by one scan.
@@ -30,5 +58,30 @@ impl<K: Eq, V, const N: usize> Map<K, V, N> {
         ensures { result ≡ fits K.eq N self.now key.now }
     {
         self.has_room() || self.contains_key(key)
+    }
+
+    /// The value at a key that is there, by one scan.
+    #[inline]
+    pub fn index(&self, key: &K) -> &V
+        requires { IsTrue (has K.eq self.now key.now) }
+        ensures { at K.eq self.now key.now ≡ Some result.now }
+    {
+        match self.find(key) {
+            Some(pair) => &pair.1,
+            None => unreachable!(),
+        }
+    }
+
+    /// The value at a key that is there, for writing, by one scan.
+    #[inline]
+    pub fn index_mut(&mut self, key: &K) -> &mut V
+        requires { IsTrue (has K.eq self.old key.now) }
+        ensures* writes_back { sem 𝓛 (lends_at K.row V.row N.row K.eq self.entry key.now result) }
+        ensures value { at K.eq self.old key.now ≡ Some result.now }
+    {
+        match self.place_of(key) {
+            Some(index) => self.value_at(index),
+            None => unreachable!(),
+        }
     }
 }

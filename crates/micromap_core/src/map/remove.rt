@@ -16,4 +16,14 @@ impl<K: Eq + Drop, V: Drop, const N: usize> Map<K, V, N> {
         let (_key, value) = self.take_at(index);
         Some(value)
     }
+
+    /// Takes the pair of `key` out, as `remove` does, and answers the stored key and its value.
+    #[inline]
+    pub fn remove_entry(&mut self, key: &K) -> Option<(K, V)>
+        ensures answer { result ≡ pair K.eq self.old key.now }
+        ensures pairs { self.new ≡ take_out K.eq self.old key.now }
+    {
+        let index = self.place_of(key)?;
+        Some(self.take_at(index))
+    }
 }

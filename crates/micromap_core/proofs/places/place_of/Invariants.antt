@@ -4,8 +4,8 @@ use Rattle.std.specs.Map.{keys_of}
 use Rattle.micromap_core.specs.Places.{items_of}
 use Rattle.micromap_core.proofs.places.place_of.Given as goal
 
--- the first place with the key is the first among those that are left
+-- the first place that matches is the first among those that are left
 abbrev pub invariant-loop-index : goal.invariant-loop-index
 invariant-loop-index g l =
-    position_or_len (g.K.PartialEq.eq l.key) (keys_of (items_of l.places))
-    ≡ l.index + position_or_len (g.K.PartialEq.eq l.key) (keys_of (items_of (drop l.index l.places)))
+    position_or_len (g.P.Probe.matches l.probe) (keys_of (items_of l.places))
+    ≡ l.index + position_or_len (g.P.Probe.matches l.probe) (keys_of (items_of (drop l.index l.places)))

@@ -1,12 +1,12 @@
 use Rattle.std.proofs.Common.{Some, refl, sym, ap, ◌∙◌}
-use Rattle.micromap_core.proofs.PairsLemmas.{at_found, at_missing, fits_found, fits_missing, put_found, put_missing}
+use Rattle.micromap_core.proofs.PairsLemmas.{lookup_found, lookup_missing, fits_found, fits_missing, put_found, put_missing}
 use Rattle.micromap_core.proofs.map.Map.checked_insert.Goals as goal
 
 -- the key is stored, and its value is replaced
 pub returns-in-Some-clause-answer : goal.returns-in-Some-clause-answer
 returns-in-Some-clause-answer g c =
     rw (fits_found g.K.PartialEq.eq c.args.key c.args.self.now _ (sym c.in-Some.ensures) _ c.replace_at.ensures.pair g.row.N)
-    (ap Some (sym (at_found g.K.PartialEq.eq c.args.key c.args.self.now _ (sym c.in-Some.ensures) _ c.replace_at.ensures.pair)))
+    (ap Some (sym (lookup_found (g.K.PartialEq.eq c.args.key) c.args.self.now _ (sym c.in-Some.ensures) _ c.replace_at.ensures.pair)))
 
 pub returns-in-Some-clause-pairs : goal.returns-in-Some-clause-pairs
 returns-in-Some-clause-pairs g c =
@@ -17,7 +17,7 @@ returns-in-Some-clause-pairs g c =
 pub returns-in-None-clause-answer : goal.returns-in-None-clause-answer
 returns-in-None-clause-answer g c =
     rw (fits_missing g.K.PartialEq.eq c.args.key c.args.self.now (sym c.in-None.ensures) g.row.N, ← c.has_room.ensures, c.if-has_room.true)
-    (ap Some (sym (at_missing g.K.PartialEq.eq c.args.key c.args.self.now (sym c.in-None.ensures))))
+    (ap Some (sym (lookup_missing (g.K.PartialEq.eq c.args.key) c.args.self.now (sym c.in-None.ensures))))
 
 pub returns-in-None-clause-pairs : goal.returns-in-None-clause-pairs
 returns-in-None-clause-pairs g c =

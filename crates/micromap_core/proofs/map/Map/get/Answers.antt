@@ -1,4 +1,12 @@
+use Rattle.std.proofs.Common.{sym, ap, ◌∙◌}
+use Rattle.std.specs.Option.{option_map}
+use Rattle.micromap_core.proofs.PairsLemmas.{lookup-entry}
 use Rattle.micromap_core.proofs.map.Map.get.Goals as goal
 
-pub value_at-requires : goal.value_at-requires
-value_at-requires g c = rw c.as_slice.ensures.value c.self.invariant.filled
+pub returns-in-Some : goal.returns-in-Some
+returns-in-Some g c =
+    sym (lookup-entry (g.K.PartialEq.eq c.args.key.now) c.args.self.now ∙ ap (option_map (λ e. e.1)) (sym c.in-Some.ensures))
+
+pub returns-in-None : goal.returns-in-None
+returns-in-None g c =
+    sym (lookup-entry (g.K.PartialEq.eq c.args.key.now) c.args.self.now ∙ ap (option_map (λ e. e.1)) (sym c.in-None.ensures))

@@ -1,5 +1,5 @@
 use Rattle.micromap_core.proofs.PlacesLemmas.{some_at}
-use Rattle.micromap_core.proofs.places.value_at.Goals as goal
+use Rattle.micromap_core.proofs.places.pair_of.Goals as goal
 
 pub filled-pair-requires : goal.filled-pair-requires
 filled-pair-requires g c =

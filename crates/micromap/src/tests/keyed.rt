@@ -1,0 +1,108 @@
+//! The keyed calls with a condition, the calls by probe, and a caller's proof over a lent value.
+ghost use Rattle.std.specs.Prelude.{◌≡◌, nat_eq, if◌then◌else◌};
+ghost use Rattle.micromap.specs.Pairs.{has, put};
+
+use super::tagged::{Id, Tagged};
+use crate::{Map, Text};
+use std::test::Fail;
+
+// Writes `value` at a key that is there.
+fn overwrite<const N: usize>(map: &mut Map<u8, u8, N>, key: u8, value: u8)
+    ensures { map.new ≡ (if has nat_eq map.old key then put nat_eq map.old key value else map.old) }
+{
+    if let Some(stored) = map.get_mut(&key) {
+        *stored = value;
+    }
+}
+
+#[test]
+fn a_value_is_written_where_its_key_is_there(rt: HostRuntime) {
+    let mut map: Map<u8, u8, 2> = Map::new();
+    map.insert(1, 10);
+    overwrite(&mut map, 1, 11);
+    overwrite(&mut map, 2, 20);
+    assert_eq!(rt; map.get(&1), Some(&11));
+    assert_eq!(rt; map.len(), 1);
+}
+
+#[test]
+#[tactic(auto, unfolding(micromap_core::specs::Pairs::put))]
+fn insertions_answer_what_was_there(rt: HostRuntime) {
+    let mut map = Map::<_, _, 3>::new();
+    assert_eq!(rt; map.insert(37, "a"), None);
+    assert_eq!(rt; map.insert(37, "b"), Some("a"));
+    assert_eq!(rt; map.insert(37, "c"), Some("b"));
+    assert!(rt; map.contains_key(&37));
+    assert_eq!(rt; *map.index(&37), "c");
+}
+
+#[test]
+fn a_removed_entry_is_gone(rt: HostRuntime) {
+    let mut map = Map::<_, _, 2>::new();
+    assert_eq!(rt; map.insert(1, "a"), None);
+    assert_eq!(rt; map.remove_entry(&1), Some((1, "a")));
+    assert_eq!(rt; map.remove(&1), None);
+}
+
+#[test]
+#[tactic(auto, unfolding(micromap_core::specs::Pairs::put))]
+fn a_full_map_takes_a_stored_key(rt: HostRuntime) {
+    let mut map: Map<i32, i32, 1> = Map::with_capacity(1);
+    assert_eq!(rt; map.insert(1, 42), None);
+    assert_eq!(rt; map.insert_unchecked(1, 42), Some(42));
+    assert_eq!(rt; map.len(), 1);
+    assert!(rt; map.contains_key(&1));
+    *map.index_mut(&1) = 43;
+    assert_eq!(rt; map.get_key_value(&1), Some((&1, &43)));
+}
+
+#[test]
+#[tactic(auto, unfolding(micromap_core::specs::Pairs::put))]
+fn a_map_has_its_capacity(rt: HostRuntime) {
+    let mut map: Map<u64, &str, 10> = Map::new();
+    assert_eq!(rt; map.insert(1, "foo"), None);
+    assert_eq!(rt; map.insert(2, "bar"), None);
+    assert_eq!(rt; map.len(), 2);
+    assert_eq!(rt; map.capacity(), 10);
+}
+
+#[test]
+fn texts_find_their_keys(rt: HostRuntime) -> Result<(), Fail> {
+    let alloc = rt.alloc();
+    let mut map: Map<String, i32, 10> = Map::new();
+    for (name, value) in [("one", 1), ("two", 3), ("three", 5)] {
+        assert_eq!(rt;
+            map.checked_insert(String::from_str(alloc, name)?, value),
+            Some(None)
+        );
+    }
+    assert!(rt; map.contains_key_by(&Text("two")));
+    *map.index_mut_by(&Text("two")) = 7;
+    assert_eq!(rt; map.get(&String::from_str(alloc, "two")?), Some(&7));
+    let Some((name, value)) = map.remove_entry_by(&Text("one")) else {
+        return Err(Fail::from("one is there"));
+    };
+    assert_eq!(rt; name.as_str(), "one");
+    assert_eq!(rt; value, 1);
+    assert_eq!(rt; map.get_by(&Text("one")), None);
+    assert_eq!(rt; map.remove_by(&Text("three")), Some(5));
+    assert_eq!(rt; map.len(), 1);
+    Ok(())
+}
+
+#[test]
+fn a_probe_finds_the_stored_key(rt: HostRuntime) {
+    let mut map: Map<Tagged, u8, 2> = Map::new();
+    map.insert(Tagged::new(1, 'x'), 5);
+    let found = map.get_key_value_by(&Id(1));
+    assert_eq!(rt;
+        found.map(|(key, value)| (key.mark, *value)),
+        Some(('x', 5))
+    );
+    if let Some(value) = map.get_mut_by(&Id(1)) {
+        *value = 6;
+    }
+    assert!(rt; map.contains_key_by(&Id(1)));
+    assert_eq!(rt; *map.index_by(&Id(1)), 6);
+    assert!(rt; !map.contains_key_by(&Id(2)));
+}

@@ -1,0 +1,28 @@
+-- What is left to run makes of two maps what the whole list of calls makes of them.
+use Rattle.std.proofs.Common.{◌≡◌, ℕ, ◌+◌, ◌<◌, Bool, true, false, ◌&&◌, List, [], ◌∷◌, length, get_or, drop, map, refl, sym, ◌∙◌}
+use Rattle.std.specs.Cmp.Lexicographic.{pointwise}
+use Rattle.std.proofs.lemmas.List.{drop_more, drop_all}
+use Rattle.micromap.specs.Calls.{Call, answer, after, run, agree}
+
+and_assoc : (x y z : Bool) → ((x && y) && z) ≡ (x && (y && z))
+and_assoc true y z = refl
+and_assoc false y z = refl
+
+module _ {K V : Type 0} (eq : K → K → Bool) (same : V → V → Bool) (N M : ℕ) where
+  -- from first and second on, with what agreed so far, the rest of the calls gives what all of them give from the start
+  pub record Leads (first second : List (K × V)) (agreed : Bool) (rest : List (Call K V)) (first_start second_start : List (K × V)) (calls : List (Call K V)) : Type 0 where
+    pub first_ends : (run eq N first rest).1 ≡ (run eq N first_start calls).1
+    pub second_ends : (run eq M second rest).1 ≡ (run eq M second_start calls).1
+    pub answers_agree : (agreed && pointwise (agree eq same) (run eq N first rest).0 (run eq M second rest).0) ≡ pointwise (agree eq same) (run eq N first_start calls).0 (run eq M second_start calls).0
+
+  -- one call on both
+  pub Leads-more : (first second : List (K × V)) (agreed : Bool) (call : Call K V) (rest calls : List (Call K V)) (first_start second_start : List (K × V)) → Leads first second agreed (call ∷ rest) first_start second_start calls → Leads (after eq N first call) (after eq M second call) (agreed && agree eq same (answer eq N first call) (answer eq M second call)) rest first_start second_start calls
+  Leads-more first second agreed call rest calls first_start second_start leads = record {
+    first_ends = leads.first_ends;
+    second_ends = leads.second_ends;
+    answers_agree = and_assoc agreed _ _ ∙ leads.answers_agree;
+  }
+
+-- the calls that are left, from the one at an index on
+pub calls_more : {X Y : Type 0} (f : X → Y) (xs : List X) (i : ℕ) (x : X) → i < length xs → x ≡ get_or xs i x → map f (drop i xs) ≡ f x ∷ map f (drop (i + 1) xs)
+calls_more f xs i x within read = rw (drop_more xs i x within, ← read) refl

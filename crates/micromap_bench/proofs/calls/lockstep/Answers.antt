@@ -1,0 +1,10 @@
+use Rattle.micromap_bench.specs.Lockstep.{call_of}
+use Rattle.micromap_bench.proofs.LockstepLemmas.{Leads-more, calls_more}
+use Rattle.micromap_bench.proofs.calls.lockstep.Goals as goal
+
+-- one more call was made on both maps
+pub loop-call-preserved : goal.loop-call-preserved
+loop-call-preserved g c =
+    let left = rw (calls_more call_of c.args.calls.now c.loop-call.call-index c.call-item.result c.loop-call-test.true c.call-item.is) at c.loop-call.invariant in
+    rw (c.perform-one.ensures.after, c.perform-other.ensures.after, c.agrees-agreed.ensures, c.perform-one.ensures.answer, c.perform-other.ensures.answer)
+    (Leads-more g.K.PartialEq.eq g.V.PartialEq.eq g.row.N g.row.M c.loop-call.first c.loop-call.second c.loop-call.agreed (call_of c.call-item.result) _ _ _ _ left)

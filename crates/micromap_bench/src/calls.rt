@@ -1,0 +1,106 @@
+//! Two maps under one list of keyed calls.
+ghost use Rattle.std.specs.Prelude.{◌≡◌, ◌↔◌, map, IsTrue};
+ghost use Rattle.micromap.specs.Calls.{answer, after, run, agree, Agree};
+ghost use Rattle.micromap_bench.specs.Lockstep.{call_of, answer_of};
+
+use micromap::Map;
+
+/// A call that reads or changes a map by its keys.
+#[derive(Debug, Clone, Copy, PartialEq, Eq)]
+pub enum Call<K, V> {
+    Insert(K, V),
+    InsertKeyValue(K, V),
+    Get(K),
+    GetKeyValue(K),
+    Contains(K),
+    Remove(K),
+    RemoveEntry(K),
+    Len,
+    IsEmpty,
+    Clear,
+}
+
+// What a call answers.
+#[derive(Clone, Copy)]
+enum Answer<K, V> {
+    Value(Option<V>),
+    Entry(Option<(K, V)>),
+    Truth(bool),
+    Number(usize),
+    Done,
+    Refused,
+}
+
+/// Runs every call on both maps, also after a difference, and answers whether all answers agreed.
+///
+/// An insertion that doesn't fit changes nothing and answers that it was refused, which agrees with a refusal alone.
+pub fn lockstep<K: Eq + Copy, V: Eq + Copy, const N: usize, const M: usize>(
+    first: &mut Map<K, V, N>,
+    second: &mut Map<K, V, M>,
+    calls: &[Call<K, V>],
+) -> bool
+    ensures first { first.new ≡ (run K.eq N first.old (map call_of calls.now)).1 }
+    ensures second { second.new ≡ (run K.eq M second.old (map call_of calls.now)).1 }
+    ensures answer { IsTrue result ↔ Agree K.eq V.eq (run K.eq N first.old (map call_of calls.now)).0
+        (run K.eq M second.old (map call_of calls.now)).0 }
+{
+    let mut agreed = true;
+    for call in calls {
+        let one = perform(first, call);
+        let other = perform(second, call);
+        agreed &= agrees(&one, &other);
+    }
+    agreed
+}
+
+// Makes the call.
+fn perform<K: Eq + Copy, V: Copy, const N: usize>(
+    pairs: &mut Map<K, V, N>,
+    call: &Call<K, V>,
+) -> Answer<K, V>
+    ensures answer { answer_of result ≡ answer K.eq N pairs.old (call_of call.now) }
+    ensures after { pairs.new ≡ after K.eq N pairs.old (call_of call.now) }
+{
+    match *call {
+        Call::Insert(key, value) => match pairs.checked_insert(key, value) {
+            Some(old) => Answer::Value(old),
+            None => Answer::Refused,
+        },
+        Call::InsertKeyValue(key, value) => {
+            if pairs.fits(&key) {
+                Answer::Entry(pairs.insert_key_value(key, value))
+            } else {
+                Answer::Refused
+            }
+        }
+        Call::Get(key) => Answer::Value(pairs.get(&key).copied()),
+        Call::GetKeyValue(key) => match pairs.get_key_value(&key) {
+            Some((stored, value)) => Answer::Entry(Some((*stored, *value))),
+            None => Answer::Entry(None),
+        },
+        Call::Contains(key) => Answer::Truth(pairs.contains_key(&key)),
+        Call::Remove(key) => Answer::Value(pairs.remove(&key)),
+        Call::RemoveEntry(key) => Answer::Entry(pairs.remove_entry(&key)),
+        Call::Len => Answer::Number(pairs.len()),
+        Call::IsEmpty => Answer::Truth(pairs.is_empty()),
+        Call::Clear => {
+            pairs.clear();
+            Answer::Done
+        }
+    }
+}
+
+// Whether two answers agree.
+fn agrees<K: Eq, V: Eq>(one: &Answer<K, V>, other: &Answer<K, V>) -> bool
+    ensures { result ≡ agree K.eq V.eq (answer_of one.now) (answer_of other.now) }
+{
+    match (one, other) {
+        (Answer::Value(x), Answer::Value(y)) => *x == *y,
+        (Answer::Entry(x), Answer::Entry(y)) => *x == *y,
+        (Answer::Truth(x), Answer::Truth(y)) => *x == *y,
+        (Answer::Number(x), Answer::Number(y)) => *x == *y,
+        (Answer::Done, Answer::Done) => true,
+        (Answer::Refused, Answer::Refused) => true,
+        _ => false,
+    }
+}

@@ -1,0 +1,35 @@
+-- What a map, or one of its places, ends as where a `&mut` to a value is returned.
+use Rattle.std.specs.Prelude.{ℕ, Bool, List, [], ◌∷◌, Option}
+use Rattle.std.specs.Borrow.{Lends, LendsIf, Fml, RattleType, MutBor}
+use Rattle.std.specs.contracts.option.Option.{the_row as option_row}
+use Rattle.micromap_core.specs.Pairs.{put}
+use Rattle.micromap_core.specs.Probe.{put_matched}
+use Rattle.micromap_core.specs.Places.{with_value, with_value_at}
+use Rattle.micromap_core.specs.contracts.map.Map.{the_row}
+use denote.Struct.Tuple.{Tuple}
+
+module _ (K V : RattleType) where
+  -- once the borrow r ends, the place has the last value written through r
+  abbrev pub lends_value_in : MutBor (Option (K.Denot × V.Denot)) → MutBor V.Denot → Fml
+  lends_value_in place r = Lends (option_row (Tuple (K ∷ V ∷ []))) V place r (with_value place.now)
+
+module _ (K V N : RattleType) (eq : K.Denot → K.Denot → Bool) (map : MutBor (List (K.Denot × V.Denot))) where
+  -- once the borrow r ends, the pair at the index has the last value written through r
+  abbrev pub lends_value_at : ℕ → MutBor V.Denot → Fml
+  lends_value_at index r = Lends (the_row K V N (record { eq = eq })) V map r (with_value_at map.now index)
+
+  -- once the borrow r ends, the map has the last value written through r at the key
+  abbrev pub lends_at : K.Denot → MutBor V.Denot → Fml
+  lends_at k r = Lends (the_row K V N (record { eq = eq })) V map r (put eq map.now k)
+
+  -- the same where r is a reference, and at `None` the map stays as it is
+  abbrev pub lends_at_if : K.Denot → Option (MutBor V.Denot) → Fml
+  lends_at_if k r = LendsIf (the_row K V N (record { eq = eq })) V map r (put eq map.now k) map.now
+
+  -- once the borrow r ends, the map has the last value written through r at the key that matches
+  abbrev pub lends_matched : (K.Denot → Bool) → MutBor V.Denot → Fml
+  lends_matched test r = Lends (the_row K V N (record { eq = eq })) V map r (put_matched eq test map.now)
+
+  -- the same where r is a reference, and at `None` the map stays as it is
+  abbrev pub lends_matched_if : (K.Denot → Bool) → Option (MutBor V.Denot) → Fml
+  lends_matched_if test r = LendsIf (the_row K V N (record { eq = eq })) V map r (put_matched eq test map.now) map.now

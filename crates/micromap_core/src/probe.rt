@@ -1,0 +1,52 @@
+//! Finding a key by something other than a key.
+ghost use Rattle.std.specs.Prelude.{◌≡◌, Bool, true, ◌==◌, length, nat_eq};
+ghost use Rattle.std.specs.Cmp.Lexicographic.{pointwise};
+ghost use Rattle.std.specs.String.{string_bytes, string_capacity};
+ghost use Rattle.std.proofs.lemmas.Cmp.{nat_list_eq_equiv};
+ghost use Rattle.micromap_core.specs.ProbeLaws.{alike, equal};
+
+/// What a stored key can be found by.
+///
+/// An implementation says which keys it matches, and proves two laws: equal keys match alike, and two keys that match
+/// are equal. So at most one stored key matches, and the calls of a map by probe act on that one.
+pub trait Probe<K: Eq> {
+    ghost matches: { Self → K → Bool };
+
+    /// Whether the probe matches `key`.
+    fn matches(&self, key: &K) -> bool
+        ensures { result ≡ matches self.now key.now };
+
+    ghost equal_keys_match_alike: { (p : Self) (x y : K) → K.eq x y ≡ true → matches p x ≡ matches p y };
+
+    ghost matching_keys_are_equal: { (p : Self) (x y : K) → matches p x ≡ true → matches p y ≡ true → K.eq x y ≡ true };
+}
+
+/// A key is a probe that matches the keys equal to it.
+impl<K: Eq> Probe<K> for K {
+    ghost matches = { K.eq };
+
+    ghost equal_keys_match_alike = { alike K.Eq.laws };
+
+    ghost matching_keys_are_equal = { equal K.Eq.laws };
+
+    #[inline]
+    fn matches(&self, key: &K) -> bool {
+        *self == *key
+    }
+}
+
+/// A probe for `String`: it matches the key with the same text.
+#[derive(Debug, Clone, Copy)]
+pub struct Text<'a>(pub &'a str);
+
+impl<'a> Probe<String> for Text<'a> {
+    ghost matches = { λ p k. pointwise nat_eq p.0.now (string_bytes k) };
+
+    ghost equal_keys_match_alike = { λ p x y. alike nat_list_eq_equiv p.0.now (string_bytes x) (string_bytes y) };
+
+    ghost matching_keys_are_equal = { λ p x y. equal nat_list_eq_equiv p.0.now (string_bytes x) (string_bytes y) };
+
+    fn matches(&self, key: &String) -> bool {
+        *self.0 == *key.as_str()
+    }
+}
