@@ -1,5 +1,7 @@
 //! What no contract says: values from outside, and that each call can be made as a user makes it.
 
+mod entries;
 mod keyed;
 mod map;
 mod tagged;
+mod walks;

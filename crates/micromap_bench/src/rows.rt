@@ -14,6 +14,7 @@ pub fn row(_alloc: Global, number: u8) -> Option<bool> {
         1 => Some(row_1()),
         2 => Some(row_2()),
         7 => Some(row_7()),
+        12 => Some(row_12()),
         _ => None,
     }
 }
@@ -63,5 +64,23 @@ fn stores(map: &Map<Marked, char, 1>, key: Marked, mark: char, value: char) -> b
     match map.get_key_value(&key) {
         Some((stored, found)) => stored.mark == mark && *found == value,
         None => false,
+    }
+}
+
+// A value that is made where its key is new alone.
+fn row_12() -> bool {
+    let mut map: Map<char, u8, 10> = Map::new();
+    first_value(&mut map, 'f', 43) == Some(43)
+        && first_value(&mut map, 'f', 44) == Some(43)
+        && map.remove_entry(&'f') == Some(('f', 43))
+}
+
+// The value of `key`, which is `value` from now on where it had none, or `None` where there is no room for it.
+fn first_value(map: &mut Map<char, u8, 10>, key: char, value: u8) -> Option<u8> {
+    let entry = map.entry(key);
+    if entry.has_room() {
+        Some(*entry.or_insert_with(|| value))
+    } else {
+        None
     }
 }

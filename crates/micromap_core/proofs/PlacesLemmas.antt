@@ -4,6 +4,7 @@ use Rattle.std.proofs.lemmas.Bool.{false≢true}
 use Rattle.std.proofs.lemmas.Option.{slice_get-get_or}
 use Rattle.std.specs.List.{IsDistinct, swap_remove}
 use Rattle.std.proofs.lemmas.List.{length-map, get_or-map, map-set, map-append}
+pub use Rattle.micromap_walk.proofs.FilledLemmas.{items_of-map, AreFilled-from, length_filled, some_at}
 use Rattle.micromap_core.specs.Pairs.{IsUnique}
 use Rattle.micromap_core.specs.Places.{items_of, AreFilled, ArePlaces}
 use Rattle.micromap_core.proofs.Lists.{map-swap_remove}
@@ -14,42 +15,20 @@ unfolding IsDistinct
 ArePlaces-nil eq = record { filled = refl; unique = tt }
 
 module _ {X : Type 0} where
-  -- the items of filled places
-  pub items_of-map : (items : List X) → items_of (map Some items) ≡ items
-  items_of-map [] = refl
-  items_of-map (x ∷ xs) = ap (λ ys. x ∷ ys) (items_of-map xs)
-
-  -- so places that are made of items are filled
-  pub AreFilled-from : (places : List (Option X)) (items : List X) → places ≡ map Some items → AreFilled places
-  AreFilled-from places items made = rw (made, items_of-map) refl
-
-  some_at_made : (items : List X) (i : ℕ) (d : Option X) → i < length items → is_some (get_or (map Some items) i d) ≡ true
-  some_at_made [] i d within = absurd (omega arith)
-  some_at_made (x ∷ xs) zero d within = refl
-  some_at_made (x ∷ xs) (suc i) d within = some_at_made xs i d (omega arith)
-
   module _ (places : List (Option X)) (filled : AreFilled places) where
-    pub length_filled : length (items_of places) ≡ length places
-    length_filled = sym (ap length filled ∙ length-map (items_of places) Some)
-
     -- the place at an index has the item at that index
     pub filled_at : (i : ℕ) (d : Option X) (e : X) → i < length places → get_or places i d ≡ Some (get_or (items_of places) i e)
     filled_at i d e within =
-        ap (λ ps. get_or ps i d) filled ∙ get_or-map Some (items_of places) i e d (rw length_filled within)
-
-    -- a place within is filled
-    pub some_at : (i : ℕ) (d : Option X) → i < length places → is_some (get_or places i d) ≡ true
-    some_at i d within =
-        ap (λ ps. is_some (get_or ps i d)) filled ∙ some_at_made (items_of places) i d (rw length_filled within)
+        ap (λ ps. get_or ps i d) filled ∙ get_or-map Some (items_of places) i e d (rw (length_filled places filled) within)
 
     -- what is read at a place is the item at that index
     pub item_read : (i : ℕ) (d : Option X) (x : X) → i < length places → get_or places i d ≡ Some x → slice_get (items_of places) i ≡ Some x
     item_read i d x within read =
-        slice_get-get_or (items_of places) i x (rw length_filled within) ∙ sym (filled_at i d x within) ∙ read
+        slice_get-get_or (items_of places) i x (rw (length_filled places filled) within) ∙ sym (filled_at i d x within) ∙ read
 
     -- a place within is the item at its index
     pub item_at : (i : ℕ) (place : Option X) → i < length places → place ≡ get_or places i place → slice_get (items_of places) i ≡ place
-    item_at i None within stands = absurd (false≢true (ap is_some stands ∙ some_at i None within))
+    item_at i None within stands = absurd (false≢true (ap is_some stands ∙ some_at places filled i None within))
     item_at i (Some x) within stands = item_read i (Some x) x within (sym stands)
 
     -- another item at an index
@@ -59,7 +38,7 @@ module _ {X : Type 0} where
     -- without the item at an index, whose place the last one takes
     pub swap_removed : (i : ℕ) (x : X) → i < length places → swap_remove places i (Some x) ≡ map Some (swap_remove (items_of places) i x)
     swap_removed i x within =
-        ap (λ ps. swap_remove ps i (Some x)) filled ∙ map-swap_remove Some (items_of places) i x (rw length_filled within)
+        ap (λ ps. swap_remove ps i (Some x)) filled ∙ map-swap_remove Some (items_of places) i x (rw (length_filled places filled) within)
 
     -- what was taken from a place is the item at that index
     pub item_taken : (i : ℕ) (place : Option X) (x : X) → i < length places → place ≡ get_or places i place → place ≡ Some x → slice_get (items_of places) i ≡ Some x

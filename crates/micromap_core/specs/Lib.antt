@@ -1,3 +1,4 @@
+pub mod Entry
 pub mod Lends
 pub mod Pairs
 pub mod Probe

@@ -1,17 +1,8 @@
 -- The places that a map keeps its pairs in. No contract of a public call cites this file.
-use Rattle.std.specs.Prelude.{◌≡◌, ℕ, Bool, List, map, Option, Some, slice_get, slice_set}
-use Rattle.std.specs.List.{filter_map}
+pub use Rattle.micromap_walk.specs.Filled.{items_of, AreFilled}
+use Rattle.std.specs.Prelude.{◌≡◌, ℕ, Bool, List, Option, Some, slice_get, slice_set}
 use Rattle.std.specs.Option.{option_map, option_map_or}
 use Rattle.micromap_core.specs.Pairs.{IsUnique}
-
-module _ {X : Type 0} where
-  -- what stands in the places, in order
-  abbrev pub items_of : List (Option X) → List X
-  items_of places = filter_map (λ place. place) places
-
-  -- no place is empty
-  abbrev pub AreFilled : List (Option X) → Type 0
-  AreFilled places = places ≡ map Some (items_of places)
 
 -- the places of a map: filled, with keys pairwise unequal
 pub record ArePlaces {K V : Type 0} (eq : K → K → Bool) (places : List (Option (K × V))) : Type 0 where

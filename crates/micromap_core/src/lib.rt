@@ -1,6 +1,7 @@
 //! A map of fixed capacity that finds its keys by `==` alone: no hash, no order, no memory but its own.
 #![tactic(auto)]
 
+pub mod entry;
 pub mod map;
 mod places;
 pub mod probe;

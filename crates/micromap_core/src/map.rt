@@ -7,8 +7,11 @@ mod insert;
 mod lookup;
 mod probed;
 mod remove;
+mod walk;
 
+pub use crate::entry::{Entry, OccupiedEntry, VacantEntry};
 use arrayvec::ArrayVec;
+pub use micromap_walk::{Drain, IntoIter, IntoKeys, IntoValues, Iter, Keys, Values};
 use std::marker::Model;
 
 /// A map of at most `N` pairs, whose keys are found by `==` from the front and pairwise unequal.

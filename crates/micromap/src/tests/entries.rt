@@ -1,0 +1,183 @@
+//! Entries as a user writes them, and two callers' proofs over the final list.
+ghost use Rattle.std.specs.Prelude.{◌≡◌, ◌+ℤ◌, IfOk, IsTrue, nat_eq, pos};
+ghost use Rattle.std.specs.Int.{saturate_signed, w32};
+ghost use Rattle.std.specs.Option.{option_map_or, unwrap_or};
+ghost use Rattle.micromap.specs.Entry.{IsSound, entry_has_room};
+ghost use Rattle.micromap.specs.Pairs.{at, fits, put};
+
+use super::tagged::Tagged;
+use crate::Map;
+use crate::map::Entry;
+use std::test::Fail;
+
+// Counts one more `letter`.
+fn count<const N: usize>(counts: &mut Map<char, i32, N>, letter: char)
+    requires { IsTrue (fits nat_eq N counts.old letter) }
+    ensures { counts.new ≡ put nat_eq counts.old letter (option_map_or (λ n. saturate_signed w32 (n +ℤ pos 1)) (at nat_eq counts.old letter) (pos 1)) }
+{
+    counts
+        .entry(letter)
+        .and_modify(|count| *count = count.saturating_add(1))
+        .or_insert(1);
+}
+
+// The value of `key`, which is `value` from now on where it had none.
+fn get_or_insert<const N: usize>(map: &mut Map<u8, u8, N>, key: u8, value: u8) -> u8
+    requires { IsTrue (fits nat_eq N map.old key) }
+    ensures value { result ≡ unwrap_or (at nat_eq map.old key) value }
+    ensures stored { map.new ≡ put nat_eq map.old key result }
+{
+    *map.entry(key).or_insert(value)
+}
+
+#[test]
+fn letters_are_counted(rt: HostRuntime) -> Result<(), Fail> {
+    let mut counts: Map<char, i32, 13> = Map::new();
+    for letter in "a short treatise on fungi".chars() {
+        if !counts.fits(&letter) {
+            return Err(Fail::from("there is room for 13 letters"));
+        }
+        count(&mut counts, letter);
+    }
+    assert_eq!(rt; counts.get(&'s'), Some(&2));
+    assert_eq!(rt; counts.get(&'t'), Some(&3));
+    assert_eq!(rt; counts.get(&'u'), Some(&1));
+    assert_eq!(rt; counts.get(&'y'), None);
+    assert_eq!(rt; counts.len(), 13);
+    Ok(())
+}
+
+#[test]
+#[tactic(auto, unfolding(micromap_core::specs::Pairs::put))]
+fn a_first_value_stays(rt: HostRuntime) {
+    let mut map: Map<u8, u8, 1> = Map::new();
+    assert_eq!(rt; get_or_insert(&mut map, 1, 10), 10);
+    assert_eq!(rt; get_or_insert(&mut map, 1, 11), 10);
+    assert_eq!(rt; map.get(&1), Some(&10));
+}
+
+#[test]
+fn room_decides_at_a_full_map(rt: HostRuntime) -> Result<(), Fail> {
+    let mut map: Map<u8, u8, 1> = Map::new();
+    map.insert(1, 10);
+    assert!(rt; map.entry(1).has_room());
+    assert!(rt; !map.entry(2).has_room());
+    let Entry::Vacant(vacant) = map.entry(2) else {
+        return Err(Fail::from("2 is new"));
+    };
+    assert!(rt; !vacant.has_room());
+    assert_eq!(rt; vacant.into_key(), 2);
+    assert_eq!(rt; map.get(&1), Some(&10));
+    assert_eq!(rt; map.len(), 1);
+    Ok(())
+}
+
+#[test]
+fn a_stored_key_stays_in_its_entry(rt: HostRuntime) {
+    let mut map: Map<Tagged, u8, 1> = Map::new();
+    map.insert(Tagged::new(1, 'x'), 5);
+    assert_eq!(rt; map.entry(Tagged::new(1, 'y')).key().mark, 'x');
+    let entry = map.entry(Tagged::new(1, 'y'));
+    assert!(rt; entry.has_room());
+    let entry = entry.insert_entry(6);
+    assert_eq!(rt; entry.key().mark, 'x');
+    assert_eq!(rt; *entry.get(), 6);
+}
+
+// The map of the run below.
+fn letters() -> Map<char, u8, 10> {
+    let mut map = Map::new();
+    for (letter, code) in [('a', 97), ('d', 100), ('c', 99), ('b', 98)] {
+        map.checked_insert(letter, code);
+    }
+    map
+}
+
+// The entry of `letter`, where it can have a value.
+fn open<const N: usize>(
+    map: &mut Map<char, u8, N>,
+    letter: char,
+) -> Result<Entry<'_, char, u8, N>, Fail>
+    ensures { IfOk result (λ e. IsSound nat_eq e × IsTrue (entry_has_room N e)) }
+{
+    let entry = map.entry(letter);
+    if entry.has_room() {
+        Ok(entry)
+    } else {
+        Err(Fail::from("there is room"))
+    }
+}
+
+#[test]
+fn a_value_is_put_where_there_is_none(rt: HostRuntime) -> Result<(), Fail> {
+    let mut map = letters();
+    assert_eq!(rt; *map.entry('c').key(), 'c');
+    assert_eq!(rt; *open(&mut map, 'e')?.or_insert(101), 101);
+    assert_eq!(rt; *open(&mut map, 'e')?.or_insert(101), 101);
+    assert_eq!(rt;
+        *open(&mut map, 'e')?
+            .and_modify(|value| *value = 42)
+            .or_default(),
+        42
+    );
+    assert_eq!(rt; *map.entry('g').key(), 'g');
+    assert!(rt; !map.contains_key(&'g'));
+    assert_eq!(rt;
+        *open(&mut map, 'g')?
+            .and_modify(|value| *value = 42)
+            .or_default(),
+        0
+    );
+    assert_eq!(rt; *open(&mut map, 'f')?.or_insert_with(|| 43), 43);
+    assert_eq!(rt; *open(&mut map, 'f')?.or_insert_with(|| 44), 43);
+    assert_eq!(rt; map.remove_entry(&'f'), Some(('f', 43)));
+    assert_eq!(rt;
+        *open(&mut map, 'f')?.or_insert_with_key(|key| (*key as u32 % 256) as u8),
+        102
+    );
+    assert_eq!(rt; *open(&mut map, 'f')?.or_insert_with_key(|_| 255), 102);
+    assert_eq!(rt; *open(&mut map, 'e')?.insert_entry(101).get(), 101);
+    assert_eq!(rt; map.len(), 7);
+    Ok(())
+}
+
+#[test]
+fn a_stored_value_is_lent_and_taken(rt: HostRuntime) -> Result<(), Fail> {
+    let mut map = letters();
+    map.checked_insert('e', 42);
+    let Entry::Occupied(mut entry) = map.entry('e') else {
+        return Err(Fail::from("e is there"));
+    };
+    assert_eq!(rt; *entry.get(), 42);
+    *entry.get_mut() = 69;
+    assert_eq!(rt; *entry.get(), 69);
+    *entry.into_mut() = 101;
+    let Entry::Occupied(entry) = map.entry('e') else {
+        return Err(Fail::from("e is there"));
+    };
+    assert_eq!(rt; entry.remove(), 101);
+    let Entry::Vacant(entry) = map.entry('e') else {
+        return Err(Fail::from("e is new"));
+    };
+    assert_eq!(rt; *entry.key(), 'e');
+    assert_eq!(rt; entry.into_key(), 'e');
+    if let Entry::Vacant(entry) = map.entry('e')
+        && entry.has_room()
+    {
+        assert_eq!(rt; *entry.insert(101), 101);
+    }
+    let Entry::Occupied(mut entry) = map.entry('e') else {
+        return Err(Fail::from("e is there"));
+    };
+    assert_eq!(rt; *entry.key(), 'e');
+    assert_eq!(rt; entry.insert(69), 101);
+    assert_eq!(rt; entry.remove_entry(), ('e', 69));
+    assert_eq!(rt; map.len(), 4);
+    if let Entry::Vacant(entry) = map.entry('e')
+        && entry.has_room()
+    {
+        assert_eq!(rt; *entry.insert_entry(102).key(), 'e');
+    }
+    assert_eq!(rt; map.get(&'e'), Some(&102));
+    Ok(())
+}

@@ -1,0 +1,84 @@
+-- What the contracts of an entry cite. The words serve its halves too, as `entry_value (Occupied o)`.
+pub use Rattle.micromap_core.specs.declared.entry.EntryIn.TheVariants.{Occupied, Vacant}
+use Rattle.std.specs.Prelude.{◌≡◌, ℕ, ◌<◌, Bool, true, false, ◌||◌, List, [], ◌∷◌, ◌++◌, length, Option, Some, None, slice_get}
+use Rattle.std.specs.Option.{option_map, option_map_or, IsSomeAnd}
+use Rattle.std.specs.Fn.{FnOnceReturnsAt, Once}
+use Rattle.std.specs.List.{swap_remove}
+use Rattle.std.specs.Borrow.{Bor, MutBor, RattleType, Fml, follows}
+use Rattle.micromap_core.specs.Pairs.{place, has_room}
+use Rattle.micromap_core.specs.Places.{with_value_at}
+use Rattle.micromap_core.specs.declared.entry.EntryIn.{EntryIn}
+use Rattle.micromap_core.specs.declared.entry.OccupiedIn.{OccupiedIn}
+use Rattle.micromap_core.specs.contracts.map.Map.{the_row}
+use Rattle.micromap_core.specs.contracts.entry.OccupiedIn as occupied
+use mir.Syntax.{named}
+
+module _ {K V : Type 0} where
+  -- the reference to the map
+  abbrev pub entry_map_ref : EntryIn K (List (K × V)) → MutBor (List (K × V))
+  entry_map_ref (Occupied o) = o.map
+  entry_map_ref (Vacant e) = e.map
+
+  -- the map's pairs now
+  abbrev pub entry_pairs : EntryIn K (List (K × V)) → List (K × V)
+  entry_pairs e = (entry_map_ref e).now
+
+  -- whether the key is stored
+  abbrev pub is_occupied : EntryIn K (List (K × V)) → Bool
+  is_occupied (Occupied o) = true
+  is_occupied (Vacant e) = false
+
+  -- the stored key, or the held one
+  abbrev pub entry_key : EntryIn K (List (K × V)) → Option K
+  entry_key (Occupied o) = option_map (λ p. p.0) (slice_get o.map.now o.index)
+  entry_key (Vacant e) = Some e.key
+
+  -- the value that the key has
+  abbrev pub entry_value : EntryIn K (List (K × V)) → Option V
+  entry_value (Occupied o) = option_map (λ p. p.1) (slice_get o.map.now o.index)
+  entry_value (Vacant e) = None
+
+  -- the pairs once v is the key's value
+  abbrev pub entry_put : EntryIn K (List (K × V)) → V → List (K × V)
+  entry_put (Occupied o) v = with_value_at o.map.now o.index v
+  entry_put (Vacant e) v = e.map.now ++ (e.key, v) ∷ []
+
+  -- the pairs once the key is taken out
+  abbrev pub entry_taken : EntryIn K (List (K × V)) → List (K × V)
+  entry_taken (Occupied o) = option_map_or (λ p. swap_remove o.map.now o.index p) (slice_get o.map.now o.index) o.map.now
+  entry_taken (Vacant e) = e.map.now
+
+  -- whether the key can have a value
+  abbrev pub entry_has_room : ℕ → EntryIn K (List (K × V)) → Bool
+  entry_has_room N e = is_occupied e || has_room N (entry_pairs e)
+
+  -- the place of an occupied entry is there, and the key of a vacant one is new
+  abbrev pub IsSound : (K → K → Bool) → EntryIn K (List (K × V)) → Type 0
+  IsSound eq (Occupied o) = o.index < length o.map.now
+  IsSound eq (Vacant e) = place eq e.map.now e.key ≡ None
+
+  -- d is the entry e once v is the key's value
+  pub record IsWritten (e : EntryIn K (List (K × V))) (v : V) (d : EntryIn K (List (K × V))) : Type 0 where
+    pub same_map : (entry_map_ref d).ghost_name ≡ (entry_map_ref e).ghost_name
+    pub pairs : entry_pairs d ≡ entry_put e v
+    pub key : entry_key d ≡ entry_key e
+    pub value : entry_value d ≡ Some v
+    pub puts : (w : V) → entry_put d w ≡ entry_put e w
+    pub occupied : is_occupied d ≡ true
+
+  -- o once v is its value
+  abbrev pub with_entry_value : OccupiedIn (List (K × V)) → V → OccupiedIn (List (K × V))
+  with_entry_value o v = record o { map = record o.map { now = with_value_at o.map.now o.index v } }
+
+-- a call of f at a reference to the key may answer r
+abbrev pub AnswersOfKey : {F K V : Type 0} → Once F (Bor K × Unit {0}) V → F → Option K → V → Type 0
+AnswersOfKey g f key r = IsSomeAnd key (λ k. FnOnceReturnsAt g f k r)
+
+module _ (K V N : RattleType) (eq : K.Denot → K.Denot → Bool) where
+  -- once the borrow r ends, the map has the last value written through r at the entry's key
+  abbrev pub entry_lends : EntryIn K.Denot (List (K.Denot × V.Denot)) → MutBor V.Denot → Fml
+  entry_lends e r = follows (the_row K V N (record { eq = eq })) V (entry_map_ref e).ghost_name r.ghost_name (entry_put e)
+
+  -- once the borrow r ends, the entry behind o has the last value written through r
+  abbrev pub occupied_lends : MutBor (OccupiedIn (List (K.Denot × V.Denot))) → MutBor V.Denot → Fml
+  occupied_lends o r = follows (occupied.the_row (record { mir = named 1; lft = [] }) (the_row K V N (record { eq = eq }))) V o.ghost_name r.ghost_name (with_entry_value o.now)

@@ -1,0 +1,149 @@
+//! What makes an entry, and the calls of `Entry`. A clause `writes_back` says what the map holds once the borrow that
+//! the call answers has ended.
+ghost use Rattle.std.specs.Prelude.{◌≡◌, Some, None, IsTrue, unwrap_or};
+ghost use Rattle.std.specs.Borrow.{sem, Bor, MutBor};
+ghost use Rattle.std.specs.Map.Calls.{ModifiesValue};
+ghost use Rattle.std.specs.Option.{UnwrapsOrElse, option_map_or};
+ghost use Rattle.micromap_core.specs.Entry.{Occupied, AnswersOfKey, entry_map_ref, entry_pairs, is_occupied, entry_key, entry_value, entry_put, entry_taken, entry_has_room, IsSound, IsWritten, entry_lends};
+ghost use Rattle.micromap_core.specs.Pairs.{at, pair, has, put, take_out};
+
+use super::{Entry, EntryIn, OccupiedEntry, OccupiedIn, VacantIn};
+use crate::Map;
+
+impl<K: Eq, V, const N: usize> Map<K, V, N> {
+    /// The entry of `key`, by one scan: occupied where an equal key is stored, and then `key` is dropped; else vacant,
+    /// and it holds `key`.
+    #[inline]
+    pub fn entry(&mut self, key: K) -> Entry<'_, K, V, N>
+    where
+        K: Drop,
+        ensures occupied { is_occupied result ≡ has K.eq self.old key }
+        ensures key { entry_key result ≡ Some (option_map_or (λ p. p.0) (pair K.eq self.old key) key) }
+        ensures value { entry_value result ≡ at K.eq self.old key }
+
+        // It borrows this map as it is. Writing puts a value at the key, and removing takes the key out.
+        ensures same_map { (entry_map_ref result).ghost_name ≡ self.entry.ghost_name }
+        ensures pairs { entry_pairs result ≡ self.old }
+        ensures puts { (v : V) → entry_put result v ≡ put K.eq self.old key v }
+        ensures taken { entry_taken result ≡ take_out K.eq self.old key }
+        ensures sound { IsSound K.eq result }
+    {
+        match self.place_of(&key) {
+            Some(index) => Entry::Occupied(OccupiedIn { map: self, index }),
+            None => Entry::Vacant(VacantIn { map: self, key }),
+        }
+    }
+}
+
+impl<'a, K: Eq, V, const N: usize> EntryIn<'a, K, Map<K, V, N>> {
+    /// The stored key, or the held one.
+    pub fn key(&self) -> &K
+        requires { IsSound K.eq self.now }
+        ensures { entry_key self.now ≡ Some result.now }
+    {
+        match self {
+            EntryIn::Occupied(entry) => entry.key(),
+            EntryIn::Vacant(entry) => entry.key(),
+        }
+    }
+
+    /// Whether a value can be put: the entry is occupied, or there is room. It compares no key.
+    pub fn has_room(&self) -> bool
+        ensures { result ≡ entry_has_room N self.now }
+    {
+        match self {
+            EntryIn::Occupied(_) => true,
+            EntryIn::Vacant(entry) => entry.has_room(),
+        }
+    }
+
+    /// Calls `f` on the value, if there is one.
+    pub fn and_modify<F: FnOnce(&mut V)>(self, f: F) -> Self
+        requires sound { IsSound K.eq self }
+        requires callable { (p : MutBor V) → entry_value self ≡ Some p.now → F.pre f p }
+        ensures same_map { (entry_map_ref result).ghost_name ≡ (entry_map_ref self.entry).ghost_name }
+        ensures occupied { is_occupied result ≡ is_occupied self.entry }
+        ensures key { entry_key result ≡ entry_key self.entry }
+        ensures value { ModifiesValue F.FnOnce f (entry_value self.entry) (entry_value result) }
+        ensures pairs { entry_pairs result ≡ option_map_or (entry_put self.entry) (entry_value result) (entry_pairs self.entry) }
+        ensures puts { (v : V) → entry_put result v ≡ entry_put self.entry v }
+        ensures sound { IsSound K.eq result }
+    {
+        match self {
+            EntryIn::Occupied(mut entry) => {
+                f(entry.get_mut());
+                EntryIn::Occupied(entry)
+            }
+            EntryIn::Vacant(entry) => EntryIn::Vacant(entry),
+        }
+    }
+}
+
+impl<'a, K: Eq + Drop, V: Drop, const N: usize> EntryIn<'a, K, Map<K, V, N>> {
+    /// Puts `default` where the key is new, and lends the key's value.
+    pub fn or_insert(self, default: V) -> &'a mut V
+        requires sound { IsSound K.eq self }
+        requires room { IsTrue (entry_has_room N self) }
+        ensures* writes_back { sem 𝓛 (entry_lends K.row V.row N.row K.eq self.entry result) }
+        ensures value { result.now ≡ unwrap_or (entry_value self.entry) default }
+    {
+        self.or_insert_with(|| default)
+    }
+
+    /// Puts what `default` answers where the key is new, and lends the key's value. `default` is called only there.
+    pub fn or_insert_with<F: FnOnce() -> V>(self, default: F) -> &'a mut V
+        requires sound { IsSound K.eq self }
+        requires room { IsTrue (entry_has_room N self) }
+        requires callable { entry_value self ≡ None → F.pre default }
+        ensures* writes_back { sem 𝓛 (entry_lends K.row V.row N.row K.eq self.entry result) }
+        ensures value { UnwrapsOrElse (entry_value self.entry) (F.post default) result.now }
+    {
+        self.or_insert_with_key(|_| default())
+    }
+
+    /// Puts what `default` answers of the held key where it is new, and lends the key's value. `default` is called
+    /// only there.
+    pub fn or_insert_with_key<F: FnOnce(&K) -> V>(self, default: F) -> &'a mut V
+        requires sound { IsSound K.eq self }
+        requires room { IsTrue (entry_has_room N self) }
+        requires callable { entry_value self ≡ None → (p : Bor K) → entry_key self ≡ Some p.now → F.pre default p }
+        ensures* writes_back { sem 𝓛 (entry_lends K.row V.row N.row K.eq self.entry result) }
+        ensures value { UnwrapsOrElse (entry_value self.entry) (AnswersOfKey F.FnOnce default (entry_key self.entry)) result.now }
+    {
+        match self {
+            EntryIn::Occupied(entry) => entry.into_mut(),
+            EntryIn::Vacant(entry) => {
+                let value = default(entry.key());
+                entry.insert(value)
+            }
+        }
+    }
+
+    /// Puts a default value where the key is new, and lends the key's value.
+    pub fn or_default(self) -> &'a mut V
+    where
+        V: Default,
+        requires sound { IsSound K.eq self }
+        requires room { IsTrue (entry_has_room N self) }
+        ensures* writes_back { sem 𝓛 (entry_lends K.row V.row N.row K.eq self.entry result) }
+        ensures value { UnwrapsOrElse (entry_value self.entry) V.is_default result.now }
+    {
+        self.or_insert_with(|| V::default())
+    }
+
+    /// Sets the value, where the stored key stays, or puts the held key with it last.
+    pub fn insert_entry(self, value: V) -> OccupiedEntry<'a, K, V, N>
+        requires sound { IsSound K.eq self }
+        requires room { IsTrue (entry_has_room N self) }
+        ensures written { IsWritten self.entry value (Occupied result) }
+        ensures sound { IsSound K.eq (Occupied result) }
+    {
+        match self {
+            EntryIn::Occupied(mut entry) => {
+                drop(entry.insert(value));
+                entry
+            }
+            EntryIn::Vacant(entry) => entry.insert_entry(value),
+        }
+    }
+}

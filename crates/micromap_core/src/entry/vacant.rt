@@ -1,0 +1,59 @@
+//! The calls of `VacantEntry`.
+ghost use Rattle.std.specs.Prelude.{◌≡◌, Some, IsTrue};
+ghost use Rattle.std.specs.Borrow.{sem};
+ghost use Rattle.micromap_core.specs.Entry.{Occupied, Vacant, entry_key, entry_pairs, entry_has_room, IsSound, IsWritten, entry_lends};
+
+use super::{OccupiedEntry, OccupiedIn, VacantIn};
+use crate::Map;
+
+impl<'a, K: Eq, V, const N: usize> VacantIn<'a, K, Map<K, V, N>> {
+    /// The held key.
+    pub fn key(&self) -> &K
+        ensures { entry_key (Vacant self.now) ≡ Some result.now }
+    {
+        &self.key
+    }
+
+    /// Hands the held key back, and leaves the map as it is.
+    pub fn into_key(self) -> K
+        ensures key { entry_key (Vacant self.entry) ≡ Some result }
+        ensures unchanged { self.exit.0.now ≡ entry_pairs (Vacant self.entry) }
+    {
+        self.key
+    }
+
+    /// Whether a value can be put. It compares no key.
+    pub fn has_room(&self) -> bool
+        ensures { result ≡ entry_has_room N (Vacant self.now) }
+    {
+        self.map.has_room()
+    }
+}
+
+impl<'a, K: Eq + Drop, V: Drop, const N: usize> VacantIn<'a, K, Map<K, V, N>> {
+    /// Puts the held key with `value` last, and lends the value.
+    pub fn insert(self, value: V) -> &'a mut V
+        requires sound { IsSound K.eq (Vacant self) }
+        requires room { IsTrue (entry_has_room N (Vacant self)) }
+        ensures* writes_back { sem 𝓛 (entry_lends K.row V.row N.row K.eq (Vacant self.entry) result) }
+        ensures value { result.now ≡ value }
+    {
+        let VacantIn { map, key } = self;
+        let index = map.len();
+        map.push_pair(key, value);
+        map.value_at(index)
+    }
+
+    /// Puts the held key with `value` last, and answers its entry.
+    pub fn insert_entry(self, value: V) -> OccupiedEntry<'a, K, V, N>
+        requires sound { IsSound K.eq (Vacant self) }
+        requires room { IsTrue (entry_has_room N (Vacant self)) }
+        ensures written { IsWritten (Vacant self.entry) value (Occupied result) }
+        ensures sound { IsSound K.eq (Occupied result) }
+    {
+        let VacantIn { map, key } = self;
+        let index = map.len();
+        map.push_pair(key, value);
+        OccupiedIn { map, index }
+    }
+}

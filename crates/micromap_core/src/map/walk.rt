@@ -1,0 +1,97 @@
+//! The walks over a map, which lend its pairs from the front or give them away.
+//!
+//! A contract sees a walk as the list of what is left, and says that whatever runs it to its end meets just these, in
+//! order.
+ghost use Rattle.std.specs.Prelude.{◌≡◌, [], reverse};
+ghost use Rattle.std.specs.Map.{keys_of, values_of};
+ghost use Rattle.std.specs.Map.Iter.{GivesInOrder, ShowsInOrder, deref, deref_pair};
+
+use super::{Drain, IntoIter, IntoKeys, IntoValues, Iter, Keys, Map, Values};
+use std::mem;
+
+impl<K: Eq, V, const N: usize> Map<K, V, N> {
+    /// The pairs from the front.
+    #[inline]
+    pub fn iter(&self) -> Iter<'_, K, V>
+        ensures pairs { result ≡ self.now }
+        ensures runs { ShowsInOrder (deref_pair {K = K} {X = V}) }
+    {
+        Iter::over(self.places.as_slice())
+    }
+
+    /// The keys from the front.
+    #[inline]
+    pub fn keys(&self) -> Keys<'_, K, V>
+        ensures keys { result ≡ keys_of self.now }
+        ensures runs { ShowsInOrder (deref {X = K}) }
+    {
+        Keys::over(self.places.as_slice())
+    }
+
+    /// The values from the front.
+    #[inline]
+    pub fn values(&self) -> Values<'_, K, V>
+        ensures values { result ≡ values_of self.now }
+        ensures runs { ShowsInOrder (deref {X = V}) }
+    {
+        Values::over(self.places.as_slice())
+    }
+
+    /// The keys by value, from the end. What isn't taken is dropped with the walk.
+    #[inline]
+    pub fn into_keys(self) -> IntoKeys<K, V, N>
+        ensures keys { result ≡ keys_of (reverse self) }
+        ensures runs { GivesInOrder K }
+    {
+        let Map { places } = self;
+        IntoKeys::over(places)
+    }
+
+    /// The values by value, from the end. What isn't taken is dropped with the walk.
+    #[inline]
+    pub fn into_values(self) -> IntoValues<K, V, N>
+        ensures values { result ≡ values_of (reverse self) }
+        ensures runs { GivesInOrder V }
+    {
+        let Map { places } = self;
+        IntoValues::over(places)
+    }
+}
+
+impl<K: Eq + Drop, V: Drop, const N: usize> Map<K, V, N> {
+    /// Takes all pairs out, from the front. The map is empty at once; what isn't taken is dropped with the walk.
+    #[inline]
+    pub fn drain(&mut self) -> Drain<K, V, N>
+        ensures pairs { result ≡ self.old }
+        ensures emptied { self.new ≡ [] }
+        ensures runs { GivesInOrder (K × V) }
+    {
+        let Map { places } = mem::take(self);
+        Drain::over(places)
+    }
+}
+
+impl<K: Eq + Drop, V: Drop, const N: usize> IntoIterator for Map<K, V, N> {
+    type Item = (K, V);
+
+    type IntoIter = IntoIter<K, V, N>;
+
+    ghost into_iter_gives = { λ m walk. (walk ≡ reverse m) × GivesInOrder (K × V) };
+
+    fn into_iter(self) -> IntoIter<K, V, N> {
+        let Map { places } = self;
+        IntoIter::over(places)
+    }
+}
+
+impl<'a, K: Eq, V, const N: usize> IntoIterator for &'a Map<K, V, N> {
+    type Item = (&'a K, &'a V);
+
+    type IntoIter = Iter<'a, K, V>;
+
+    ghost into_iter_gives = { λ m walk. (walk ≡ m.now) × ShowsInOrder (deref_pair {K = K} {X = V}) };
+
+    fn into_iter(self) -> Iter<'a, K, V> {
+        self.iter()
+    }
+}

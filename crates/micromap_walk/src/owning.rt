@@ -1,0 +1,221 @@
+//! The walks that give pairs, keys or values away, from the end.
+ghost use Rattle.std.specs.Prelude.{◌≡◌, IfSome, Some, [], length, reverse};
+ghost use Rattle.std.specs.Iterator.{UpTo, at_most};
+ghost use Rattle.std.specs.Iterator.SizeHint.{IsWithinCount};
+ghost use Rattle.std.specs.Map.{keys_of, values_of};
+ghost use Rattle.std.specs.Map.Iter.{TakesFirst};
+ghost use Rattle.micromap_walk.specs.Filled.{items_of, AreFilled};
+
+use arrayvec::ArrayVec;
+use std::iter::FusedIterator;
+use std::marker::Model;
+
+/// The pairs by value, from the end.
+#[derive(Drop)]
+pub struct IntoIter<K, V, const N: usize> {
+    places: ArrayVec<Option<(K, V)>, N>,
+}
+
+impl<K, V, const N: usize> Model for IntoIter<K, V, N> {
+    ghost use Rattle.std.specs.Prelude.{List, reverse};
+    ghost use Rattle.micromap_walk.specs.Filled.{items_of, AreFilled};
+
+    ghost Value = { List (K × V) };
+
+    ghost view = { λ walk. reverse (items_of walk.places.items) };
+
+    ghost invariant = { λ walk. AreFilled walk.places.items };
+}
+
+impl<K, V, const N: usize> IntoIter<K, V, N> {
+    /// A walk over the pairs in `places`, none of which may be empty.
+    #[inline]
+    pub fn over(places: ArrayVec<Option<(K, V)>, N>) -> Self
+        requires { AreFilled places.items }
+        ensures { result ≡ reverse (items_of places.items) }
+    {
+        IntoIter { places }
+    }
+
+    /// The number of pairs left.
+    #[inline]
+    pub fn len(&self) -> usize
+        ensures { result ≡ length self.now }
+    {
+        self.places.len()
+    }
+}
+
+impl<K: Drop, V: Drop, const N: usize> Iterator for IntoIter<K, V, N> {
+    type Item = (K, V);
+
+    ghost next_gives = { TakesFirst (λ p. p) };
+
+    ghost remaining = { λ left. at_most (length left) };
+
+    #[inline]
+    fn next(&mut self) -> Option<(K, V)> {
+        match self.places.pop()? {
+            Some(pair) => Some(pair),
+            None => unreachable!(),
+        }
+    }
+
+    #[inline]
+    fn size_hint(&self) -> (usize, Option<usize>)
+        ensures lower { IsWithinCount result.0 (at_most (length self.now)) }
+        ensures upper { IfSome result.1 (UpTo (at_most (length self.now))) }
+        ensures exact { result ≡ (length self.now, Some (length self.now)) }
+    {
+        let len = self.len();
+        (len, Some(len))
+    }
+}
+
+impl<K: Drop, V: Drop, const N: usize> FusedIterator for IntoIter<K, V, N> {}
+
+impl<K, V, const N: usize> Default for IntoIter<K, V, N> {
+    ghost is_default = { λ left. left ≡ [] };
+
+    fn default() -> Self {
+        IntoIter::over(ArrayVec::new())
+    }
+}
+
+/// The keys of the pairs by value, from the end.
+#[derive(Drop)]
+pub struct IntoKeys<K, V, const N: usize> {
+    pairs: IntoIter<K, V, N>,
+}
+
+impl<K, V, const N: usize> Model for IntoKeys<K, V, N> {
+    ghost use Rattle.std.specs.Prelude.{List};
+    ghost use Rattle.std.specs.Map.{keys_of};
+
+    ghost Value = { List K };
+
+    ghost view = { λ walk. keys_of walk.pairs };
+}
+
+impl<K, V, const N: usize> IntoKeys<K, V, N> {
+    /// A walk over the keys in `places`, none of which may be empty.
+    #[inline]
+    pub fn over(places: ArrayVec<Option<(K, V)>, N>) -> Self
+        requires { AreFilled places.items }
+        ensures { result ≡ keys_of (reverse (items_of places.items)) }
+    {
+        IntoKeys {
+            pairs: IntoIter::over(places),
+        }
+    }
+
+    /// The number of keys left.
+    #[inline]
+    pub fn len(&self) -> usize
+        ensures { result ≡ length self.now }
+    {
+        self.pairs.len()
+    }
+}
+
+impl<K: Drop, V: Drop, const N: usize> Iterator for IntoKeys<K, V, N> {
+    type Item = K;
+
+    ghost next_gives = { TakesFirst (λ p. p) };
+
+    ghost remaining = { λ left. at_most (length left) };
+
+    #[inline]
+    fn next(&mut self) -> Option<K> {
+        let (key, _value) = self.pairs.next()?;
+        Some(key)
+    }
+
+    #[inline]
+    fn size_hint(&self) -> (usize, Option<usize>)
+        ensures lower { IsWithinCount result.0 (at_most (length self.now)) }
+        ensures upper { IfSome result.1 (UpTo (at_most (length self.now))) }
+        ensures exact { result ≡ (length self.now, Some (length self.now)) }
+    {
+        self.pairs.size_hint()
+    }
+}
+
+impl<K: Drop, V: Drop, const N: usize> FusedIterator for IntoKeys<K, V, N> {}
+
+impl<K, V, const N: usize> Default for IntoKeys<K, V, N> {
+    ghost is_default = { λ left. left ≡ [] };
+
+    fn default() -> Self {
+        IntoKeys::over(ArrayVec::new())
+    }
+}
+
+/// The values of the pairs by value, from the end.
+#[derive(Drop)]
+pub struct IntoValues<K, V, const N: usize> {
+    pairs: IntoIter<K, V, N>,
+}
+
+impl<K, V, const N: usize> Model for IntoValues<K, V, N> {
+    ghost use Rattle.std.specs.Prelude.{List};
+    ghost use Rattle.std.specs.Map.{values_of};
+
+    ghost Value = { List V };
+
+    ghost view = { λ walk. values_of walk.pairs };
+}
+
+impl<K, V, const N: usize> IntoValues<K, V, N> {
+    /// A walk over the values in `places`, none of which may be empty.
+    #[inline]
+    pub fn over(places: ArrayVec<Option<(K, V)>, N>) -> Self
+        requires { AreFilled places.items }
+        ensures { result ≡ values_of (reverse (items_of places.items)) }
+    {
+        IntoValues {
+            pairs: IntoIter::over(places),
+        }
+    }
+
+    /// The number of values left.
+    #[inline]
+    pub fn len(&self) -> usize
+        ensures { result ≡ length self.now }
+    {
+        self.pairs.len()
+    }
+}
+
+impl<K: Drop, V: Drop, const N: usize> Iterator for IntoValues<K, V, N> {
+    type Item = V;
+
+    ghost next_gives = { TakesFirst (λ p. p) };
+
+    ghost remaining = { λ left. at_most (length left) };
+
+    #[inline]
+    fn next(&mut self) -> Option<V> {
+        let (_key, value) = self.pairs.next()?;
+        Some(value)
+    }
+
+    #[inline]
+    fn size_hint(&self) -> (usize, Option<usize>)
+        ensures lower { IsWithinCount result.0 (at_most (length self.now)) }
+        ensures upper { IfSome result.1 (UpTo (at_most (length self.now))) }
+        ensures exact { result ≡ (length self.now, Some (length self.now)) }
+    {
+        self.pairs.size_hint()
+    }
+}
+
+impl<K: Drop, V: Drop, const N: usize> FusedIterator for IntoValues<K, V, N> {}
+
+impl<K, V, const N: usize> Default for IntoValues<K, V, N> {
+    ghost is_default = { λ left. left ≡ [] };
+
+    fn default() -> Self {
+        IntoValues::over(ArrayVec::new())
+    }
+}
