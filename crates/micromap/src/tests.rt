@@ -1,5 +1,6 @@
 //! What no contract says: values from outside, and that each call can be made as a user makes it.
 
+mod closures;
 mod entries;
 mod keyed;
 mod map;

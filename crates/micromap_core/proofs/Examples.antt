@@ -1,7 +1,12 @@
 -- The definitions at worked values, with numbers as keys and values.
-use Rattle.std.proofs.Common.{◌≡◌, ℕ, true, false, List, [], ◌∷◌, Some, None, nat_eq, refl}
+use Rattle.std.proofs.Common.{◌≡◌, ℕ, ◌+◌, ◌%◌, Bool, true, false, List, [], ◌∷◌, Some, None, nat_eq, refl}
 use Rattle.micromap_core.specs.Pairs.{at, place, fits, put, put_key, take_out, take_out_by}
+use Rattle.micromap_core.specs.Closures.{updated_at}
+use Rattle.micromap_core.specs.Retain.{retained}
 use Rattle.micromap_core.specs.Calls.{insert, insert_key_value, get, get_key_value, contains, remove, remove_entry, len, is_empty, clear, value, entry, truth, number, done, refused, run}
+
+abbrev even : ℕ → Bool
+even n = nat_eq (n % 2) 0
 
 abbrev Pairs : Type 0
 Pairs = List (ℕ × ℕ)
@@ -50,3 +55,12 @@ refusing = refl
 answering : run nat_eq 4 three (remove 1 ∷ insert_key_value 4 40 ∷ get_key_value 2 ∷ contains 1 ∷ remove_entry 3 ∷ is_empty ∷ get 9 ∷ clear ∷ is_empty ∷ []) ≡ (value (Some 10) ∷ entry None ∷ entry (Some (2, 20)) ∷ truth false ∷ entry (Some (3, 30)) ∷ truth false ∷ value None ∷ done ∷ truth true ∷ [], [])
 unfolding put put_key take_out_by
 answering = refl
+
+-- what an even number passes: after a no the last of the others comes first
+retaining : (retained {P = ℕ} even (1 ∷ 2 ∷ 3 ∷ 4 ∷ 5 ∷ []) ≡ 4 ∷ 2 ∷ []) × (retained {P = ℕ} even (0 ∷ 1 ∷ 2 ∷ 3 ∷ 4 ∷ 5 ∷ 6 ∷ 7 ∷ []) ≡ 0 ∷ 6 ∷ 2 ∷ 4 ∷ []) × (retained {P = ℕ} (λ n. true) (1 ∷ 2 ∷ 3 ∷ []) ≡ 1 ∷ 2 ∷ 3 ∷ []) × (retained {P = ℕ} (λ n. false) (1 ∷ 2 ∷ 3 ∷ []) ≡ [])
+retaining = (refl, refl, refl, refl)
+
+-- the position is added to the value of each key that is there
+updating : updated_at nat_eq (λ position v. v + position) 0 three (3 ∷ 9 ∷ 1 ∷ []) ≡ (1, 12) ∷ (2, 20) ∷ (3, 30) ∷ []
+unfolding put
+updating = refl

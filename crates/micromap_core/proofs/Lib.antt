@@ -1,3 +1,5 @@
+pub mod ClosureLemmas
+pub mod DisjointLemmas
 pub mod Edits
 pub mod EntryLemmas
 pub mod Examples
@@ -5,4 +7,6 @@ pub mod Lists
 pub mod PairsLemmas
 pub mod PlacesLemmas
 pub mod ProbeLemmas
+pub mod RetainLemmas
+pub mod UpdateLemmas
 pub mod Written

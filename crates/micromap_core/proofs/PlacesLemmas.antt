@@ -1,9 +1,9 @@
 -- Facts about filled places, and about the pairs that stand in them.
-use Rattle.std.proofs.Common.{◌≡◌, ℕ, zero, suc, ◌<◌, Bool, List, [], ◌∷◌, ◌++◌, length, get_or, set, map, Option, Some, None, is_some, slice_get, true, refl, ap, sym, ◌∙◌, arith}
+use Rattle.std.proofs.Common.{◌≡◌, ℕ, ◌<◌, Bool, List, [], ◌∷◌, ◌++◌, length, get_or, set, map, Option, Some, None, is_some, slice_get, refl, ap, sym, ◌∙◌}
 use Rattle.std.proofs.lemmas.Bool.{false≢true}
 use Rattle.std.proofs.lemmas.Option.{slice_get-get_or}
 use Rattle.std.specs.List.{IsDistinct, swap_remove}
-use Rattle.std.proofs.lemmas.List.{length-map, get_or-map, map-set, map-append}
+use Rattle.std.proofs.lemmas.List.{get_or-map, map-set, map-append}
 pub use Rattle.micromap_walk.proofs.FilledLemmas.{items_of-map, AreFilled-from, length_filled, some_at}
 use Rattle.micromap_core.specs.Pairs.{IsUnique}
 use Rattle.micromap_core.specs.Places.{items_of, AreFilled, ArePlaces}

@@ -4,4 +4,6 @@ pub mod Pairs
 pub mod Probe
 pub mod ProbeLaws
 pub mod Calls
+pub mod Closures
+pub mod Retain
 pub mod Places

@@ -1,6 +1,7 @@
 //! A map of fixed capacity that finds its keys by `==` alone: no hash, no order, no memory but its own.
 #![tactic(auto)]
 
+mod closures;
 pub mod entry;
 pub mod map;
 mod places;

@@ -2,7 +2,8 @@
 ghost use Rattle.std.specs.Prelude.{◌≡◌, ◌<◌, length, Some, IsSome, slice_get, slice_set};
 ghost use Rattle.std.specs.Borrow.{sem};
 ghost use Rattle.std.specs.Map.{lookup_entry};
-ghost use Rattle.std.specs.Option.{option_copied};
+ghost use Rattle.std.specs.Option.{IfSome, option_copied};
+ghost use Rattle.micromap_core.specs.Closures.{CalledAtPair, TakesPair, VisitsAt};
 ghost use Rattle.micromap_core.specs.Pairs.{place_by};
 ghost use Rattle.micromap_core.specs.Places.{items_of, AreFilled, ReplacesValue, value_of};
 ghost use Rattle.micromap_core.specs.Lends.{lends_value_in};
@@ -101,6 +102,25 @@ pub(crate) fn replace_pair<X>(places: &mut [Option<X>], index: usize, pair: X) -
 {
     match &mut places[index] {
         Some(old) => mem::replace(old, pair),
+        None => unreachable!(),
+    }
+}
+
+/// Calls `visit` at the pair at `index`.
+#[inline]
+pub(crate) fn visit_pair<K, V, R, F: FnMut(&K, &mut V) -> R>(
+    places: &mut [Option<(K, V)>],
+    index: usize,
+    visit: &mut F,
+) -> R
+    requires filled { AreFilled places.old }
+    requires within { index < length places.old }
+    requires callable { IfSome (slice_get (items_of places.old) index) (λ p. TakesPair F.FnMut visit.old p.0 p.1) }
+    ensures pairs { VisitsAt (CalledAtPair F.FnMut) visit.old (items_of places.old) index result visit.new (items_of places.new) }
+    ensures places { AreFilled places.new }
+{
+    match &mut places[index] {
+        Some(pair) => visit(&pair.0, &mut pair.1),
         None => unreachable!(),
     }
 }

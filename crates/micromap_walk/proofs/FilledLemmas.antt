@@ -1,5 +1,5 @@
 -- Facts about filled places and the items in them.
-use Rattle.std.proofs.Common.{◌≡◌, ℕ, zero, suc, ◌+◌, ◌<◌, Bool, List, [], ◌∷◌, ◌++◌, length, get_or, drop, take, map, reverse, Option, Some, None, is_some, true, refl, ap, sym, subst, ◌∙◌, arith}
+use Rattle.std.proofs.Common.{◌≡◌, ℕ, zero, suc, ◌<◌, List, [], ◌∷◌, ◌++◌, length, get_or, drop, map, reverse, Option, Some, None, is_some, true, refl, ap, sym, subst, ◌∙◌, arith}
 use Rattle.std.proofs.lemmas.Bool.{false≢true}
 use Rattle.std.proofs.lemmas.List.{length-map, length-append, map-append, append_cancel_right, reverse-append}
 use Rattle.micromap_walk.specs.Filled.{items_of, AreFilled}

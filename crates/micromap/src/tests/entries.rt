@@ -136,8 +136,21 @@ fn a_value_is_put_where_there_is_none(rt: HostRuntime) -> Result<(), Fail> {
         102
     );
     assert_eq!(rt; *open(&mut map, 'f')?.or_insert_with_key(|_| 255), 102);
+    let Entry::Occupied(entry) = map.entry('e') else {
+        return Err(Fail::from("e is there"));
+    };
+    assert_eq!(rt; entry.remove(), 42);
     assert_eq!(rt; *open(&mut map, 'e')?.insert_entry(101).get(), 101);
-    assert_eq!(rt; map.len(), 7);
+    let codes = [
+        ('a', 97),
+        ('d', 100),
+        ('c', 99),
+        ('b', 98),
+        ('f', 102),
+        ('g', 0),
+        ('e', 101),
+    ];
+    assert!(rt; map.drain().eq(codes));
     Ok(())
 }
 

@@ -3,14 +3,15 @@ ghost use Rattle.std.specs.Prelude.{◌≡◌, ◌∷◌, [], ◌++◌, ◌<◌,
 ghost use Rattle.std.specs.Borrow.{sem};
 ghost use Rattle.std.specs.List.{swap_remove};
 ghost use Rattle.std.specs.Map.{lookup_entry};
-ghost use Rattle.std.specs.Option.{option_copied, option_map};
+ghost use Rattle.std.specs.Option.{IfSome, option_copied, option_map};
+ghost use Rattle.micromap_core.specs.Closures.{CalledAtPair, TakesPair, VisitsAt};
 ghost use Rattle.micromap_core.specs.Lends.{lends_value_at};
 ghost use Rattle.micromap_core.specs.Pairs.{has_room, place, place_by};
 ghost use Rattle.micromap_core.specs.Places.{ReplacesValue};
 
 use super::Map;
 use crate::places::{
-    into_filled, pair_in, pair_of, place_of, replace_pair, replace_value, value_in,
+    into_filled, pair_in, pair_of, place_of, replace_pair, replace_value, value_in, visit_pair,
 };
 use crate::probe::Probe;
 
@@ -59,6 +60,20 @@ impl<K: Eq, V, const N: usize> Map<K, V, N> {
             Some(place) => value_in(place),
             None => unreachable!(),
         }
+    }
+
+    // Calls `visit` at the pair at `index`.
+    #[inline]
+    pub(crate) fn visit_at<R, F: FnMut(&K, &mut V) -> R>(
+        &mut self,
+        index: usize,
+        visit: &mut F,
+    ) -> R
+        requires within { index < length self.old }
+        requires callable { IfSome (slice_get self.old index) (λ p. TakesPair F.FnMut visit.old p.0 p.1) }
+        ensures { VisitsAt (CalledAtPair F.FnMut) visit.old self.old index result visit.new self.new }
+    {
+        visit_pair(self.places.as_mut_slice(), index, visit)
     }
 
     // Writes `value` at `index`, and answers the old value.

@@ -1,0 +1,1 @@
+pub use Rattle.micromap_core.proofs.ClosureLemmas

@@ -1,0 +1,6 @@
+use Rattle.std.proofs.Common.{rules}
+use Rattle.micromap_core.proofs.ClosureLemmas.{retained_by}
+use Rattle.micromap.proofs.tests.closures.keep_even.Goals as goal
+
+pub returns : goal.returns
+returns g c = retained_by _ _ _ (λ k v b w t said. search rules) _ _ c.retain.ensures
