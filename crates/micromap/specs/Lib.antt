@@ -1,7 +1,10 @@
+pub use Rattle.micromap_core.specs.Build
 pub use Rattle.micromap_core.specs.Calls
+pub use Rattle.micromap_core.specs.Clones
 pub use Rattle.micromap_core.specs.Closures
 pub use Rattle.micromap_core.specs.Entry
 pub use Rattle.micromap_core.specs.Pairs
+pub use Rattle.micromap_core.specs.Print
 pub use Rattle.micromap_core.specs.Probe
 pub use Rattle.micromap_core.specs.ProbeLaws
 pub use Rattle.micromap_core.specs.Retain

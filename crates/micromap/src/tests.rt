@@ -1,8 +1,12 @@
 //! What no contract says: values from outside, and that each call can be made as a user makes it.
 
+mod attributes;
+mod building;
+mod cloning;
 mod closures;
 mod entries;
 mod keyed;
 mod map;
+mod printing;
 mod tagged;
 mod walks;

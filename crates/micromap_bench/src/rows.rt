@@ -1,4 +1,5 @@
 //! The worked rows, each a function that compares every value of its row.
+mod built;
 mod keyed;
 pub mod marked;
 mod walked;
@@ -17,9 +18,11 @@ pub fn row(alloc: Global, number: u8) -> Option<bool> {
         7 => Some(keyed::row_7()),
         9 => Some(walked::row_9()),
         10 => Some(walked::row_10()),
+        11 => Some(built::row_11()),
         12 => Some(keyed::row_12()),
         13 => Some(walked::row_13()),
         24 => Some(keyed::row_24(alloc).unwrap_or(false)),
+        28 => Some(built::row_28()),
         29 => Some(walked::row_29()),
         30 => Some(walked::row_30()),
         _ => None,

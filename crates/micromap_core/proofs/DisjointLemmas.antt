@@ -1,15 +1,15 @@
 -- The values written by a closure that is called at the values of some keys, in their order.
-use Rattle.std.proofs.Common.{◌≡◌, ℕ, suc, ◌+◌, ◌<◌, Bool, true, false, List, [], ◌∷◌, ◌++◌, length, get_or, set, take, drop, map, Option, Some, None, is_some, if◌then◌else◌, refl, ap, sym, subst, ◌∙◌, arith}
+use Rattle.std.proofs.Common.{◌≡◌, ℕ, suc, ◌+◌, ◌<◌, Bool, true, false, List, [], ◌∷◌, ◌++◌, length, get_or, set, take, drop, map, Option, Some, None, is_some, refl, ap, sym, subst, ◌∙◌, arith}
 use Rattle.std.specs.List.{list_any}
-use Rattle.std.specs.Map.{keys_of, set_value}
+use Rattle.std.specs.Map.{keys_of}
 use Rattle.std.specs.Option.{MatchOption}
 use Rattle.std.proofs.lemmas.List.{take_more, take_more_set, take-append-drop, map_push, length-set, length-take}
-use Rattle.std.proofs.lemmas.Map.{keys-set_value}
 use Rattle.std.proofs.lemmas.Map.Made.{is_some-lookup}
 use Rattle.std.proofs.Math.Seq.{drop-cons, take-length}
 use Rattle.micromap_core.specs.Closures.{CallableOnKeys, UpdatesFrom, UpdatesAt}
 use Rattle.micromap_core.specs.Pairs.{at, has, put}
 use Rattle.micromap_core.proofs.Lists.{by_option}
+use Rattle.micromap_core.proofs.PairsLemmas.{keys_of-put_stored}
 
 -- where there is a value, and where there is none
 at_some : {X : Type 0} (o : Option X) (x : X) (P : Type 0) (Q : X → Type 0) → o ≡ Some x → Q x → MatchOption o P Q
@@ -22,11 +22,6 @@ module _ {K V : Type 0} (eq : K → K → Bool) where
   -- equal keys in the same order find the same
   has_by_keys : (new pairs : List (K × V)) (q : K) → keys_of new ≡ keys_of pairs → has eq new q ≡ has eq pairs q
   has_by_keys new pairs q same = is_some-lookup (eq q) new ∙ ap (list_any (eq q)) same ∙ sym (is_some-lookup (eq q) pairs)
-
-  -- a stored key keeps all keys
-  keys_put : (pairs : List (K × V)) (k : K) (w : V) → has eq pairs k ≡ true → keys_of (put eq pairs k w) ≡ keys_of pairs
-  unfolding put
-  keys_put pairs k w stored = ap (λ b. keys_of (if b then set_value (eq k) pairs w else pairs ++ (k, w) ∷ [])) stored ∙ keys-set_value (eq k) pairs w
 
 module _ {F K V R : Type 0} (eq : K → K → Bool) (T : F → ℕ → V → R → V → F → Type 0) where
   -- what the key q and those after it come to, by the value at q
@@ -83,7 +78,7 @@ module _ {F K V R : Type 0} (eq : K → K → Bool) (T : F → ℕ → V → R �
           record {
             walk = subst (λ ks. UpdatesFrom eq T 0 f pairs ks t (put eq now k w)) (sym taken)
                 (more_found 0 f pairs (take position keys) s t now k v w r position (omega (arith, length-take position keys, within)) m.walk found_v called);
-            same_keys = keys_put eq now k w stored ∙ m.same_keys;
+            same_keys = keys_of-put_stored eq now k w stored ∙ m.same_keys;
             answered = answered_more true stored;
             whole = length-set found position true ∙ m.whole;
           }

@@ -1,4 +1,7 @@
+pub mod BuildLemmas
+pub mod CloneLemmas
 pub mod ClosureLemmas
+pub mod CountLemmas
 pub mod DisjointLemmas
 pub mod Edits
 pub mod EntryLemmas
@@ -6,6 +9,7 @@ pub mod Examples
 pub mod Lists
 pub mod PairsLemmas
 pub mod PlacesLemmas
+pub mod PrintLemmas
 pub mod ProbeLemmas
 pub mod RetainLemmas
 pub mod UpdateLemmas

@@ -1,6 +1,6 @@
 -- Facts about lists of pairs: what a look-up, an insertion and a removal do where a key passes a test and where none
 -- does, and that keys stay pairwise unequal.
-use Rattle.std.proofs.Common.{◌≡◌, ℕ, ◌<◌, ◌≤◌, Bool, true, false, List, [], ◌∷◌, ◌++◌, length, get_or, set, Option, Some, None, slice_get, refl, ap, sym, subst, ◌∙◌, inl, inr, arith}
+use Rattle.std.proofs.Common.{◌≡◌, ℕ, ◌<◌, ◌≤◌, Bool, true, false, List, [], ◌∷◌, ◌++◌, length, get_or, set, Option, Some, None, slice_get, if◌then◌else◌, refl, ap, sym, subst, ◌∙◌, inl, inr, arith}
 use Rattle.std.specs.List.{position_or_len, swap_remove, IsDistinct, list_any}
 use Rattle.std.specs.Cmp.{IsEquivalence}
 use Rattle.std.specs.Option.{option_map}
@@ -9,10 +9,11 @@ use Rattle.std.proofs.lemmas.Bool.Decides.{nat_tests}
 use Rattle.std.proofs.lemmas.List.{map_push, length-map, map-set, get_or-map, set-get_or, length-set, get_or-set_same, get_or-set_other, get_or_default}
 use Rattle.std.proofs.lemmas.Bool.{cases_eq}
 use Rattle.std.proofs.lemmas.List.Sorted.{IsPermutation-swap_remove, IsPermutation-map}
+use Rattle.std.proofs.lemmas.Map.{keys-set_value}
 use Rattle.std.proofs.lemmas.Map.Keys.{IsDistinct-push, IsDistinct-tail, IsDistinct-IsPermutation, IsDistinct-from_apart, apart_from_distinct}
 use Rattle.std.proofs.lemmas.Option.{get_or_from_slice_get, slice_get_within}
 use Rattle.micromap_core.specs.Places.{with_value_at}
-use Rattle.micromap_core.specs.Pairs.{place, place_by, has_room, fits, put, put_key, take_out_by, IsUnique}
+use Rattle.micromap_core.specs.Pairs.{has, place, place_by, has_room, fits, put, put_key, take_out_by, IsUnique}
 use Rattle.micromap_core.proofs.Lists.{swap_remove-zero, swap_remove-suc}
 
 module _ {K V : Type 0} (test : K → Bool) where
@@ -236,3 +237,13 @@ module _ {K V : Type 0} (eq : K → K → Bool) (laws : IsEquivalence eq) (pairs
       let within = slice_get_within pairs i p here in
       let moved = IsPermutation-map (λ (e : K × V). e.0) _ _ (IsPermutation-swap_remove pairs i p within (sym (get_or_from_slice_get pairs i p p here))) in
       IsDistinct-tail eq p.0 _ (IsDistinct-IsPermutation eq laws.symm _ _ moved unique)
+
+module _ {K V : Type 0} (eq : K → K → Bool) (pairs : List (K × V)) (k : K) (v : V) where
+  -- a put of a stored key keeps the keys, and of a new one adds it at the end
+  pub keys_of-put_stored : has eq pairs k ≡ true → keys_of (put eq pairs k v) ≡ keys_of pairs
+  unfolding put
+  keys_of-put_stored stored = ap (λ b. keys_of (if b then set_value (eq k) pairs v else pairs ++ (k, v) ∷ [])) stored ∙ keys-set_value (eq k) pairs v
+
+  pub keys_of-put_new : has eq pairs k ≡ false → keys_of (put eq pairs k v) ≡ keys_of pairs ++ k ∷ []
+  unfolding put
+  keys_of-put_new missing = ap (λ b. keys_of (if b then set_value (eq k) pairs v else pairs ++ (k, v) ∷ [])) missing ∙ map_push (λ (e : K × V). e.0) pairs (k, v)

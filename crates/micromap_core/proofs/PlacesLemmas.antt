@@ -1,8 +1,10 @@
 -- Facts about filled places, and about the pairs that stand in them.
-use Rattle.std.proofs.Common.{◌≡◌, ℕ, ◌<◌, Bool, List, [], ◌∷◌, ◌++◌, length, get_or, set, map, Option, Some, None, is_some, slice_get, refl, ap, sym, ◌∙◌}
+use Rattle.std.proofs.Common.{◌≡◌, ℕ, suc, ◌+◌, ◌<◌, Bool, false, List, [], ◌∷◌, ◌++◌, length, get_or, set, drop, map, Option, Some, None, is_some, slice_get, refl, ap, sym, ◌∙◌, arith}
 use Rattle.std.proofs.lemmas.Bool.{false≢true}
 use Rattle.std.proofs.lemmas.Option.{slice_get-get_or}
-use Rattle.std.specs.List.{IsDistinct, swap_remove}
+use Rattle.std.specs.List.{IsDistinct, position_or_len, swap_remove}
+use Rattle.std.specs.Map.{keys_of}
+use Rattle.std.proofs.Math.Seq.{drop-cons}
 use Rattle.std.proofs.lemmas.List.{get_or-map, map-set, map-append}
 pub use Rattle.micromap_walk.proofs.FilledLemmas.{items_of-map, AreFilled-from, length_filled, some_at}
 use Rattle.micromap_core.specs.Pairs.{IsUnique}
@@ -54,3 +56,9 @@ ArePlaces-from eq places pairs made unique = record {
   filled = AreFilled-from places pairs made;
   unique = rw (made, items_of-map pairs) unique;
 }
+
+-- a filled place whose key isn't matched
+pub passed_over : {K V : Type 0} (test : K → Bool) (places : List (Option (K × V))) (i : ℕ) (d : Option (K × V)) (p : K × V) → i < length places → get_or places i d ≡ Some p → test p.0 ≡ false → position_or_len test (keys_of (items_of (drop i places))) ≡ 1 + position_or_len test (keys_of (items_of (drop (i + 1) places)))
+passed_over test places i d p within here miss =
+    let next : suc i ≡ i + 1 = omega arith in
+    rw (drop-cons places i d within, here, miss) (ap (λ n. 1 + position_or_len test (keys_of (items_of (drop n places)))) next)

@@ -1,9 +1,12 @@
+pub mod Build
 pub mod Entry
 pub mod Lends
 pub mod Pairs
 pub mod Probe
+pub mod Print
 pub mod ProbeLaws
 pub mod Calls
+pub mod Clones
 pub mod Closures
 pub mod Retain
 pub mod Places

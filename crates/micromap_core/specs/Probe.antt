@@ -1,6 +1,7 @@
 -- What a call by probe finds. A probe is seen as the test of the keys that it matches; each call does what the plain
 -- call does at the one stored key that matches.
-use Rattle.std.specs.Prelude.{Bool, List, Option, None}
+use Rattle.std.specs.Prelude.{ℕ, Bool, List, Option, None, String, nat_eq, string_bytes}
+use Rattle.std.specs.Cmp.Lexicographic.{pointwise}
 use Rattle.std.specs.Option.{option_map_or}
 use Rattle.std.specs.Map.{lookup_key}
 use Rattle.micromap_core.specs.Pairs.{at, pair, put, take_out}
@@ -25,3 +26,7 @@ module _ {K V : Type 0} (eq : K → K → Bool) (test : K → Bool) where
   -- without the pair of the key that matches
   abbrev pub take_out_matched : List (K × V) → List (K × V)
   take_out_matched pairs = option_map_or (take_out eq pairs) (matched test pairs) pairs
+
+-- the key has the text of these bytes
+abbrev pub is_text : {Z : Type 0} → List ℕ → String Z → Bool
+is_text bytes key = pointwise nat_eq bytes (string_bytes key)

@@ -2,6 +2,7 @@
 ghost use Rattle.std.specs.Prelude.{◌≡◌, ◌==◌, ◌≤◌, [], length};
 ghost use Rattle.micromap_core.specs.Pairs.{IsContent};
 
+mod clone;
 mod indexed;
 mod insert;
 mod lookup;

@@ -45,9 +45,13 @@ pub(crate) fn pair_of<'a, K: Eq, V, P: Probe<K>>(
     ensures { option_copied result ≡ lookup_entry (P.matches probe.now) (items_of places.now) }
 {
     for place in places {
-        let pair = filled(place);
-        if probe.matches(&pair.0) {
-            return Some(pair);
+        match place {
+            Some(pair) => {
+                if probe.matches(&pair.0) {
+                    return Some(pair);
+                }
+            }
+            None => {}
         }
     }
     None
@@ -60,8 +64,13 @@ pub(crate) fn place_of<K: Eq, V, P: Probe<K>>(places: &[Option<(K, V)>], probe: 
     ensures { result ≡ place_by (P.matches probe.now) (items_of places.now) }
 {
     for (index, place) in places.iter().enumerate() {
-        if probe.matches(&filled(place).0) {
-            return Some(index);
+        match place {
+            Some(stored) => {
+                if probe.matches(&stored.0) {
+                    return Some(index);
+                }
+            }
+            None => {}
         }
     }
     None

@@ -1,8 +1,8 @@
 //! Finding a key by something other than a key.
-ghost use Rattle.std.specs.Prelude.{◌≡◌, Bool, true, ◌==◌, length, nat_eq};
-ghost use Rattle.std.specs.Cmp.Lexicographic.{pointwise};
+ghost use Rattle.std.specs.Prelude.{◌≡◌, Bool, true, ◌==◌, length};
 ghost use Rattle.std.specs.String.{string_bytes, string_capacity};
 ghost use Rattle.std.proofs.lemmas.Cmp.{nat_list_eq_equiv};
+ghost use Rattle.micromap_core.specs.Probe.{is_text};
 ghost use Rattle.micromap_core.specs.ProbeLaws.{alike, equal};
 
 /// What a stored key can be found by.
@@ -40,7 +40,7 @@ impl<K: Eq> Probe<K> for K {
 pub struct Text<'a>(pub &'a str);
 
 impl<'a> Probe<String> for Text<'a> {
-    ghost matches = { λ p k. pointwise nat_eq p.0.now (string_bytes k) };
+    ghost matches = { λ p. is_text p.0.now };
 
     ghost equal_keys_match_alike = { λ p x y. alike nat_list_eq_equiv p.0.now (string_bytes x) (string_bytes y) };
 

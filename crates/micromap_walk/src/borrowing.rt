@@ -49,6 +49,14 @@ impl<'a, K, V> Iter<'a, K, V> {
         self.places.len()
     }
 
+    // A walk over what is left.
+    #[inline]
+    pub(crate) fn left(&self) -> Iter<'_, K, V>
+        ensures { result ≡ self.now }
+    {
+        Iter::over(self.places.as_slice())
+    }
+
     /// A walk that goes on from the same place. It never lacks memory.
     #[inline]
     pub fn clone(&self) -> Result<Self, AllocError>
@@ -99,7 +107,7 @@ impl<'a, K, V> Default for Iter<'a, K, V> {
 /// The keys of the pairs, from the front.
 #[derive(Drop)]
 pub struct Keys<'a, K, V> {
-    pairs: Iter<'a, K, V>,
+    pub(crate) pairs: Iter<'a, K, V>,
 }
 
 impl<'a, K, V> Model for Keys<'a, K, V> {
@@ -178,7 +186,7 @@ impl<'a, K, V> Default for Keys<'a, K, V> {
 /// The values of the pairs, from the front.
 #[derive(Drop)]
 pub struct Values<'a, K, V> {
-    pairs: Iter<'a, K, V>,
+    pub(crate) pairs: Iter<'a, K, V>,
 }
 
 impl<'a, K, V> Model for Values<'a, K, V> {

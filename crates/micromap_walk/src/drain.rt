@@ -5,6 +5,7 @@ ghost use Rattle.std.specs.Iterator.SizeHint.{IsWithinCount};
 ghost use Rattle.std.specs.Map.Iter.{TakesFirst};
 ghost use Rattle.micromap_walk.specs.Filled.{items_of, AreFilled};
 
+use crate::Iter;
 use arrayvec::{ArrayVec, IntoIter};
 use std::iter::FusedIterator;
 use std::marker::Model;
@@ -44,6 +45,16 @@ impl<K: Drop, V: Drop, const N: usize> Drain<K, V, N> {
         ensures { result ≡ length self.now }
     {
         self.places.len()
+    }
+}
+
+impl<K, V, const N: usize> Drain<K, V, N> {
+    // A walk over what is left.
+    #[inline]
+    pub(crate) fn left(&self) -> Iter<'_, K, V>
+        ensures { result ≡ self.now }
+    {
+        Iter::over(self.places.as_slice())
     }
 }
 

@@ -6,6 +6,7 @@
 mod borrowing;
 mod drain;
 mod owning;
+mod print;
 
 pub use borrowing::{Iter, Keys, Values};
 pub use drain::Drain;

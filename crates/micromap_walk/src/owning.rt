@@ -6,6 +6,7 @@ ghost use Rattle.std.specs.Map.{keys_of, values_of};
 ghost use Rattle.std.specs.Map.Iter.{TakesFirst};
 ghost use Rattle.micromap_walk.specs.Filled.{items_of, AreFilled};
 
+use crate::Iter;
 use arrayvec::ArrayVec;
 use std::iter::FusedIterator;
 use std::marker::Model;
@@ -43,6 +44,14 @@ impl<K, V, const N: usize> IntoIter<K, V, N> {
         ensures { result ≡ length self.now }
     {
         self.places.len()
+    }
+
+    // A walk over what is left, from the front.
+    #[inline]
+    pub(crate) fn left(&self) -> Iter<'_, K, V>
+        ensures { result ≡ reverse self.now }
+    {
+        Iter::over(self.places.as_slice())
     }
 }
 
@@ -85,7 +94,7 @@ impl<K, V, const N: usize> Default for IntoIter<K, V, N> {
 /// The keys of the pairs by value, from the end.
 #[derive(Drop)]
 pub struct IntoKeys<K, V, const N: usize> {
-    pairs: IntoIter<K, V, N>,
+    pub(crate) pairs: IntoIter<K, V, N>,
 }
 
 impl<K, V, const N: usize> Model for IntoKeys<K, V, N> {
@@ -154,7 +163,7 @@ impl<K, V, const N: usize> Default for IntoKeys<K, V, N> {
 /// The values of the pairs by value, from the end.
 #[derive(Drop)]
 pub struct IntoValues<K, V, const N: usize> {
-    pairs: IntoIter<K, V, N>,
+    pub(crate) pairs: IntoIter<K, V, N>,
 }
 
 impl<K, V, const N: usize> Model for IntoValues<K, V, N> {

@@ -1,5 +1,5 @@
 use Rattle.std.proofs.Common.{rules}
-use Rattle.micromap_core.proofs.ClosureLemmas.{retained_by}
+use Rattle.micromap.proofs.ClosureLemmas.{retained_by}
 use Rattle.micromap.proofs.tests.closures.keep_even.Goals as goal
 
 pub returns : goal.returns

@@ -1,4 +1,4 @@
-use Rattle.std.proofs.Common.{◌≡◌, length, slice_set, ap, sym, ◌∙◌, arith, rules}
+use Rattle.std.proofs.Common.{length, ap, ◌∙◌, arith, rules}
 use Rattle.std.proofs.lemmas.List.{length-set}
 use Rattle.micromap_core.specs.Closures.{CalledAtPair, TakesPair}
 use Rattle.micromap_core.proofs.UpdateLemmas.{updating_begins, updating_asks, updating_steps, updating_ends}

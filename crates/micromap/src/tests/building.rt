@@ -1,0 +1,53 @@
+//! Maps built from items, and what is said of the first that doesn't fit.
+use crate::{Map, Overfull};
+use std::alloc::AllocError;
+
+#[test]
+fn items_are_put_in_turn(rt: HostRuntime) {
+    let map = Map::from([(1, "sun"), (2, "mon"), (1, "tue")]);
+    assert_eq!(rt; map.capacity(), 3);
+    assert!(rt; map.into_iter().eq([(2, "mon"), (1, "tue")]));
+}
+
+#[test]
+fn the_first_misfit_is_named(rt: HostRuntime) {
+    let none: [(u8, &str); 0] = [];
+    let map: Result<Map<u8, &str, 0>, Overfull> = Map::try_from_iter(none.into_iter());
+    assert!(rt; map.is_ok_and(|map| map.is_empty()));
+    let map: Result<Map<u8, &str, 0>, Overfull> = Map::try_from_iter([(1, "a")].into_iter());
+    assert!(rt; matches!(map, Err(Overfull { at: 0 })));
+    let items = [(1, "a"), (1, "b"), (1, "c")];
+    let map: Result<Map<u8, &str, 1>, Overfull> = Map::try_from_iter(items.into_iter());
+    assert!(rt; map.is_ok_and(|map| map.into_iter().eq([(1, "c")])));
+    let items = [(1, "a"), (2, "b"), (1, "c"), (3, "d")];
+    let map: Result<Map<u8, &str, 2>, Overfull> = Map::try_from_iter(items.into_iter());
+    assert!(rt; matches!(map, Err(Overfull { at: 3 })));
+}
+
+#[test]
+fn a_built_map_is_drained_from_the_front(rt: HostRuntime) -> Result<(), Overfull> {
+    let items = [('a', 97), ('b', 98), ('c', 99), ('d', 100)];
+    let mut map: Map<char, u8, 10> = Map::try_from_iter(items.into_iter())?;
+    let mut drained = map.drain();
+    assert_eq!(rt; drained.next(), Some(('a', 97)));
+    assert_eq!(rt; drained.next(), Some(('b', 98)));
+    assert_eq!(rt; drained.next(), Some(('c', 99)));
+    assert_eq!(rt; drained.next(), Some(('d', 100)));
+    assert_eq!(rt; drained.next(), None);
+    Ok(())
+}
+
+#[test]
+fn a_misfit_can_be_read(rt: HostRuntime) -> Result<(), AllocError> {
+    let misfit = Overfull { at: 3 };
+    assert_eq!(rt;
+        format!(in rt.alloc(); "{misfit}")?.as_str(),
+        "item 3 has a new key, and there is no room for it"
+    );
+    assert_eq!(rt;
+        format!(in rt.alloc(); "{misfit:?}")?.as_str(),
+        "Overfull { at: 3 }"
+    );
+    assert_eq!(rt; misfit, Overfull { at: 3 });
+    Ok(())
+}

@@ -1,0 +1,91 @@
+//! Clones of a map, and two callers' proofs: numbers never lack memory, and texts stay what they are.
+ghost use Rattle.std.specs.Prelude.{◌≡◌, IfOk, Ok};
+ghost use Rattle.std.specs.List.{AllZip};
+ghost use Rattle.std.specs.String.{string_bytes};
+
+use crate::Map;
+use std::alloc::AllocError;
+
+// A copy of a map of numbers.
+fn copy_of_numbers<const N: usize>(map: &Map<u8, u64, N>) -> Result<Map<u8, u64, N>, AllocError>
+    ensures { result ≡ Ok map.now }
+{
+    map.clone()
+}
+
+// A copy of a map of texts, pair by pair with the same texts.
+fn copy_of_texts<const N: usize>(
+    map: &Map<String, String, N>,
+) -> Result<Map<String, String, N>, AllocError>
+    ensures { IfOk result (AllZip (λ p q. (string_bytes q.0 ≡ string_bytes p.0) × (string_bytes q.1 ≡ string_bytes p.1)) map.now) }
+{
+    map.clone()
+}
+
+#[test]
+fn a_clone_goes_its_own_way(rt: HostRuntime) -> Result<(), AllocError> {
+    let mut map: Map<u8, u64, 3> = Map::new();
+    map.checked_insert(1, 5);
+    map.checked_insert(2, 6);
+    let mut other = copy_of_numbers(&map)?;
+    other.checked_insert(3, 7);
+    assert!(rt; other.drain().eq([(1, 5), (2, 6), (3, 7)]));
+    assert!(rt; map.drain().eq([(1, 5), (2, 6)]));
+    let none = map.clone()?;
+    assert!(rt; none.is_empty());
+    Ok(())
+}
+
+#[test]
+fn texts_are_cloned(rt: HostRuntime) -> Result<(), AllocError> {
+    let alloc = rt.alloc();
+    let mut map: Map<String, String, 2> = Map::new();
+    map.checked_insert(String::from_str(alloc, "b")?, String::from_str(alloc, "2")?);
+    map.checked_insert(String::from_str(alloc, "a")?, String::from_str(alloc, "1")?);
+    let other = copy_of_texts(&map)?;
+    assert_eq!(rt; format!(in alloc; "{other}")?.as_str(), "{b: 2, a: 1}");
+    Ok(())
+}
+
+// A number that a broken one's clone lacks memory for.
+#[derive(Debug, Drop, PartialEq, Eq)]
+struct Brittle {
+    number: u8,
+    broken: bool,
+}
+
+impl Clone for Brittle {
+    ghost is_clone = { λ x y. y ≡ x };
+
+    fn clone(&self) -> Result<Self, AllocError> {
+        if self.broken {
+            return Err(AllocError);
+        }
+        Ok(Brittle {
+            number: self.number,
+            broken: false,
+        })
+    }
+}
+
+#[test]
+fn a_clone_that_fails_leaves_the_map(rt: HostRuntime) {
+    for failing in 1..5 {
+        let mut map: Map<Brittle, Brittle, 2> = Map::new();
+        for number in [0, 2] {
+            let key = Brittle {
+                number,
+                broken: failing == number + 1,
+            };
+            let value = Brittle {
+                number: number + 1,
+                broken: failing == number + 2,
+            };
+            map.checked_insert(key, value);
+        }
+        assert!(rt; matches!(map.clone(), Err(AllocError)));
+        assert_eq!(rt; map.len(), 2);
+        assert!(rt; map.keys().map(|key| key.number).eq([0, 2]));
+        assert!(rt; map.values().map(|value| value.number).eq([1, 3]));
+    }
+}

@@ -1,0 +1,10 @@
+-- Clones of keys and values, of which C and D say what a clone may be.
+use Rattle.std.specs.Prelude.{◌≡◌}
+
+-- a clone is the very same value
+abbrev pub AreIdentical : {X : Type 0} → (X → X → Type 0) → Type 0
+AreIdentical {X} C = (x y : X) → C x y → y ≡ x
+
+-- the key and the value of q are clones of those of p
+abbrev pub IsPairClone : {K V : Type 0} → (K → K → Type 0) → (V → V → Type 0) → K × V → K × V → Type 0
+IsPairClone C D p q = C p.0 q.0 × D p.1 q.1

@@ -1,0 +1,24 @@
+//! Cloning a map.
+ghost use Rattle.std.specs.Prelude.{◌≡◌, ◌<◌, ℕ, length, IsOk, IfOk, slice_index_or};
+ghost use Rattle.std.specs.List.{AllZip};
+ghost use Rattle.std.specs.Set.{ClonesAreEqual};
+ghost use Rattle.micromap_core.specs.Clones.{AreIdentical, IsPairClone};
+
+use super::Map;
+use std::alloc::AllocError;
+
+impl<K: Eq + Clone + Drop, V: Clone + Drop, const N: usize> Map<K, V, N> {
+    /// A map of the clones, pair by pair, in the same order. A key's clone must be equal to the key.
+    ///
+    /// It takes no memory of its own, so the answer is `Err` only where a clone of a key or a value is. Then what was
+    /// cloned is dropped. This map is unchanged either way.
+    pub fn clone(&self) -> Result<Self, AllocError>
+        requires { ClonesAreEqual K.eq K.is_clone }
+        ensures clones { IfOk result (AllZip (IsPairClone K.is_clone V.is_clone) self.now) }
+        ensures same { AreIdentical K.is_clone → AreIdentical V.is_clone → IfOk result (λ new. new ≡ self.now) }
+        ensures succeeds { ((i : ℕ) (p : K × V) → i < length self.now → K.is_infallible (slice_index_or self.now i p).0 × V.is_infallible (slice_index_or self.now i p).1) → IsOk result }
+    {
+        let places = self.places.clone()?;
+        Ok(Map { places })
+    }
+}

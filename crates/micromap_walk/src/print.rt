@@ -1,0 +1,53 @@
+//! Each walk prints as the list of what is left, from the front of the map, also where it goes from the end.
+use crate::{Drain, IntoIter, IntoKeys, IntoValues, Iter, Keys, Values};
+use std::fmt;
+
+impl<'a, K: fmt::Debug, V: fmt::Debug> fmt::Debug for Iter<'a, K, V> {
+    fn fmt<W: fmt::Write>(&self, f: &mut fmt::Formatter<W>) -> fmt::Result {
+        f.debug_list().entries(self.left()).finish()
+    }
+}
+
+impl<'a, K: fmt::Debug, V> fmt::Debug for Keys<'a, K, V> {
+    fn fmt<W: fmt::Write>(&self, f: &mut fmt::Formatter<W>) -> fmt::Result {
+        f.debug_list()
+            .entries(self.pairs.left().map(|(key, _)| key))
+            .finish()
+    }
+}
+
+impl<'a, K, V: fmt::Debug> fmt::Debug for Values<'a, K, V> {
+    fn fmt<W: fmt::Write>(&self, f: &mut fmt::Formatter<W>) -> fmt::Result {
+        f.debug_list()
+            .entries(self.pairs.left().map(|(_, value)| value))
+            .finish()
+    }
+}
+
+impl<K: fmt::Debug, V: fmt::Debug, const N: usize> fmt::Debug for IntoIter<K, V, N> {
+    fn fmt<W: fmt::Write>(&self, f: &mut fmt::Formatter<W>) -> fmt::Result {
+        f.debug_list().entries(self.left()).finish()
+    }
+}
+
+impl<K: fmt::Debug, V, const N: usize> fmt::Debug for IntoKeys<K, V, N> {
+    fn fmt<W: fmt::Write>(&self, f: &mut fmt::Formatter<W>) -> fmt::Result {
+        f.debug_list()
+            .entries(self.pairs.left().map(|(key, _)| key))
+            .finish()
+    }
+}
+
+impl<K, V: fmt::Debug, const N: usize> fmt::Debug for IntoValues<K, V, N> {
+    fn fmt<W: fmt::Write>(&self, f: &mut fmt::Formatter<W>) -> fmt::Result {
+        f.debug_list()
+            .entries(self.pairs.left().map(|(_, value)| value))
+            .finish()
+    }
+}
+
+impl<K: fmt::Debug, V: fmt::Debug, const N: usize> fmt::Debug for Drain<K, V, N> {
+    fn fmt<W: fmt::Write>(&self, f: &mut fmt::Formatter<W>) -> fmt::Result {
+        f.debug_list().entries(self.left()).finish()
+    }
+}
