@@ -1,11 +1,13 @@
 -- Facts about filled places, and about the pairs that stand in them.
-use Rattle.std.proofs.Common.{◌≡◌, ℕ, suc, ◌+◌, ◌<◌, Bool, false, List, [], ◌∷◌, ◌++◌, length, get_or, set, drop, map, Option, Some, None, is_some, slice_get, refl, ap, sym, ◌∙◌, arith}
+use Rattle.std.proofs.Common.{Bor, ◌≡◌, ℕ, ◌+◌, ◌<◌, ◌≤◌, ◌-◌, take, Bool, true, false, not, cond, List, [], ◌∷◌, ◌++◌, length, get_or, set, drop, map, Option, Some, None, is_some, slice_get, refl, ap, sym, ◌∙◌, arith}
 use Rattle.std.proofs.lemmas.Bool.{false≢true}
 use Rattle.std.proofs.lemmas.Option.{slice_get-get_or}
 use Rattle.std.specs.List.{IsDistinct, position_or_len, swap_remove}
-use Rattle.std.specs.Map.{keys_of}
-use Rattle.std.proofs.Math.Seq.{drop-cons}
+use Rattle.std.specs.Map.{keys_of, lookup_entry}
+use Rattle.std.specs.Option.{option_copied}
+use Rattle.std.proofs.Math.Seq.{take-length}
 use Rattle.std.proofs.lemmas.List.{get_or-map, map-set, map-append}
+use Rattle.micromap_walk.proofs.FilledLemmas.{first_some, rest_filled}
 pub use Rattle.micromap_walk.proofs.FilledLemmas.{items_of-map, AreFilled-from, length_filled, some_at}
 use Rattle.micromap_core.specs.Pairs.{IsUnique}
 use Rattle.micromap_core.specs.Places.{items_of, AreFilled, ArePlaces}
@@ -57,8 +59,39 @@ ArePlaces-from eq places pairs made unique = record {
   unique = rw (made, items_of-map pairs) unique;
 }
 
--- a filled place whose key isn't matched
-pub passed_over : {K V : Type 0} (test : K → Bool) (places : List (Option (K × V))) (i : ℕ) (d : Option (K × V)) (p : K × V) → i < length places → get_or places i d ≡ Some p → test p.0 ≡ false → position_or_len test (keys_of (items_of (drop i places))) ≡ 1 + position_or_len test (keys_of (items_of (drop (i + 1) places)))
-passed_over test places i d p within here miss =
-    let next : suc i ≡ i + 1 = omega arith in
-    rw (drop-cons places i d within, here, miss) (ap (λ n. 1 + position_or_len test (keys_of (items_of (drop n places)))) next)
+-- the pair behind a reference is there where the reference is
+pub found_behind : {X : Type 0} (found : Option (Bor X)) → is_some (option_copied found) ≡ is_some found
+found_behind None = refl
+found_behind (Some x) = refl
+
+-- a scan has come to the places that are left: nothing before them matches
+pub record ScanStands {K V : Type 0} (test : K → Bool) (places rest : List (Option (K × V))) : Type 0 where
+  pub filled : AreFilled rest
+  pub within : length rest ≤ length places
+  pub same : position_or_len test (keys_of (items_of places)) ≡ length places - length rest + position_or_len test (keys_of (items_of rest))
+
+module _ {K V : Type 0} (test : K → Bool) (places : List (Option (K × V))) where
+  -- whether a key is matched, by what is found at it alone
+  found_if : (b : Bool) (p : K × V) → is_some (cond b (Some p) None) ≡ b
+  found_if true p = refl
+  found_if false p = refl
+
+  -- the scan passes over a place
+  pub one_passed : (place : Option (K × V)) (rest : List (Option (K × V))) → ScanStands test places (place ∷ rest) → is_some (lookup_entry test (items_of (place ∷ []))) ≡ false → ScanStands test places rest
+  one_passed None rest scan miss = absurd (first_some (None ∷ rest) scan.filled None rest refl refl)
+  one_passed (Some p) rest scan miss =
+      let left : ℕ = position_or_len test (keys_of (items_of rest)) in
+      let same : position_or_len test (keys_of (items_of places)) ≡ length places - length (Some p ∷ rest) + (1 + left) = scan.same ∙ ap (λ b. length places - length (Some p ∷ rest) + cond (not b) (1 + left) 0) (sym (found_if (test p.0) p) ∙ miss) in
+      record {
+        filled = rest_filled (Some p ∷ rest) scan.filled (Some p) rest refl p refl;
+        within = omega (arith, scan.within);
+        same = omega (arith, same, scan.within);
+      }
+
+  -- the scan passes over the first two places that are left
+  pub two_passed : (rest : List (Option (K × V))) (first second : Option (K × V)) → ScanStands test places rest → 2 ≤ length rest → first ≡ get_or rest 0 first → second ≡ get_or rest 1 second → is_some (lookup_entry test (items_of (first ∷ []))) ≡ false → is_some (lookup_entry test (items_of (second ∷ []))) ≡ false → ScanStands test places (take (length rest - 2) (drop 2 rest))
+  two_passed [] first second scan long is_first is_second first_miss second_miss = absurd (omega (arith, long))
+  two_passed (a ∷ []) first second scan long is_first is_second first_miss second_miss = absurd (omega (arith, long))
+  two_passed (a ∷ b ∷ others) first second scan long is_first is_second first_miss second_miss =
+      let left : length (a ∷ b ∷ others) - 2 ≡ length others = omega arith in
+      rw (left, take-length) (one_passed b others (one_passed a (b ∷ others) scan (rw (← is_first) first_miss)) (rw (← is_second) second_miss))

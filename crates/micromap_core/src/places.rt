@@ -1,5 +1,5 @@
 //! The places in which a map keeps its pairs. Only this module and `map::indexed` change where the layout does.
-ghost use Rattle.std.specs.Prelude.{◌≡◌, ◌<◌, length, Some, IsSome, slice_get, slice_set};
+ghost use Rattle.std.specs.Prelude.{◌≡◌, ◌<◌, [], ◌∷◌, length, Some, IsSome, slice_get, slice_set};
 ghost use Rattle.std.specs.Borrow.{sem};
 ghost use Rattle.std.specs.Map.{lookup_entry};
 ghost use Rattle.std.specs.Option.{IfSome, option_copied};
@@ -35,45 +35,63 @@ pub(crate) fn into_filled<X>(place: Option<X>) -> X
     }
 }
 
+// The pair in a place, where the probe matches its key.
+#[inline]
+fn matched_in<'a, K: Eq, V, P: Probe<K>>(place: &'a Option<(K, V)>, probe: &P) -> Option<&'a (K, V)>
+    ensures { option_copied result ≡ lookup_entry (P.matches probe.now) (items_of (place.now ∷ [])) }
+{
+    match place {
+        Some(pair) if probe.matches(&pair.0) => Some(pair),
+        _ => None,
+    }
+}
+
 /// The first pair whose key the probe matches.
+///
+/// The scan takes two places a turn, since a turn would else cost more than the comparison in it.
 #[inline]
 pub(crate) fn pair_of<'a, K: Eq, V, P: Probe<K>>(
     places: &'a [Option<(K, V)>],
     probe: &P,
 ) -> Option<&'a (K, V)>
-    requires { AreFilled places.now }
     ensures { option_copied result ≡ lookup_entry (P.matches probe.now) (items_of places.now) }
 {
-    for place in places {
-        match place {
-            Some(pair) => {
-                if probe.matches(&pair.0) {
-                    return Some(pair);
-                }
-            }
-            None => {}
+    let mut rest = places;
+    'twos: while let [first, second, others @ ..] = rest {
+        if let Some(pair) = matched_in(first, probe) {
+            return Some(pair);
         }
+        if let Some(pair) = matched_in(second, probe) {
+            return Some(pair);
+        }
+        rest = others;
     }
-    None
+    match rest {
+        [last, ..] => matched_in(last, probe),
+        [] => None,
+    }
 }
 
-/// The place of that pair.
+/// The place of that pair, by the same scan.
 #[inline]
 pub(crate) fn place_of<K: Eq, V, P: Probe<K>>(places: &[Option<(K, V)>], probe: &P) -> Option<usize>
     requires { AreFilled places.now }
     ensures { result ≡ place_by (P.matches probe.now) (items_of places.now) }
 {
-    for (index, place) in places.iter().enumerate() {
-        match place {
-            Some(stored) => {
-                if probe.matches(&stored.0) {
-                    return Some(index);
-                }
-            }
-            None => {}
+    let mut rest = places;
+    'twos: while let [first, second, others @ ..] = rest {
+        if matched_in(first, probe).is_some() {
+            return Some(places.len() - rest.len());
         }
+        if matched_in(second, probe).is_some() {
+            return Some(places.len() - rest.len() + 1);
+        }
+        rest = others;
     }
-    None
+    match rest {
+        [last, ..] if matched_in(last, probe).is_some() => Some(places.len() - rest.len()),
+        _ => None,
+    }
 }
 
 /// The pair at `index`.

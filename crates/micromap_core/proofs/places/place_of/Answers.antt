@@ -1,15 +1,9 @@
-use Rattle.std.proofs.Common.{is_some, ap, sym, ◌∙◌, arith}
-use Rattle.std.proofs.lemmas.Bool.{false≢true}
-use Rattle.micromap_core.proofs.PlacesLemmas.{some_at, passed_over}
+use Rattle.std.proofs.Common.{ap, sym, ◌∙◌, is_some}
+use Rattle.micromap_core.proofs.PlacesLemmas.{found_behind, two_passed}
 use Rattle.micromap_core.proofs.places.place_of.Goals as goal
 
-pub loop-index-preserved : goal.loop-index-preserved
-loop-index-preserved g c =
-    let at = c.loop-index in
-    elim c.match-place.branch [
-      | goal.in-Some+else-matches w ↦
-          let step = passed_over (g.P.Probe.matches c.args.probe.now) c.args.places.now at.index c.index-places-index.result w.in-Some.stored c.loop-index-test.true (sym c.index-places-index.is ∙ w.in-Some.is) (sym w.matches.ensures ∙ w.if-matches.false) in
-          omega (arith, at.invariant, step)
-      | goal.in-None w ↦
-          absurd (false≢true (sym (ap is_some (sym c.index-places-index.is ∙ w.in-None.is)) ∙ some_at c.args.places.now c.requires at.index c.index-places-index.result c.loop-index-test.true))
-    ]
+pub twos-preserved : goal.twos-preserved
+twos-preserved g c =
+    two_passed (g.P.Probe.matches c.args.probe.now) c.args.places.now c.twos.rest.now c.first-item.result c.second-item.result c.twos.invariant c.in-len2-up.len_at_least c.first-item.is c.second-item.is
+    (sym (ap is_some c.matched_in.ensures) ∙ found_behind c.matched_in.result ∙ sym c.if-is_some.ensures)
+    (sym (ap is_some c.matched_in-in-len2-up.ensures) ∙ found_behind c.matched_in-in-len2-up.result ∙ sym c.if-is_some-2.ensures)
