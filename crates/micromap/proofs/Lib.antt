@@ -1,1 +1,3 @@
 pub use Rattle.micromap_core.proofs.ClosureLemmas
+pub use Rattle.micromap_core.proofs.LookupLemmas
+pub use Rattle.micromap_core.proofs.TextLemmas

@@ -3,6 +3,7 @@ pub use Rattle.micromap_core.specs.Calls
 pub use Rattle.micromap_core.specs.Clones
 pub use Rattle.micromap_core.specs.Closures
 pub use Rattle.micromap_core.specs.Entry
+pub use Rattle.micromap_core.specs.Lends
 pub use Rattle.micromap_core.specs.Pairs
 pub use Rattle.micromap_core.specs.Print
 pub use Rattle.micromap_core.specs.Probe

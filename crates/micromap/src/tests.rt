@@ -8,5 +8,6 @@ mod entries;
 mod keyed;
 mod map;
 mod printing;
+mod readme;
 mod tagged;
 mod walks;

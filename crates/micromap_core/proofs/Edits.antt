@@ -3,8 +3,8 @@ use Rattle.std.proofs.Common.{◌≡◌, ℕ, ◌<◌, Bool, List, [], ◌∷◌
 use Rattle.std.specs.List.{swap_remove}
 use Rattle.std.specs.Cmp.{IsEquivalence}
 use Rattle.std.proofs.lemmas.Bool.{false≢true}
-use Rattle.micromap_core.specs.Pairs.{place}
-use Rattle.micromap_core.specs.Places.{items_of, AreFilled, ArePlaces, ReplacesValue, with_value, with_value_at}
+use Rattle.micromap_core.specs.Pairs.{place, with_value_at}
+use Rattle.micromap_core.specs.Places.{items_of, AreFilled, ArePlaces, ReplacesValue, with_value}
 use Rattle.micromap_core.proofs.PairsLemmas.{IsUnique-set, IsUnique-set_key, IsUnique-push, IsUnique-swap_remove, passes_found}
 use Rattle.micromap_core.proofs.PlacesLemmas.{ArePlaces-from, items_of-map, some_at, item_read, set_filled, swap_removed, push_filled}
 

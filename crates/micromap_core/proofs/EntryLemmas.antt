@@ -4,8 +4,8 @@ use Rattle.std.specs.List.{swap_remove}
 use Rattle.std.specs.Option.{option_map, option_map_or}
 use Rattle.std.proofs.lemmas.List.{set-set, set_at, length-set, get_or-set_same}
 use Rattle.std.proofs.lemmas.Option.{slice_get-get_or, slice_get_within}
-use Rattle.micromap_core.specs.Pairs.{at, pair, place, has, put, take_out}
-use Rattle.micromap_core.specs.Places.{with_value_at}
+use Rattle.micromap_core.specs.Pairs.{at, pair, place, has, put, take_out, with_value_at}
+use Rattle.micromap_core.proofs.Lists.{swap_remove-set}
 use Rattle.micromap_core.proofs.PairsLemmas.{place_within, lookup_found, entry_found, take_out_found, put_found, lookup_missing, entry_missing, put_missing, take_out_missing}
 
 -- an index within has an element
@@ -67,6 +67,9 @@ module _ {K V : Type 0} (pairs : List (K × V)) where
   module _ (i : ℕ) (p : K × V) (here : slice_get pairs i ≡ Some p) (v : V) where
     pub read_written : slice_get (with_value_at pairs i v) i ≡ Some (p.0, v)
     read_written = rw here (slice_get-set_same pairs i (p.0, v) (slice_get_within pairs i p here))
+
+    pub taken_written : swap_remove (with_value_at pairs i v) i (p.0, v) ≡ swap_remove pairs i p
+    taken_written = rw here (swap_remove-set pairs i (p.0, v) (p.0, v) p (slice_get_within pairs i p here))
 
     pub written_again : (w : V) → with_value_at (with_value_at pairs i v) i w ≡ with_value_at pairs i w
     written_again w = rw (read_written, here) (set-set pairs i (p.0, v) (p.0, w))

@@ -7,10 +7,12 @@ pub mod Edits
 pub mod EntryLemmas
 pub mod Examples
 pub mod Lists
+pub mod LookupLemmas
 pub mod PairsLemmas
 pub mod PlacesLemmas
 pub mod PrintLemmas
 pub mod ProbeLemmas
 pub mod RetainLemmas
+pub mod TextLemmas
 pub mod UpdateLemmas
 pub mod Written

@@ -1,8 +1,8 @@
 -- Facts about lists and options alone.
-use Rattle.std.proofs.Common.{Option, Some, None, is_some, slice_get, slice_set, ◌++◌, ◌≡◌, ℕ, suc, ◌+◌, ◌-◌, ◌<◌, List, [], ◌∷◌, length, get_or, take, map, refl, ap, ◌∙◌, arith, sub-one}
+use Rattle.std.proofs.Common.{Option, Some, None, is_some, slice_get, slice_set, ◌++◌, ◌≡◌, ℕ, suc, zero, ◌+◌, ◌-◌, ◌<◌, List, [], ◌∷◌, length, get_or, set, take, map, refl, ap, sym, ◌∙◌, arith, sub-one}
 use Rattle.std.specs.Option.{MatchOption, option_map}
 use Rattle.std.specs.List.{swap_remove, refill}
-use Rattle.std.proofs.lemmas.List.{get_or-map, map-set, take-map, length-map, length-append, drop_more, drop_all, take_at}
+use Rattle.std.proofs.lemmas.List.{get_or-map, map-set, take-map, length-map, length-append, length-set, append-nil, drop_more, drop_all, take_at}
 use Rattle.std.proofs.Math.Seq.{set-append_seam}
 use Rattle.micromap_core.specs.Pairs.{last_first}
 
@@ -32,6 +32,14 @@ pub swap_remove-suc : {X : Type 0} (x : X) (xs : List X) (i : ℕ) (d : X) → i
 swap_remove-suc x [] i d within = absurd (omega arith)
 swap_remove-suc x (y ∷ ys) i d within = simp sub-one
 
+-- what stood in the gap says nothing of the rest
+pub swap_remove-set : {X : Type 0} (xs : List X) (i : ℕ) (x d e : X) → i < length xs → swap_remove (set xs i x) i d ≡ swap_remove xs i e
+swap_remove-set [] i x d e within = absurd (omega arith)
+swap_remove-set (y ∷ ys) zero x d e within = swap_remove-zero x ys d ∙ sym (swap_remove-zero y ys e)
+swap_remove-set (y ∷ ys) (suc i) x d e within =
+    let inside : i < length ys = omega (arith, within) in
+    swap_remove-suc y (set ys i x) i d (rw length-set inside) ∙ ap (λ l. y ∷ l) (swap_remove-set ys i x d e inside) ∙ sym (swap_remove-suc y ys i e inside)
+
 -- a function of the value leaves whether there is one
 pub is_some-option_map : {X Y : Type 0} (f : X → Y) (o : Option X) → is_some (option_map f o) ≡ is_some o
 is_some-option_map f None = refl
@@ -53,6 +61,10 @@ module _ {P : Type 0} where
   swap_remove_after : (kept : List P) (p : P) (rest : List P) (d : P) → swap_remove (kept ++ p ∷ rest) (length kept) d ≡ kept ++ last_first rest
   swap_remove_after [] p rest d = swap_remove-zero p rest d
   swap_remove_after (x ∷ kept) p rest d = swap_remove-suc x (kept ++ p ∷ rest) (length kept) d (omega (arith, length-append kept (p ∷ rest))) ∙ ap (λ l. x ∷ l) (swap_remove_after kept p rest d)
+
+  -- a removal of the last one
+  pub swap_remove_last : (xs : List P) (p d : P) → swap_remove (xs ++ p ∷ []) (length xs) d ≡ xs
+  swap_remove_last xs p d = swap_remove_after xs p [] d ∙ append-nil xs
 
   -- a write and a removal at the index after them
   pub set_next : (kept : List P) (p : P) (rest : List P) (q : P) (now : List P) (index : ℕ) → now ≡ kept ++ p ∷ rest → index ≡ length kept → slice_set now index q ≡ kept ++ q ∷ rest

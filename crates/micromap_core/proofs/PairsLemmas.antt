@@ -12,8 +12,7 @@ use Rattle.std.proofs.lemmas.List.Sorted.{IsPermutation-swap_remove, IsPermutati
 use Rattle.std.proofs.lemmas.Map.{keys-set_value}
 use Rattle.std.proofs.lemmas.Map.Keys.{IsDistinct-push, IsDistinct-tail, IsDistinct-IsPermutation, IsDistinct-from_apart, apart_from_distinct}
 use Rattle.std.proofs.lemmas.Option.{get_or_from_slice_get, slice_get_within}
-use Rattle.micromap_core.specs.Places.{with_value_at}
-use Rattle.micromap_core.specs.Pairs.{has, place, place_by, has_room, fits, put, put_key, take_out_by, IsUnique}
+use Rattle.micromap_core.specs.Pairs.{has, place, place_by, has_room, fits, put, put_key, take_out_by, IsUnique, with_value_at}
 use Rattle.micromap_core.proofs.Lists.{swap_remove-zero, swap_remove-suc}
 
 module _ {K V : Type 0} (test : K → Bool) where

@@ -1,10 +1,9 @@
 -- Facts about filled places, and about the pairs that stand in them.
-use Rattle.std.proofs.Common.{Bor, ◌≡◌, ℕ, ◌+◌, ◌<◌, ◌≤◌, ◌-◌, take, Bool, true, false, not, cond, List, [], ◌∷◌, ◌++◌, length, get_or, set, drop, map, Option, Some, None, is_some, slice_get, refl, ap, sym, ◌∙◌, arith}
+use Rattle.std.proofs.Common.{◌≡◌, ℕ, ◌+◌, ◌<◌, ◌≤◌, ◌-◌, take, Bool, true, false, not, cond, List, [], ◌∷◌, ◌++◌, length, get_or, set, drop, map, Option, Some, None, is_some, slice_get, refl, ap, sym, ◌∙◌, arith}
 use Rattle.std.proofs.lemmas.Bool.{false≢true}
 use Rattle.std.proofs.lemmas.Option.{slice_get-get_or}
 use Rattle.std.specs.List.{IsDistinct, position_or_len, swap_remove}
 use Rattle.std.specs.Map.{keys_of, lookup_entry}
-use Rattle.std.specs.Option.{option_copied}
 use Rattle.std.proofs.Math.Seq.{take-length}
 use Rattle.std.proofs.lemmas.List.{get_or-map, map-set, map-append}
 use Rattle.micromap_walk.proofs.FilledLemmas.{first_some, rest_filled}
@@ -58,11 +57,6 @@ ArePlaces-from eq places pairs made unique = record {
   filled = AreFilled-from places pairs made;
   unique = rw (made, items_of-map pairs) unique;
 }
-
--- the pair behind a reference is there where the reference is
-pub found_behind : {X : Type 0} (found : Option (Bor X)) → is_some (option_copied found) ≡ is_some found
-found_behind None = refl
-found_behind (Some x) = refl
 
 -- a scan has come to the places that are left: nothing before them matches
 pub record ScanStands {K V : Type 0} (test : K → Bool) (places rest : List (Option (K × V))) : Type 0 where

@@ -1,11 +1,12 @@
 -- An entry after a write of its value, and after the insertion of its key.
 use Rattle.std.proofs.Common.{◌≡◌, ℕ, List, [], ◌∷◌, ◌++◌, length, Some, slice_get, refl, ap, ◌∙◌}
 use Rattle.std.specs.Borrow.{MutBor}
+use Rattle.micromap_core.specs.Pairs.{with_value_at}
 use Rattle.micromap_core.specs.Entry.{Occupied, Vacant, IsWritten}
-use Rattle.micromap_core.specs.Places.{with_value_at}
 use Rattle.micromap_core.specs.declared.entry.OccupiedIn.{OccupiedIn}
 use Rattle.micromap_core.specs.declared.entry.VacantIn.{VacantIn}
-use Rattle.micromap_core.proofs.EntryLemmas.{read_written, written_again, slice_get_push, pushed_written}
+use Rattle.micromap_core.proofs.Lists.{swap_remove_last}
+use Rattle.micromap_core.proofs.EntryLemmas.{read_written, taken_written, written_again, slice_get_push, pushed_written}
 
 module _ {K V : Type 0} where
   pub occupied_written : (o : OccupiedIn (List (K × V))) (p : K × V) (v : V) (new : MutBor (List (K × V))) → slice_get o.map.now o.index ≡ Some p → new.ghost_name ≡ o.map.ghost_name → new.now ≡ with_value_at o.map.now o.index v → IsWritten (Occupied o) v (Occupied (record { map = new; index = o.index }))
@@ -17,6 +18,7 @@ module _ {K V : Type 0} where
         key = rw (read, here) refl;
         value = rw read refl;
         puts = λ w. rw now (written_again o.map.now o.index p here v w);
+        taken = rw (read, here, now) (taken_written o.map.now o.index p here v);
         occupied = refl;
       }
 
@@ -29,5 +31,6 @@ module _ {K V : Type 0} where
         key = rw read refl;
         value = rw read refl;
         puts = λ w. rw (now, at_end) (pushed_written e.map.now e.key v w);
+        taken = rw (read, now, at_end) (swap_remove_last e.map.now (e.key, v) (e.key, v));
         occupied = refl;
       }

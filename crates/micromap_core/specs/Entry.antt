@@ -5,8 +5,7 @@ use Rattle.std.specs.Option.{option_map, option_map_or, IsSomeAnd}
 use Rattle.std.specs.Fn.{FnOnceReturnsAt, Once}
 use Rattle.std.specs.List.{swap_remove}
 use Rattle.std.specs.Borrow.{Bor, MutBor, RattleType, Fml, follows}
-use Rattle.micromap_core.specs.Pairs.{place, has_room}
-use Rattle.micromap_core.specs.Places.{with_value_at}
+use Rattle.micromap_core.specs.Pairs.{place, has_room, with_value_at}
 use Rattle.micromap_core.specs.declared.entry.EntryIn.{EntryIn}
 use Rattle.micromap_core.specs.declared.entry.OccupiedIn.{OccupiedIn}
 use Rattle.micromap_core.specs.contracts.map.Map.{the_row}
@@ -64,6 +63,7 @@ module _ {K V : Type 0} where
     pub key : entry_key d ≡ entry_key e
     pub value : entry_value d ≡ Some v
     pub puts : (w : V) → entry_put d w ≡ entry_put e w
+    pub taken : entry_taken d ≡ entry_taken e
     pub occupied : is_occupied d ≡ true
 
   -- o once v is its value

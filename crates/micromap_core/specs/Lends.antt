@@ -2,9 +2,9 @@
 use Rattle.std.specs.Prelude.{ℕ, Bool, List, [], ◌∷◌, Option}
 use Rattle.std.specs.Borrow.{Lends, LendsIf, Fml, RattleType, MutBor}
 use Rattle.std.specs.contracts.option.Option.{the_row as option_row}
-use Rattle.micromap_core.specs.Pairs.{put}
+use Rattle.micromap_core.specs.Pairs.{put, with_value_at}
 use Rattle.micromap_core.specs.Probe.{put_matched}
-use Rattle.micromap_core.specs.Places.{with_value, with_value_at}
+use Rattle.micromap_core.specs.Places.{with_value}
 use Rattle.micromap_core.specs.contracts.map.Map.{the_row}
 use denote.Struct.Tuple.{Tuple}
 

@@ -1,6 +1,7 @@
 -- A map's content as a list of pairs of a key and a value, from front to end, and what one look-up, insertion
 -- or removal makes of it. Keys are compared by eq, which need not be identity; N is the capacity.
-use Rattle.std.specs.Prelude.{ℕ, ◌-◌, ◌≤◌, Bool, ◌||◌, List, [], ◌∷◌, ◌++◌, length, take, drop, Option, is_some, if◌then◌else◌, nat_lt}
+use Rattle.std.specs.Prelude.{ℕ, ◌-◌, ◌≤◌, Bool, ◌||◌, List, [], ◌∷◌, ◌++◌, length, take, drop, Option, is_some, slice_get, slice_set, if◌then◌else◌, nat_lt}
+use Rattle.std.specs.Option.{option_map_or}
 use Rattle.std.specs.List.{IsDistinct, position}
 use Rattle.std.specs.Map.{keys_of, lookup, lookup_entry, set_value, set_key}
 
@@ -16,6 +17,10 @@ module _ {K V : Type 0} where
   -- the number of pairs before the first whose key passes the test
   abbrev pub place_by : (K → Bool) → List (K × V) → Option ℕ
   place_by test pairs = position test (keys_of pairs)
+
+  -- with v as the value of the pair at the index
+  abbrev pub with_value_at : List (K × V) → ℕ → V → List (K × V)
+  with_value_at pairs index v = option_map_or (λ p. slice_set pairs index (p.0, v)) (slice_get pairs index) pairs
 
   -- without the first pair whose key passes the test: the last pair moves into the gap
   unfoldable pub take_out_by : (K → Bool) → List (K × V) → List (K × V)

@@ -1,7 +1,7 @@
 -- The places that a map keeps its pairs in. No contract of a public call cites this file.
 pub use Rattle.micromap_walk.specs.Filled.{items_of, AreFilled}
 use Rattle.std.specs.Prelude.{◌≡◌, ℕ, Bool, List, Option, Some, slice_get, slice_set}
-use Rattle.std.specs.Option.{option_map, option_map_or}
+use Rattle.std.specs.Option.{option_map}
 use Rattle.micromap_core.specs.Pairs.{IsUnique}
 
 -- the places of a map: filled, with keys pairwise unequal
@@ -23,7 +23,3 @@ module _ {K V : Type 0} where
   -- the value of the pair in the place
   abbrev pub value_of : Option (K × V) → Option V
   value_of place = option_map (λ p. p.1) place
-
--- the pairs with v as the value of the pair at the index
-abbrev pub with_value_at : {K V : Type 0} → List (K × V) → ℕ → V → List (K × V)
-with_value_at pairs index v = option_map_or (λ p. slice_set pairs index (p.0, v)) (slice_get pairs index) pairs

@@ -1,8 +1,9 @@
 //! Building a map from items, which are put one after the other by the rule of `insert`: each distinct key is stored
 //! as it came first, in that order, with the value of its last item.
-ghost use Rattle.std.specs.Prelude.{◌≡◌, ◌-◌, ◌^◌, [], IfOk, OnErr, IfErr};
+ghost use Rattle.std.specs.Prelude.{◌≡◌, ◌-◌, ◌^◌, [], IsTrue, IfOk, OnErr, IfErr};
 ghost use Rattle.std.specs.Iterator.{UpTo};
-ghost use Rattle.micromap_core.specs.Build.{build, BuiltFrom, MisfitAt};
+ghost use Rattle.std.specs.Iterator.Runs.{WholeRun};
+ghost use Rattle.micromap_core.specs.Build.{all_fit, build, BuiltFrom, MisfitAt};
 
 use crate::map::Map;
 use std::error::Error;
@@ -30,9 +31,10 @@ impl fmt::Display for Overfull {
 impl Error for Overfull {}
 
 impl<K: Eq + Copy, V: Copy, const N: usize> From<[(K, V); N]> for Map<K, V, N> {
-    ghost from_gives = { λ items map. map ≡ build K.eq [] items };
+    ghost from_gives = { λ items map. (map ≡ build K.eq [] items) × IsTrue (all_fit K.eq N [] items) };
 
-    /// The map of these items. There is room for each.
+    /// The map of these items: each distinct key as it came first, with the value of its last item. Each item fits,
+    /// and costs one scan.
     fn from(items: [(K, V); N]) -> Self {
         let mut map = Map::new();
         for index in 0..N {
@@ -52,6 +54,7 @@ impl<K: Eq + Drop, V: Drop, const N: usize> Map<K, V, N> {
         requires can { I.can_next items }
         requires ends { UpTo (I.remaining items) (2 ^ 64 - 2) }
         ensures built { IfOk result (BuiltFrom K.eq I.next_gives N items) }
+        ensures runs { IfOk result (λ map. WholeRun I.next_gives items (λ p. map ≡ build K.eq [] p.items)) }
         ensures misfit { IfErr result (λ e. MisfitAt K.eq I.next_gives N items e.at) }
     {
         let mut map = Map::new();

@@ -15,7 +15,7 @@ impl<K: Eq + Drop, V: Drop, const N: usize> Map<K, V, N> {
     /// Keeps the pairs for which `keep` answers `true`, with the values that it left, and drops the others.
     ///
     /// The first pair is visited first. After a yes the next is the front-most pair not yet visited, after a no the
-    /// last one. Each pair is visited once, and the kept ones stand in the order of their visits.
+    /// last one. Each pair is visited once, and the kept ones stand in the order of their visits. It compares no key.
     pub fn retain<F: FnMut(&K, &mut V) -> bool>(&mut self, mut keep: F)
         requires { CallableOnQueue (CalledAtPair F.FnMut) keep self.old (TakesPair F.FnMut) }
         ensures { Retains (CalledAtPair F.FnMut) keep self.old self.new }
@@ -32,7 +32,7 @@ impl<K: Eq + Drop, V: Drop, const N: usize> Map<K, V, N> {
 }
 
 impl<K: Eq, V, const N: usize> Map<K, V, N> {
-    /// Calls `update` at each pair from the front. Keys, order and length stay.
+    /// Calls `update` at each pair from the front. Keys, order and length stay. It compares no key.
     pub fn update_all<F: FnMut(&K, &mut V)>(&mut self, mut update: F)
         requires { CallableOnEachPair (KeepsAll (CalledAtPair F.FnMut)) (TakesPair F.FnMut) update self.old }
         ensures { UpdatesPairs (CalledAtPair F.FnMut) update self.old self.new }
@@ -45,7 +45,7 @@ impl<K: Eq, V, const N: usize> Map<K, V, N> {
     /// Calls `update` with the position in `keys` and the value of each key that is stored, in the order of `keys`, and
     /// answers which are. No other value changes.
     ///
-    /// The keys are pairwise unequal, as a check of `keys` beforehand tells; each is looked up by one scan.
+    /// The keys must be pairwise unequal: `==` of them tells. Each is looked up by one scan.
     pub fn update_disjoint<const J: usize, F: FnMut(usize, &mut V)>(
         &mut self,
         keys: &[K; J],

@@ -18,7 +18,7 @@ use std::marker::Model;
 /// A map of at most `N` pairs, whose keys are found by `==` from the front and pairwise unequal.
 ///
 /// A contract sees it as the list of its pairs, from front to end. All its room is part of the value, so no call
-/// takes memory. A scan compares the keys from the front, each at most once.
+/// takes memory of its own. A scan compares the keys from the front, each at most once.
 #[derive(Drop)]
 pub struct Map<K: Eq, V, const N: usize> {
     places: ArrayVec<Option<(K, V)>, N>,

@@ -1,6 +1,6 @@
 //! Finding a key by something other than a key.
-ghost use Rattle.std.specs.Prelude.{◌≡◌, Bool, true, ◌==◌, length};
-ghost use Rattle.std.specs.String.{string_bytes, string_capacity};
+ghost use Rattle.std.specs.Prelude.{◌≡◌, Bool, true};
+ghost use Rattle.std.specs.String.{string_bytes};
 ghost use Rattle.std.proofs.lemmas.Cmp.{nat_list_eq_equiv};
 ghost use Rattle.micromap_core.specs.Probe.{is_text};
 ghost use Rattle.micromap_core.specs.ProbeLaws.{alike, equal};

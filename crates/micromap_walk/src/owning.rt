@@ -11,7 +11,7 @@ use arrayvec::ArrayVec;
 use std::iter::FusedIterator;
 use std::marker::Model;
 
-/// The pairs by value, from the end.
+/// The pairs by value, from the end. What isn't taken is dropped with the walk.
 #[derive(Drop)]
 pub struct IntoIter<K, V, const N: usize> {
     places: ArrayVec<Option<(K, V)>, N>,
@@ -91,7 +91,7 @@ impl<K, V, const N: usize> Default for IntoIter<K, V, N> {
     }
 }
 
-/// The keys of the pairs by value, from the end.
+/// The keys of the pairs by value, from the end. What isn't taken is dropped with the walk.
 #[derive(Drop)]
 pub struct IntoKeys<K, V, const N: usize> {
     pub(crate) pairs: IntoIter<K, V, N>,
@@ -160,7 +160,7 @@ impl<K, V, const N: usize> Default for IntoKeys<K, V, N> {
     }
 }
 
-/// The values of the pairs by value, from the end.
+/// The values of the pairs by value, from the end. What isn't taken is dropped with the walk.
 #[derive(Drop)]
 pub struct IntoValues<K, V, const N: usize> {
     pub(crate) pairs: IntoIter<K, V, N>,

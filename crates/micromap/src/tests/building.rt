@@ -1,6 +1,25 @@
-//! Maps built from items, and what is said of the first that doesn't fit.
+//! Maps built from items, what is said of the first that doesn't fit, and a caller's proof over the items.
+ghost use Rattle.std.specs.Prelude.{◌≡◌, [], IfOk, nat_eq};
+ghost use Rattle.std.specs.Vec.{vec_items};
+ghost use Rattle.micromap.specs.Build.{build};
+
 use crate::{Map, Overfull};
 use std::alloc::AllocError;
+
+// The map of these items, where they fit.
+fn of_items<const N: usize>(items: Vec<(u8, u8)>) -> Result<Map<u8, u8, N>, Overfull>
+    ensures { IfOk result (λ map. map ≡ build nat_eq [] (vec_items items)) }
+{
+    Map::try_from_iter(items.into_iter())
+}
+
+#[test]
+fn a_vector_becomes_a_map(rt: HostRuntime) -> Result<(), AllocError> {
+    let items = vec![in rt.alloc(); (1, 10), (2, 20), (1, 11)]?;
+    let map: Result<Map<u8, u8, 2>, Overfull> = of_items(items);
+    assert!(rt; map.is_ok_and(|map| map.into_iter().eq([(2, 20), (1, 11)])));
+    Ok(())
+}
 
 #[test]
 fn items_are_put_in_turn(rt: HostRuntime) {

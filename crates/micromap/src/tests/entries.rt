@@ -1,13 +1,15 @@
-//! Entries as a user writes them, and two callers' proofs over the final list.
+//! Entries as a user writes them, and three callers' proofs over the final list.
 ghost use Rattle.std.specs.Prelude.{◌≡◌, ◌+ℤ◌, IfOk, IsTrue, nat_eq, pos};
 ghost use Rattle.std.specs.Int.{saturate_signed, w32};
 ghost use Rattle.std.specs.Option.{option_map_or, unwrap_or};
 ghost use Rattle.micromap.specs.Entry.{IsSound, entry_has_room};
-ghost use Rattle.micromap.specs.Pairs.{at, fits, put};
+ghost use Rattle.micromap_core.specs.declared.entry.EntryIn.TheVariants.{Occupied, Vacant};
+ghost use Rattle.micromap.specs.Pairs.{at, fits, has, put, take_out};
 
 use super::tagged::Tagged;
 use crate::Map;
-use crate::map::Entry;
+use crate::map::{Entry, OccupiedEntry, VacantEntry};
+use std::process::Abort;
 use std::test::Fail;
 
 // Counts one more `letter`.
@@ -108,39 +110,86 @@ fn open<const N: usize>(
     }
 }
 
-#[test]
-fn a_value_is_put_where_there_is_none(rt: HostRuntime) -> Result<(), Fail> {
-    let mut map = letters();
+// The entry of a stored letter.
+fn stored<const N: usize>(
+    map: &mut Map<char, u8, N>,
+    letter: char,
+) -> Result<OccupiedEntry<'_, char, u8, N>, Fail>
+    ensures { IfOk result (λ o. IsSound nat_eq (Occupied o)) }
+{
+    match map.entry(letter) {
+        Entry::Occupied(entry) => Ok(entry),
+        Entry::Vacant(_) => Err(Fail::from("the letter is there")),
+    }
+}
+
+// The entry of a new letter for which there is room.
+fn free<const N: usize>(
+    map: &mut Map<char, u8, N>,
+    letter: char,
+) -> Result<VacantEntry<'_, char, u8, N>, Fail>
+    ensures { IfOk result (λ e. IsSound nat_eq (Vacant e) × IsTrue (entry_has_room N (Vacant e))) }
+{
+    match map.entry(letter) {
+        Entry::Vacant(entry) if entry.has_room() => Ok(entry),
+        _ => Err(Fail::from("the letter is new, and there is room")),
+    }
+}
+
+// The first part of the run: values that are put where there is none, and written.
+fn put_and_write(rt: &impl Abort, map: &mut Map<char, u8, 10>) -> Result<(), Fail> {
     assert_eq!(rt; *map.entry('c').key(), 'c');
-    assert_eq!(rt; *open(&mut map, 'e')?.or_insert(101), 101);
-    assert_eq!(rt; *open(&mut map, 'e')?.or_insert(101), 101);
-    assert_eq!(rt;
-        *open(&mut map, 'e')?
-            .and_modify(|value| *value = 42)
-            .or_default(),
-        42
-    );
+    assert_eq!(rt; *open(map, 'e')?.or_insert(101), 101);
+    assert_eq!(rt; *open(map, 'e')?.or_insert(101), 101);
+    let entry = open(map, 'e')?.and_modify(|value| *value = 42);
+    assert_eq!(rt; *entry.or_default(), 42);
     assert_eq!(rt; *map.entry('g').key(), 'g');
     assert!(rt; !map.contains_key(&'g'));
-    assert_eq!(rt;
-        *open(&mut map, 'g')?
-            .and_modify(|value| *value = 42)
-            .or_default(),
-        0
-    );
-    assert_eq!(rt; *open(&mut map, 'f')?.or_insert_with(|| 43), 43);
-    assert_eq!(rt; *open(&mut map, 'f')?.or_insert_with(|| 44), 43);
+    let entry = open(map, 'g')?.and_modify(|value| *value = 42);
+    assert_eq!(rt; *entry.or_default(), 0);
+    let mut entry = stored(map, 'e')?;
+    assert_eq!(rt; *entry.get(), 42);
+    *entry.get_mut() = 69;
+    assert_eq!(rt; *entry.get(), 69);
+    *entry.into_mut() = 101;
+    Ok(())
+}
+
+// The second part: values that a closure makes.
+fn make(rt: &impl Abort, map: &mut Map<char, u8, 10>) -> Result<(), Fail> {
+    assert_eq!(rt; *open(map, 'f')?.or_insert_with(|| 43), 43);
+    assert_eq!(rt; *open(map, 'f')?.or_insert_with(|| 44), 43);
     assert_eq!(rt; map.remove_entry(&'f'), Some(('f', 43)));
+    let entry = open(map, 'f')?;
     assert_eq!(rt;
-        *open(&mut map, 'f')?.or_insert_with_key(|key| (*key as u32 % 256) as u8),
+        *entry.or_insert_with_key(|key| (*key as u32 % 256) as u8),
         102
     );
-    assert_eq!(rt; *open(&mut map, 'f')?.or_insert_with_key(|_| 255), 102);
-    let Entry::Occupied(entry) = map.entry('e') else {
-        return Err(Fail::from("e is there"));
-    };
-    assert_eq!(rt; entry.remove(), 42);
-    assert_eq!(rt; *open(&mut map, 'e')?.insert_entry(101).get(), 101);
+    assert_eq!(rt; *open(map, 'f')?.or_insert_with_key(|_| 255), 102);
+    Ok(())
+}
+
+// The third part: a pair that goes and comes.
+fn take_and_put(rt: &impl Abort, map: &mut Map<char, u8, 10>) -> Result<(), Fail> {
+    assert_eq!(rt; stored(map, 'e')?.remove(), 101);
+    assert_eq!(rt; *free(map, 'e')?.key(), 'e');
+    assert_eq!(rt; free(map, 'e')?.into_key(), 'e');
+    assert_eq!(rt; *free(map, 'e')?.insert(101), 101);
+    let mut entry = stored(map, 'e')?;
+    assert_eq!(rt; *entry.key(), 'e');
+    assert_eq!(rt; entry.insert(69), 101);
+    assert_eq!(rt; entry.remove_entry(), ('e', 69));
+    assert_eq!(rt; *free(map, 'e')?.insert_entry(100).key(), 'e');
+    assert_eq!(rt; *open(map, 'e')?.insert_entry(101).get(), 101);
+    Ok(())
+}
+
+#[test]
+fn a_long_run_of_entries(rt: HostRuntime) -> Result<(), Fail> {
+    let mut map = letters();
+    put_and_write(&rt, &mut map)?;
+    make(&rt, &mut map)?;
+    take_and_put(&rt, &mut map)?;
     let codes = [
         ('a', 97),
         ('d', 100),
@@ -154,43 +203,28 @@ fn a_value_is_put_where_there_is_none(rt: HostRuntime) -> Result<(), Fail> {
     Ok(())
 }
 
+// Raises the value of a key that is there, and takes it out by the same entry.
+fn raise_and_take<const N: usize>(map: &mut Map<u8, u8, N>, key: u8) -> bool
+    ensures answer { result ≡ has nat_eq map.old key }
+    ensures taken { map.new ≡ take_out nat_eq map.old key }
+{
+    let entry = map.entry(key);
+    match entry.and_modify(|value| *value = value.wrapping_add(1)) {
+        Entry::Occupied(entry) => {
+            entry.remove();
+            true
+        }
+        Entry::Vacant(entry) => {
+            entry.into_key();
+            false
+        }
+    }
+}
+
 #[test]
-fn a_stored_value_is_lent_and_taken(rt: HostRuntime) -> Result<(), Fail> {
-    let mut map = letters();
-    map.checked_insert('e', 42);
-    let Entry::Occupied(mut entry) = map.entry('e') else {
-        return Err(Fail::from("e is there"));
-    };
-    assert_eq!(rt; *entry.get(), 42);
-    *entry.get_mut() = 69;
-    assert_eq!(rt; *entry.get(), 69);
-    *entry.into_mut() = 101;
-    let Entry::Occupied(entry) = map.entry('e') else {
-        return Err(Fail::from("e is there"));
-    };
-    assert_eq!(rt; entry.remove(), 101);
-    let Entry::Vacant(entry) = map.entry('e') else {
-        return Err(Fail::from("e is new"));
-    };
-    assert_eq!(rt; *entry.key(), 'e');
-    assert_eq!(rt; entry.into_key(), 'e');
-    if let Entry::Vacant(entry) = map.entry('e')
-        && entry.has_room()
-    {
-        assert_eq!(rt; *entry.insert(101), 101);
-    }
-    let Entry::Occupied(mut entry) = map.entry('e') else {
-        return Err(Fail::from("e is there"));
-    };
-    assert_eq!(rt; *entry.key(), 'e');
-    assert_eq!(rt; entry.insert(69), 101);
-    assert_eq!(rt; entry.remove_entry(), ('e', 69));
-    assert_eq!(rt; map.len(), 4);
-    if let Entry::Vacant(entry) = map.entry('e')
-        && entry.has_room()
-    {
-        assert_eq!(rt; *entry.insert_entry(102).key(), 'e');
-    }
-    assert_eq!(rt; map.get(&'e'), Some(&102));
-    Ok(())
+fn a_written_pair_is_taken_out(rt: HostRuntime) {
+    let mut map: Map<u8, u8, 3> = Map::from([(1, 10), (2, 20), (3, 30)]);
+    assert!(rt; raise_and_take(&mut map, 1));
+    assert!(rt; !raise_and_take(&mut map, 1));
+    assert!(rt; map.drain().eq([(3, 30), (2, 20)]));
 }

@@ -1,6 +1,7 @@
-//! The keyed calls with a condition, the calls by probe, and a caller's proof over a lent value.
-ghost use Rattle.std.specs.Prelude.{◌≡◌, nat_eq, if◌then◌else◌};
-ghost use Rattle.micromap.specs.Pairs.{has, put};
+//! The keyed calls with a condition, the calls by probe, and callers' proofs over a lent value and over what a
+//! look-up finds after a put and a removal.
+ghost use Rattle.std.specs.Prelude.{◌≡◌, Some, None, IsTrue, nat_eq, if◌then◌else◌};
+ghost use Rattle.micromap.specs.Pairs.{fits, has, put};
 
 use super::tagged::{Id, Tagged};
 use crate::{Map, Text};
@@ -13,6 +14,32 @@ fn overwrite<const N: usize>(map: &mut Map<u8, u8, N>, key: u8, value: u8)
     if let Some(stored) = map.get_mut(&key) {
         *stored = value;
     }
+}
+
+// Puts a pair and looks its key up.
+fn put_and_get<const N: usize>(map: &mut Map<u8, u8, N>, key: u8, value: u8) -> Option<u8>
+    requires { IsTrue (fits nat_eq N map.old key) }
+    ensures { result ≡ Some value }
+{
+    map.insert(key, value);
+    map.get(&key).copied()
+}
+
+// Takes a pair out and looks its key up.
+fn take_and_get<const N: usize>(map: &mut Map<u8, u8, N>, key: u8) -> Option<u8>
+    ensures { result ≡ None }
+{
+    // What holds of each map's content is learnt from `len`.
+    let _held = map.len();
+    map.remove(&key);
+    map.get(&key).copied()
+}
+
+#[test]
+fn what_is_put_is_found_and_what_is_taken_is_not(rt: HostRuntime) {
+    let mut map: Map<u8, u8, 2> = Map::new();
+    assert_eq!(rt; put_and_get(&mut map, 1, 10), Some(10));
+    assert_eq!(rt; take_and_get(&mut map, 1), None);
 }
 
 #[test]
@@ -49,8 +76,9 @@ fn a_removed_entry_is_gone(rt: HostRuntime) {
 fn a_full_map_takes_a_stored_key(rt: HostRuntime) {
     let mut map: Map<i32, i32, 1> = Map::with_capacity(1);
     assert_eq!(rt; map.insert(1, 42), None);
-    assert_eq!(rt; map.insert_unchecked(1, 42), Some(42));
+    assert_eq!(rt; map.insert(1, 42), Some(42));
     assert_eq!(rt; map.len(), 1);
+    assert_eq!(rt; map.insert_unchecked(1, 41), Some(42));
     assert!(rt; map.contains_key(&1));
     *map.index_mut(&1) = 43;
     assert_eq!(rt; map.get_key_value(&1), Some((&1, &43)));
@@ -85,6 +113,7 @@ fn texts_find_their_keys(rt: HostRuntime) -> Result<(), Fail> {
     assert_eq!(rt; name.as_str(), "one");
     assert_eq!(rt; value, 1);
     assert_eq!(rt; map.get_by(&Text("one")), None);
+    assert_eq!(rt; map.len(), 2);
     assert_eq!(rt; map.remove_by(&Text("three")), Some(5));
     assert_eq!(rt; map.len(), 1);
     Ok(())

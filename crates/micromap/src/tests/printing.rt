@@ -1,6 +1,21 @@
-//! The texts of a map and of its walks.
+//! The texts of a map and of its walks, and a caller's proof over a map's text.
+ghost use Rattle.std.specs.Prelude.{◌≡◌, Some, IfOk};
+ghost use Rattle.std.specs.String.{string_bytes};
+ghost use Rattle.micromap.specs.Print.{map_text};
+
 use crate::Map;
-use std::alloc::AllocError;
+use std::alloc::{AllocError, Global};
+
+// The text of a map of texts.
+fn text_of<const N: usize>(
+    alloc: Global,
+    map: &Map<String, String, N>,
+) -> Result<String, AllocError>
+    ensures { IfOk result (λ text. map_text (λ k. Some (string_bytes k)) (λ v. Some (string_bytes v)) map.now ≡ Some (string_bytes text)) }
+{
+    format!(in alloc; "{map}")
+}
+
 use std::fmt::{self, Write};
 
 #[test]
@@ -18,8 +33,8 @@ fn a_map_prints_its_pairs(rt: HostRuntime) -> Result<(), AllocError> {
         format!(in alloc; "{names:?}")?.as_str(),
         "{\"one\": 42, \"two\": 16}"
     );
-    let none: Map<u8, u8, 3> = Map::new();
-    assert_eq!(rt; format!(in alloc; "{none}")?.as_str(), "{}");
+    let none = Map::new();
+    assert_eq!(rt; text_of::<3>(alloc, &none)?.as_str(), "{}");
     Ok(())
 }
 

@@ -57,7 +57,7 @@ impl<'a, K: Eq, V, const N: usize> EntryIn<'a, K, Map<K, V, N>> {
         }
     }
 
-    /// Calls `f` on the value, if there is one.
+    /// Calls `f` on the value, if there is one, and answers the entry. It compares no key.
     pub fn and_modify<F: FnOnce(&mut V)>(self, f: F) -> Self
         requires sound { IsSound K.eq self }
         requires callable { (p : MutBor V) → entry_value self ≡ Some p.now → F.pre f p }
@@ -67,6 +67,7 @@ impl<'a, K: Eq, V, const N: usize> EntryIn<'a, K, Map<K, V, N>> {
         ensures value { ModifiesValue F.FnOnce f (entry_value self.entry) (entry_value result) }
         ensures pairs { entry_pairs result ≡ option_map_or (entry_put self.entry) (entry_value result) (entry_pairs self.entry) }
         ensures puts { (v : V) → entry_put result v ≡ entry_put self.entry v }
+        ensures taken { entry_taken result ≡ entry_taken self.entry }
         ensures sound { IsSound K.eq result }
     {
         match self {
@@ -81,6 +82,8 @@ impl<'a, K: Eq, V, const N: usize> EntryIn<'a, K, Map<K, V, N>> {
 
 impl<'a, K: Eq + Drop, V: Drop, const N: usize> EntryIn<'a, K, Map<K, V, N>> {
     /// Puts `default` where the key is new, and lends the key's value.
+    ///
+    /// The entry must be occupied, or there must be room: `has_room` tells. It compares no key.
     pub fn or_insert(self, default: V) -> &'a mut V
         requires sound { IsSound K.eq self }
         requires room { IsTrue (entry_has_room N self) }
@@ -91,6 +94,8 @@ impl<'a, K: Eq + Drop, V: Drop, const N: usize> EntryIn<'a, K, Map<K, V, N>> {
     }
 
     /// Puts what `default` answers where the key is new, and lends the key's value. `default` is called only there.
+    ///
+    /// The entry must be occupied, or there must be room: `has_room` tells. It compares no key.
     pub fn or_insert_with<F: FnOnce() -> V>(self, default: F) -> &'a mut V
         requires sound { IsSound K.eq self }
         requires room { IsTrue (entry_has_room N self) }
@@ -103,6 +108,8 @@ impl<'a, K: Eq + Drop, V: Drop, const N: usize> EntryIn<'a, K, Map<K, V, N>> {
 
     /// Puts what `default` answers of the held key where it is new, and lends the key's value. `default` is called
     /// only there.
+    ///
+    /// The entry must be occupied, or there must be room: `has_room` tells. It compares no key.
     pub fn or_insert_with_key<F: FnOnce(&K) -> V>(self, default: F) -> &'a mut V
         requires sound { IsSound K.eq self }
         requires room { IsTrue (entry_has_room N self) }
@@ -120,6 +127,8 @@ impl<'a, K: Eq + Drop, V: Drop, const N: usize> EntryIn<'a, K, Map<K, V, N>> {
     }
 
     /// Puts a default value where the key is new, and lends the key's value.
+    ///
+    /// The entry must be occupied, or there must be room: `has_room` tells. It compares no key.
     pub fn or_default(self) -> &'a mut V
     where
         V: Default,
@@ -131,7 +140,9 @@ impl<'a, K: Eq + Drop, V: Drop, const N: usize> EntryIn<'a, K, Map<K, V, N>> {
         self.or_insert_with(|| V::default())
     }
 
-    /// Sets the value, where the stored key stays, or puts the held key with it last.
+    /// Sets the value, where the stored key stays, or puts the held key with it last, and answers the occupied entry.
+    ///
+    /// The entry must be occupied, or there must be room: `has_room` tells. It compares no key.
     pub fn insert_entry(self, value: V) -> OccupiedEntry<'a, K, V, N>
         requires sound { IsSound K.eq self }
         requires room { IsTrue (entry_has_room N self) }

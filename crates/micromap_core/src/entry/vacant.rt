@@ -32,6 +32,8 @@ impl<'a, K: Eq, V, const N: usize> VacantIn<'a, K, Map<K, V, N>> {
 
 impl<'a, K: Eq + Drop, V: Drop, const N: usize> VacantIn<'a, K, Map<K, V, N>> {
     /// Puts the held key with `value` last, and lends the value.
+    ///
+    /// There must be room: `has_room` tells. It compares no key.
     pub fn insert(self, value: V) -> &'a mut V
         requires sound { IsSound K.eq (Vacant self) }
         requires room { IsTrue (entry_has_room N (Vacant self)) }
@@ -45,6 +47,8 @@ impl<'a, K: Eq + Drop, V: Drop, const N: usize> VacantIn<'a, K, Map<K, V, N>> {
     }
 
     /// Puts the held key with `value` last, and answers its entry.
+    ///
+    /// There must be room: `has_room` tells. It compares no key.
     pub fn insert_entry(self, value: V) -> OccupiedEntry<'a, K, V, N>
         requires sound { IsSound K.eq (Vacant self) }
         requires room { IsTrue (entry_has_room N (Vacant self)) }

@@ -8,7 +8,7 @@ ghost use Rattle.micromap_core.specs.Lends.{lends_at, lends_at_if};
 use super::Map;
 
 impl<K: Eq, V, const N: usize> Map<K, V, N> {
-    /// The value at `key`, by one scan.
+    /// The value at `key`, or `None` where the key is missing, by one scan.
     #[inline]
     pub fn get(&self, key: &K) -> Option<&V>
         ensures { option_copied result ≡ at K.eq self.now key.now }
@@ -19,8 +19,8 @@ impl<K: Eq, V, const N: usize> Map<K, V, N> {
         }
     }
 
-    /// The value at `key`, for writing, by one scan. Once the borrow ends the map has what was written, and all else
-    /// is unchanged.
+    /// The value at `key`, for writing, or `None` where the key is missing, by one scan. Once the borrow ends the map
+    /// has what was written, and all else is unchanged.
     #[inline]
     pub fn get_mut(&mut self, key: &K) -> Option<&mut V>
         ensures* writes_back { sem 𝓛 (lends_at_if K.row V.row N.row K.eq self.entry key.now result) }
@@ -32,7 +32,7 @@ impl<K: Eq, V, const N: usize> Map<K, V, N> {
         }
     }
 
-    /// The stored key and its value, by one scan.
+    /// The stored key and its value, or `None` where the key is missing, by one scan.
     #[inline]
     pub fn get_key_value(&self, key: &K) -> Option<(&K, &V)>
         ensures { option_map (λ p. (p.0.now, p.1.now)) result ≡ pair K.eq self.now key.now }
@@ -60,7 +60,7 @@ impl<K: Eq, V, const N: usize> Map<K, V, N> {
         self.has_room() || self.contains_key(key)
     }
 
-    /// The value at a key that is there, by one scan.
+    /// The value at a key, by one scan. The key must be there: `contains_key` tells.
     #[inline]
     pub fn index(&self, key: &K) -> &V
         requires { IsTrue (has K.eq self.now key.now) }
@@ -72,7 +72,8 @@ impl<K: Eq, V, const N: usize> Map<K, V, N> {
         }
     }
 
-    /// The value at a key that is there, for writing, by one scan.
+    /// The value at a key, for writing, by one scan. The key must be there: `contains_key` tells. Once the borrow ends
+    /// the map has what was written, and all else is unchanged.
     #[inline]
     pub fn index_mut(&mut self, key: &K) -> &mut V
         requires { IsTrue (has K.eq self.old key.now) }

@@ -10,7 +10,7 @@ use super::Map;
 use crate::probe::Probe;
 
 impl<K: Eq, V, const N: usize> Map<K, V, N> {
-    /// The value at the key that matches, by one scan.
+    /// The value at the key that matches, or `None` where none does, by one scan.
     #[inline]
     pub fn get_by<P: Probe<K>>(&self, probe: &P) -> Option<&V>
         ensures { option_copied result ≡ at_matched K.eq (P.matches probe.now) self.now }
@@ -21,8 +21,8 @@ impl<K: Eq, V, const N: usize> Map<K, V, N> {
         }
     }
 
-    /// The value at the key that matches, for writing, by one scan. Once the borrow ends the map has what was written,
-    /// and all else is unchanged.
+    /// The value at the key that matches, for writing, or `None` where none does, by one scan. Once the borrow ends the
+    /// map has what was written, and all else is unchanged.
     #[inline]
     pub fn get_mut_by<P: Probe<K>>(&mut self, probe: &P) -> Option<&mut V>
         ensures* writes_back { sem 𝓛 (lends_matched_if K.row V.row N.row K.eq self.entry (P.matches probe.now) result) }
@@ -34,7 +34,7 @@ impl<K: Eq, V, const N: usize> Map<K, V, N> {
         }
     }
 
-    /// The key that matches and its value, by one scan.
+    /// The key that matches and its value, or `None` where none does, by one scan.
     #[inline]
     pub fn get_key_value_by<P: Probe<K>>(&self, probe: &P) -> Option<(&K, &V)>
         ensures { option_map (λ p. (p.0.now, p.1.now)) result ≡ pair_matched K.eq (P.matches probe.now) self.now }

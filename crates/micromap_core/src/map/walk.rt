@@ -71,6 +71,7 @@ impl<K: Eq + Drop, V: Drop, const N: usize> Map<K, V, N> {
     }
 }
 
+/// A loop over a map gives its pairs away from the end. What isn't taken is dropped with the walk.
 impl<K: Eq + Drop, V: Drop, const N: usize> IntoIterator for Map<K, V, N> {
     type Item = (K, V);
 
@@ -84,6 +85,7 @@ impl<K: Eq + Drop, V: Drop, const N: usize> IntoIterator for Map<K, V, N> {
     }
 }
 
+/// A loop over a reference to a map lends its pairs from the front.
 impl<'a, K: Eq, V, const N: usize> IntoIterator for &'a Map<K, V, N> {
     type Item = (&'a K, &'a V);
 

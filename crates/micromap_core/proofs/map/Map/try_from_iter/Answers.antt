@@ -1,6 +1,8 @@
-use Rattle.std.proofs.Common.{◌∷◌, [], ap, sym, ◌∙◌, arith, rules}
+use Rattle.std.proofs.Common.{◌≡◌, ◌∷◌, [], ap, sym, ◌∙◌, arith, rules}
+use Rattle.std.specs.Iterator.{Drains}
+use Rattle.std.proofs.iter.runs.Consumers.{total_runs}
 use Rattle.std.proofs.lemmas.List.{length-append}
-use Rattle.micromap_core.specs.Build.{IsMisfit}
+use Rattle.micromap_core.specs.Build.{build, IsMisfit}
 use Rattle.micromap_core.specs.Pairs.{fits, put}
 use Rattle.micromap_core.proofs.BuildLemmas.{build_more, all_fit_more, answered, unanswered, passed}
 use Rattle.micromap_core.proofs.CountLemmas.{fit_few, misfit_many}
@@ -43,3 +45,9 @@ returns-clause-built g c =
       few = fit_few g.K.PartialEq.eq g.met.K.Eq.laws g.row.N l.yielded l.invariant.4;
       built = l.invariant.3;
     }
+
+pub returns-clause-runs : goal.returns-clause-runs
+returns-clause-runs g c =
+    let l = c.loop-key in
+    let drained : Drains g.I.Iterator.next_gives c.args.items l.yielded = rw (← c.into_iter-key-iterator.ensures.into_iter_gives) (c.next.new.self, (l.key-iterator, l.yielded_by, c.in-None.ensures.steps)) in
+    total_runs g.I.Iterator.next_gives _ _ (λ items. l.map ≡ build g.K.PartialEq.eq [] items) (l.yielded, λ _. drained, l.invariant.3) (tt {0})

@@ -2,6 +2,7 @@ use Rattle.std.proofs.Common.{◌≡◌, refl, sym, ap, subst, ◌∙◌}
 use Rattle.std.specs.Option.{option_map}
 use Rattle.std.specs.Map.Calls.{MayWrite, ModifiesValue}
 use Rattle.micromap_core.specs.Entry.{entry_value}
+use Rattle.micromap_core.proofs.Lists.{swap_remove-set}
 use Rattle.micromap_core.proofs.EntryLemmas.{there, read_written, written_again}
 use Rattle.micromap_core.proofs.entry.methods.EntryIn+K+Map+K+V+N.and_modify.Goals as goal
 
@@ -28,3 +29,10 @@ returns-in-Occupied-clause-puts g c v =
     let o = c.in-Occupied.entry in
     let stands = there o.map.now o.index (rw c.in-Occupied.is at c.requires.sound) in
     rw c.in-Occupied.is (written_again o.map.now o.index stands.0 stands.1 c.f.new.arg2 v)
+
+pub returns-in-Occupied-clause-taken : goal.returns-in-Occupied-clause-taken
+returns-in-Occupied-clause-taken g c =
+    let o = c.in-Occupied.entry in
+    let within = rw c.in-Occupied.is at c.requires.sound in
+    let stands = there o.map.now o.index within in
+    rw (read_written o.map.now o.index stands.0 stands.1 c.f.new.arg2, c.in-Occupied.is, stands.1) (swap_remove-set o.map.now o.index (stands.0.0, c.f.new.arg2) _ stands.0 within)
