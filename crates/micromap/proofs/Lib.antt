@@ -1,3 +1,4 @@
+pub mod ItemLemmas
 pub use Rattle.micromap_core.proofs.ClosureLemmas
 pub use Rattle.micromap_core.proofs.LookupLemmas
 pub use Rattle.micromap_core.proofs.TextLemmas

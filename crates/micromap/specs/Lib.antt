@@ -1,3 +1,4 @@
+pub mod Items
 pub use Rattle.micromap_core.specs.Build
 pub use Rattle.micromap_core.specs.Calls
 pub use Rattle.micromap_core.specs.Clones

@@ -9,5 +9,6 @@ mod keyed;
 mod map;
 mod printing;
 mod readme;
+mod set;
 mod tagged;
 mod walks;

@@ -2,6 +2,7 @@
 mod built;
 mod keyed;
 pub mod marked;
+mod sets;
 mod walked;
 
 use std::alloc::Global;
@@ -21,6 +22,7 @@ pub fn row(alloc: Global, number: u8) -> Option<bool> {
         11 => Some(built::row_11()),
         12 => Some(keyed::row_12()),
         13 => Some(walked::row_13()),
+        16 => Some(sets::row_16()),
         24 => Some(keyed::row_24(alloc).unwrap_or(false)),
         28 => Some(built::row_28()),
         29 => Some(walked::row_29()),

@@ -1,5 +1,5 @@
 //! The code of the README.
-use crate::{Map, Overfull, Text};
+use crate::{Map, Overfull, Set, Text};
 use std::alloc::AllocError;
 
 #[test]
@@ -52,4 +52,12 @@ fn building_and_texts(rt: HostRuntime) -> Result<(), AllocError> {
     ages.checked_insert(String::from_str(alloc, "Ada")?, 7);
     assert_eq!(rt; ages.get_by(&Text("Ada")), Some(&7));
     Ok(())
+}
+
+#[test]
+fn a_set(rt: HostRuntime) {
+    let mut seen: Set<u8, 2> = Set::new();
+    assert_eq!(rt; seen.checked_insert(1), None);
+    assert_eq!(rt; seen.checked_insert(1), Some(1));
+    assert!(rt; seen.contains(&1));
 }

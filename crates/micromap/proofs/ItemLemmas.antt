@@ -1,0 +1,111 @@
+-- A set's items are the keys of its map's pairs: what each word on pairs says of the keys.
+use Rattle.std.proofs.Common.{◌≡◌, ℕ, ◌-◌, ◌||◌, nat_lt, Bool, true, false, List, [], ◌∷◌, ◌++◌, length, map, reverse, take, drop, Option, Some, None, is_some, if◌then◌else◌, refl, ap, sym, ◌∙◌, arith}
+use Rattle.std.specs.List.{find, list_any}
+use Rattle.std.specs.Map.{keys_of, lookup, lookup_entry, lookup_key, set_value, set_key}
+use Rattle.std.specs.Option.{option_map, option_map_or}
+use Rattle.std.proofs.lemmas.Bool.{false≢true}
+use Rattle.std.specs.List.{take-map}
+use Rattle.std.proofs.lemmas.List.{map-append, map_push, reverse-append, length-map, drop-map}
+use Rattle.micromap_core.specs.Pairs.{fits, has, pair, put, put_key, take_out, take_out_by, last_first}
+use Rattle.micromap_core.specs.Probe.{pair_matched, take_out_matched}
+use Rattle.micromap_core.proofs.PairsLemmas.{keys_of-put_stored, keys_of-put_new}
+use Rattle.micromap.specs.Items.{add, contains, exchange, item, item_fits, item_matched, take_item, take_item_by, take_item_matched}
+
+module _ {T V : Type 0} where
+  last_first-keys : (pairs : List (T × V)) → last_first (keys_of pairs) ≡ keys_of (last_first pairs)
+  last_first-keys pairs =
+      let key : T × V → T = λ p. p.0 in
+      let n = length pairs - 1 in
+      let same : length (keys_of pairs) - 1 ≡ n = ap (λ l. l - 1) (length-map pairs key) in
+      ap (λ m. drop m (keys_of pairs) ++ take m (keys_of pairs)) same
+      ∙ ap (λ l. l ++ take n (keys_of pairs)) (drop-map key n pairs) ∙ ap (λ l. map key (drop n pairs) ++ l) (take-map key n pairs)
+      ∙ sym (map-append key (drop n pairs) (take n pairs))
+
+  pub reverse-keys : (pairs : List (T × V)) → reverse (keys_of pairs) ≡ keys_of (reverse pairs)
+  reverse-keys [] = refl
+  reverse-keys (e ∷ es) =
+      reverse-append (e.0 ∷ []) (keys_of es) ∙ ap (λ l. l ++ e.0 ∷ []) (reverse-keys es)
+      ∙ sym (ap keys_of (reverse-append (e ∷ []) es) ∙ map_push (λ (p : T × V). p.0) (reverse es) e)
+
+  module _ (test : T → Bool) where
+    pub find-keys : (pairs : List (T × V)) → find test (keys_of pairs) ≡ option_map (λ p. p.0) (lookup_entry test pairs)
+    find-keys [] = refl
+    find-keys (e ∷ es) = grind (arith, find-keys es)
+
+    pub matched-keys : (pairs : List (T × V)) → find test (keys_of pairs) ≡ lookup_key test pairs
+    matched-keys [] = refl
+    matched-keys (e ∷ es) = grind (arith, matched-keys es)
+
+    pub any-matched : (pairs : List (T × V)) → list_any test (keys_of pairs) ≡ is_some (lookup_key test pairs)
+    any-matched [] = refl
+    any-matched (e ∷ es) = grind (arith, any-matched es)
+
+    pub any-keys : (pairs : List (T × V)) → list_any test (keys_of pairs) ≡ is_some (lookup test pairs)
+    any-keys [] = refl
+    any-keys (e ∷ es) = grind (arith, any-keys es)
+
+    pub take-keys : (pairs : List (T × V)) → take_item_by test (keys_of pairs) ≡ keys_of (take_out_by test pairs)
+    unfolding take_item_by take_out_by
+    take-keys [] = refl
+    take-keys (e ∷ es) = grind (arith, take-keys es, last_first-keys es)
+
+  pub fits-keys : (eq : T → T → Bool) (N : ℕ) (pairs : List (T × V)) (k : T) → item_fits eq N (keys_of pairs) k ≡ fits eq N pairs k
+  fits-keys eq N pairs k = ap (λ b. b || nat_lt (length (keys_of pairs)) N) (any-keys (eq k) pairs) ∙ ap (λ n. has eq pairs k || nat_lt n N) (length-map pairs (λ (e : T × V). e.0))
+
+  module _ (eq : T → T → Bool) (k : T) (v : V) where
+    -- the item is there or it is new
+    exchange-stored : (pairs : List (T × V)) → has eq pairs k ≡ true → exchange eq (keys_of pairs) k ≡ keys_of (set_key (eq k) (set_value (eq k) pairs v) k)
+    unfolding exchange
+    exchange-stored [] stored = absurd (false≢true stored)
+    exchange-stored (e ∷ es) stored = grind (arith, exchange-stored es)
+
+    exchange-new : (pairs : List (T × V)) → has eq pairs k ≡ false → exchange eq (keys_of pairs) k ≡ keys_of pairs ++ k ∷ []
+    unfolding exchange
+    exchange-new [] new = refl
+    exchange-new (e ∷ es) new = grind (arith, exchange-new es)
+
+    pub exchange-keys : (pairs : List (T × V)) → exchange eq (keys_of pairs) k ≡ keys_of (put_key eq pairs k v)
+    unfolding put_key
+    exchange-keys pairs = by (has eq pairs k) refl
+      where
+        by : (b : Bool) → has eq pairs k ≡ b → exchange eq (keys_of pairs) k ≡ keys_of (if has eq pairs k then set_key (eq k) (set_value (eq k) pairs v) k else pairs ++ (k, v) ∷ [])
+        by true stored = exchange-stored pairs stored ∙ sym (ap (λ b. keys_of (if b then set_key (eq k) (set_value (eq k) pairs v) k else pairs ++ (k, v) ∷ [])) stored)
+        by false new = exchange-new pairs new ∙ sym (ap (λ b. keys_of (if b then set_key (eq k) (set_value (eq k) pairs v) k else pairs ++ (k, v) ∷ [])) new ∙ map_push (λ (e : T × V). e.0) pairs (k, v))
+
+    pub add-keys : (pairs : List (T × V)) → add eq (keys_of pairs) k ≡ keys_of (put eq pairs k v)
+    unfolding add
+    add-keys pairs = by (has eq pairs k) refl
+      where
+        by : (b : Bool) → has eq pairs k ≡ b → (if contains eq (keys_of pairs) k then keys_of pairs else keys_of pairs ++ k ∷ []) ≡ keys_of (put eq pairs k v)
+        by true stored = ap (λ b. if b then keys_of pairs else keys_of pairs ++ k ∷ []) (any-keys (eq k) pairs ∙ stored) ∙ sym (keys_of-put_stored eq pairs k v stored)
+        by false new = ap (λ b. if b then keys_of pairs else keys_of pairs ++ k ∷ []) (any-keys (eq k) pairs ∙ new) ∙ sym (keys_of-put_new eq pairs k v new)
+
+    -- where it fits, the item is added
+    pub checked-keys : (N : ℕ) (pairs : List (T × V)) → (if item_fits eq N (keys_of pairs) k then add eq (keys_of pairs) k else keys_of pairs) ≡ keys_of (if fits eq N pairs k then put eq pairs k v else pairs)
+    checked-keys N pairs =
+        ap (λ b. if b then add eq (keys_of pairs) k else keys_of pairs) (fits-keys eq N pairs k) ∙ by (fits eq N pairs k)
+      where
+        by : (b : Bool) → (if b then add eq (keys_of pairs) k else keys_of pairs) ≡ keys_of (if b then put eq pairs k v else pairs)
+        by true = add-keys pairs
+        by false = refl
+
+-- a stored item is added already
+pub added-already : {T : Type 0} (eq : T → T → Bool) (N : ℕ) (items : List T) (x : T) → contains eq items x ≡ true → (if item_fits eq N items x then add eq items x else items) ≡ items
+unfolding add
+added-already eq N items x stored = ap (λ b. if b || nat_lt (length items) N then (if b then items else items ++ x ∷ []) else items) stored
+
+module _ {T V : Type 0} (eq : T → T → Bool) (test : T → Bool) (pairs : List (T × V)) where
+  item-at : (found : Option T) → option_map_or (item eq (keys_of pairs)) found None ≡ option_map (λ p. p.0) (option_map_or (pair eq pairs) found None)
+  item-at None = refl
+  item-at (Some k) = find-keys (eq k) pairs
+
+  take-at : (found : Option T) → option_map_or (take_item eq (keys_of pairs)) found (keys_of pairs) ≡ keys_of (option_map_or (take_out eq pairs) found pairs)
+  take-at None = refl
+  take-at (Some k) = take-keys (eq k) pairs
+
+  -- the calls by probe
+  pub item_matched-keys : item_matched eq test (keys_of pairs) ≡ option_map (λ p. p.0) (pair_matched eq test pairs)
+  item_matched-keys = ap (λ found. option_map_or (item eq (keys_of pairs)) found None) (matched-keys test pairs) ∙ item-at (lookup_key test pairs)
+
+  pub take_item_matched-keys : take_item_matched eq test (keys_of pairs) ≡ keys_of (take_out_matched eq test pairs)
+  take_item_matched-keys = ap (λ found. option_map_or (take_item eq (keys_of pairs)) found (keys_of pairs)) (matched-keys test pairs) ∙ take-at (lookup_key test pairs)

@@ -1,0 +1,5 @@
+use Rattle.micromap_walk.proofs.Runs.{gives_in_order}
+use Rattle.micromap.proofs.set.Set.drain.Goals as goal
+
+pub returns-clause-runs : goal.returns-clause-runs
+returns-clause-runs g c = gives_in_order

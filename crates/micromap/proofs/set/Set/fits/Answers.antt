@@ -1,0 +1,6 @@
+use Rattle.std.proofs.lemmas.List.{length-map}
+use Rattle.micromap.proofs.ItemLemmas.{any-keys}
+use Rattle.micromap.proofs.set.Set.fits.Goals as goal
+
+pub returns : goal.returns
+returns g c = rw (← c.self.view_is, any-keys, length-map) c.fits.ensures

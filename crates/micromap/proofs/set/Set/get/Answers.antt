@@ -1,0 +1,10 @@
+use Rattle.std.proofs.Common.{ap}
+use Rattle.std.specs.Option.{option_map}
+use Rattle.micromap.proofs.ItemLemmas.{find-keys}
+use Rattle.micromap.proofs.set.Set.get.Goals as goal
+
+pub returns-in-Some : goal.returns-in-Some
+returns-in-Some g c = rw (← c.self.view_is, find-keys) (ap (option_map (λ p. p.0)) c.in-Some.ensures)
+
+pub returns-in-None : goal.returns-in-None
+returns-in-None g c = rw (← c.self.view_is, find-keys) (ap (option_map (λ p. p.0)) c.in-None.ensures)

@@ -1,0 +1,19 @@
+use Rattle.std.proofs.Common.{◌≡◌, ap, sym, ◌∙◌, is_some, IsTrue, rules}
+use Rattle.std.specs.Map.{keys_of}
+use Rattle.micromap.specs.Pairs.{fits}
+use Rattle.micromap.specs.Items.{contains}
+use Rattle.micromap.proofs.ItemLemmas.{fits-keys, any-keys, add-keys}
+use Rattle.micromap.proofs.set.Set.insert.Goals as goal
+
+pub insert-requires : goal.insert-requires
+insert-requires g c =
+    let fit : IsTrue (fits g.T.PartialEq.eq g.row.N c.self.inside.map c.args.x) = sym (fits-keys g.T.PartialEq.eq g.row.N c.self.inside.map c.args.x) ∙ rw (← c.self.view_is) at c.requires in
+    (search rules, fit)
+
+pub returns-clause-answer : goal.returns-clause-answer
+returns-clause-answer g c =
+    let stored : is_some c.insert.result ≡ contains g.T.PartialEq.eq c.args.self.now c.args.x = rw (← c.self.view_is, any-keys) (ap is_some c.insert.ensures.answer) in
+    search rules
+
+pub returns-clause-items : goal.returns-clause-items
+returns-clause-items g c = rw (← c.self.view_is, add-keys) (ap keys_of c.insert.ensures.pairs)

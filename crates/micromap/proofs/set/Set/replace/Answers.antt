@@ -1,0 +1,23 @@
+use Rattle.std.proofs.Common.{ap, sym, ◌∙◌, IsTrue, rules}
+use Rattle.std.specs.Map.{keys_of}
+use Rattle.std.specs.Option.{option_map}
+use Rattle.micromap.specs.Pairs.{fits}
+use Rattle.micromap.proofs.ItemLemmas.{fits-keys, find-keys, exchange-keys}
+use Rattle.micromap.proofs.set.Set.replace.Goals as goal
+
+pub insert_key_value-requires : goal.insert_key_value-requires
+insert_key_value-requires g c =
+    let fit : IsTrue (fits g.T.PartialEq.eq g.row.N c.self.inside.map c.args.x) = sym (fits-keys g.T.PartialEq.eq g.row.N c.self.inside.map c.args.x) ∙ rw (← c.self.view_is) at c.requires in
+    (search rules, fit)
+
+pub returns-in_err-old-clause-answer : goal.returns-in_err-old-clause-answer
+returns-in_err-old-clause-answer g c = rw (← c.self.view_is, find-keys) (c.from_residual.ensures ∙ ap (option_map (λ p. p.0)) c.in_err-old.ensures.answer)
+
+pub returns-in_err-old-clause-items : goal.returns-in_err-old-clause-items
+returns-in_err-old-clause-items g c = rw (← c.self.view_is, exchange-keys) (ap keys_of c.in_err-old.ensures.pairs)
+
+pub returns-clause-answer : goal.returns-clause-answer
+returns-clause-answer g c = rw (← c.self.view_is, find-keys) (ap (option_map (λ p. p.0)) c.in_ok-old.ensures.answer)
+
+pub returns-clause-items : goal.returns-clause-items
+returns-clause-items g c = rw (← c.self.view_is, exchange-keys) (ap keys_of c.in_ok-old.ensures.pairs)

@@ -1,0 +1,102 @@
+//! The set: a list of at most `N` items, kept as the keys of a map.
+ghost use Rattle.std.specs.Prelude.{◌≡◌, ◌==◌, [], length, Some, IsTrue};
+ghost use Rattle.std.specs.Option.{option_copied};
+ghost use Rattle.micromap.specs.Items.{IsItems, item, contains, item_fits};
+
+mod change;
+mod probed;
+mod relation;
+mod walk;
+
+use crate::Map;
+use std::marker::Model;
+pub use walk::{Drain, IntoIter, Iter};
+
+/// A set of at most `N` items, which are found by `==` from the front and pairwise unequal.
+///
+/// A contract sees it as the list of its items, from front to end. It is a map with the value `()`, and no call takes
+/// memory of its own. A scan compares the items from the front, each at most once.
+#[derive(Drop)]
+pub struct Set<T: Eq, const N: usize> {
+    map: Map<T, (), N>,
+}
+
+impl<T: Eq, const N: usize> Model for Set<T, N> {
+    ghost use Rattle.std.specs.Prelude.{List};
+    ghost use Rattle.std.specs.Map.{keys_of};
+
+    ghost Value = { List T };
+
+    ghost view = { λ s. keys_of s.map };
+}
+
+impl<T: Eq, const N: usize> Set<T, N> {
+    /// An empty set.
+    #[inline]
+    pub fn new() -> Self
+        ensures { result ≡ [] }
+    {
+        Set { map: Map::new() }
+    }
+
+    /// The number of items. Callers also learn here what holds of each set's content.
+    #[inline]
+    pub fn len(&self) -> usize
+        ensures value { result ≡ length self.now }
+        ensures content { IsItems T.eq N self.now }
+    {
+        self.map.len()
+    }
+
+    /// Whether there is no item.
+    #[inline]
+    pub fn is_empty(&self) -> bool
+        ensures { result ≡ (length self.now == 0) }
+    {
+        self.map.is_empty()
+    }
+
+    /// The greatest number of items, which is `N`.
+    #[inline]
+    pub fn capacity(&self) -> usize
+        ensures { result ≡ N }
+    {
+        self.map.capacity()
+    }
+
+    /// Whether an item can be put: an equal one is stored, or there is room. Where there is room no item is compared.
+    #[inline]
+    pub fn fits(&self, x: &T) -> bool
+        ensures { result ≡ item_fits T.eq N self.now x.now }
+    {
+        self.map.fits(x)
+    }
+
+    /// Whether some stored item equals `x`, by one scan.
+    #[inline]
+    pub fn contains(&self, x: &T) -> bool
+        ensures { result ≡ contains T.eq self.now x.now }
+    {
+        self.map.contains_key(x)
+    }
+
+    /// The stored item that equals `x`, or `None` where there is none, by one scan.
+    #[inline]
+    pub fn get(&self, x: &T) -> Option<&T>
+        ensures { option_copied result ≡ item T.eq self.now x.now }
+    {
+        match self.map.get_key_value(x) {
+            Some((stored, _)) => Some(stored),
+            None => None,
+        }
+    }
+}
+
+impl<T: Eq, const N: usize> Default for Set<T, N> {
+    ghost is_default = { λ s. s ≡ [] };
+
+    /// An empty set.
+    fn default() -> Self {
+        Set::new()
+    }
+}
