@@ -1,18 +1,19 @@
 -- A set's items are the keys of its map's pairs: what each word on pairs says of the keys.
-use Rattle.std.proofs.Common.{◌≡◌, ℕ, ◌-◌, ◌||◌, nat_lt, Bool, true, false, List, [], ◌∷◌, ◌++◌, length, map, reverse, take, drop, Option, Some, None, is_some, if◌then◌else◌, refl, ap, sym, ◌∙◌, arith}
-use Rattle.std.specs.List.{find, list_any}
+use Rattle.std.proofs.Common.{◌≡◌, ℕ, ◌-◌, ◌<◌, ◌||◌, nat_lt, Bool, true, false, List, [], ◌∷◌, ◌++◌, length, map, get_or, reverse, take, drop, Option, Some, None, is_some, if◌then◌else◌, refl, ap, sym, ◌∙◌, arith}
+use Rattle.std.specs.List.{AllZip, find, list_any}
 use Rattle.std.specs.Map.{keys_of, lookup, lookup_entry, lookup_key, set_value, set_key}
 use Rattle.std.specs.Option.{option_map, option_map_or}
 use Rattle.std.proofs.lemmas.Bool.{false≢true}
 use Rattle.std.specs.List.{take-map}
-use Rattle.std.proofs.lemmas.List.{map-append, map_push, reverse-append, length-map, drop-map}
+use Rattle.std.proofs.lemmas.List.{get_or-map, map-append, map_push, reverse-append, length-map, drop-map}
+use Rattle.micromap_core.specs.Clones.{IsPairClone}
 use Rattle.micromap_core.specs.Pairs.{fits, has, pair, put, put_key, take_out, take_out_by, last_first}
 use Rattle.micromap_core.specs.Probe.{pair_matched, take_out_matched}
 use Rattle.micromap_core.proofs.PairsLemmas.{keys_of-put_stored, keys_of-put_new}
 use Rattle.micromap.specs.Items.{add, contains, exchange, item, item_fits, item_matched, take_item, take_item_by, take_item_matched}
 
 module _ {T V : Type 0} where
-  last_first-keys : (pairs : List (T × V)) → last_first (keys_of pairs) ≡ keys_of (last_first pairs)
+  pub last_first-keys : (pairs : List (T × V)) → last_first (keys_of pairs) ≡ keys_of (last_first pairs)
   last_first-keys pairs =
       let key : T × V → T = λ p. p.0 in
       let n = length pairs - 1 in
@@ -109,3 +110,15 @@ module _ {T V : Type 0} (eq : T → T → Bool) (test : T → Bool) (pairs : Lis
 
   pub take_item_matched-keys : take_item_matched eq test (keys_of pairs) ≡ keys_of (take_out_matched eq test pairs)
   take_item_matched-keys = ap (λ found. option_map_or (take_item eq (keys_of pairs)) found (keys_of pairs)) (matched-keys test pairs) ∙ take-at (lookup_key test pairs)
+
+module _ {T V : Type 0} where
+  -- what is cloned pair by pair is cloned key by key
+  pub zip-keys : (C : T → T → Type 0) (D : V → V → Type 0) (ps qs : List (T × V)) → AllZip (IsPairClone C D) ps qs → AllZip C (keys_of ps) (keys_of qs)
+  zip-keys C D [] [] zip = tt
+  zip-keys C D [] (q ∷ qs) zip = absurd zip
+  zip-keys C D (p ∷ ps) [] zip = absurd zip
+  zip-keys C D (p ∷ ps) (q ∷ qs) zip = (zip.0.0, zip-keys C D ps qs zip.1)
+
+  -- the key of a pair, by its index
+  pub key_at : (pairs : List (T × V)) (i : ℕ) (p : T × V) → i < length pairs → get_or (keys_of pairs) i p.0 ≡ (get_or pairs i p).0
+  key_at pairs i p within = get_or-map (λ (e : T × V). e.0) pairs i p p.0 within

@@ -1,6 +1,8 @@
 -- A set's content as the list of its items, from front to end, and what one insertion or removal makes of it. Items
 -- are compared by eq, which need not be identity; N is the capacity.
-use Rattle.std.specs.Prelude.{ℕ, ◌≤◌, Bool, ◌||◌, List, [], ◌∷◌, ◌++◌, length, Option, None, if◌then◌else◌, nat_lt}
+use Rattle.std.specs.Prelude.{◌≡◌, ℕ, ◌≤◌, Bool, ◌||◌, List, [], ◌∷◌, ◌++◌, length, map, Option, None, if◌then◌else◌, nat_lt}
+use Rattle.std.specs.Borrow.{Bor}
+use Rattle.std.specs.Fn.{Mut, CalledAt, Takes}
 use Rattle.std.specs.Option.{option_map_or}
 use Rattle.std.specs.List.{IsDistinct, find, list_any}
 use Rattle.micromap_core.specs.Pairs.{last_first}
@@ -52,3 +54,16 @@ module _ {T : Type 0} where
     -- without it
     abbrev pub take_item_matched : List T → List T
     take_item_matched items = option_map_or (take_item eq items) (find test items) items
+
+-- the pairs of a map with the value `()` that has these items as its keys
+abbrev pub units : {T : Type 0} → List T → List (T × Unit {0})
+units items = map (λ x. (x, tt)) items
+
+module _ {F T : Type 0} (g : Mut F (Bor T × Unit {0}) Bool) where
+  -- a call of f at a `&` to x may answer b and leave f as f'
+  abbrev pub CalledAtItem : F → T → Unit {0} → Bool → Unit {0} → F → Type 0
+  CalledAtItem f x u b w f' = CalledAt g f x b f'
+
+  -- f may be called at a `&` to x
+  abbrev pub TakesItem : F → T → Unit {0} → Type 0
+  TakesItem f x u = (item : Bor T) → item.now ≡ x → Takes g f (item, tt)

@@ -1,4 +1,6 @@
+pub mod Extend
 pub mod Items
+pub mod ItemsText
 pub use Rattle.micromap_core.specs.Build
 pub use Rattle.micromap_core.specs.Calls
 pub use Rattle.micromap_core.specs.Clones

@@ -4,8 +4,12 @@ ghost use Rattle.std.specs.Option.{option_copied};
 ghost use Rattle.micromap.specs.Items.{IsItems, item, contains, item_fits};
 
 mod change;
+mod clone;
+mod extend;
+mod print;
 mod probed;
 mod relation;
+mod retain;
 mod walk;
 
 use crate::Map;

@@ -1,9 +1,10 @@
-//! The set as a user meets it, and a caller's proof over its items.
-ghost use Rattle.std.specs.Prelude.{◌≡◌, if◌then◌else◌, nat_eq};
+//! The set as a user meets it, and two callers' proofs over its items.
+ghost use Rattle.std.specs.Prelude.{◌≡◌, ◌==◌, ◌%◌, if◌then◌else◌, nat_eq};
 ghost use Rattle.micromap.specs.Items.{add, item_fits};
+ghost use Rattle.micromap.specs.Retain.{retained};
 
 use super::tagged::{Id, Tagged};
-use crate::{Set, Text};
+use crate::{Overfull, Set, Text};
 use std::alloc::AllocError;
 use std::test::Fail;
 
@@ -148,4 +149,67 @@ fn sets_within_and_apart(rt: HostRuntime) {
     set.checked_insert(4);
     assert!(rt; !set.is_subset(&upper));
     assert!(rt; !upper.is_superset(&set));
+}
+
+// Keeps the even numbers.
+fn keep_even<const N: usize>(set: &mut Set<u8, N>)
+    ensures { set.new ≡ retained (λ x. x % 2 == 0) set.old }
+{
+    set.retain(|x| *x % 2 == 0);
+}
+
+#[test]
+fn kept_items_stand_in_the_order_of_their_visits(rt: HostRuntime) {
+    let mut set: Set<u8, 10> = numbers(&[9, 1, 2, 3, 4, 5, 6, 7, 8, 10]);
+    keep_even(&mut set);
+    assert!(rt; set.iter().eq(&[10, 8, 2, 6, 4]));
+    let mut items = set.into_iter();
+    assert_eq!(rt; items.next(), Some(4));
+    assert_eq!(rt; items.next(), Some(6));
+    assert_eq!(rt; items.next(), Some(2));
+    assert_eq!(rt; items.len(), 2);
+}
+
+#[test]
+fn a_set_is_extended_up_to_the_first_misfit(rt: HostRuntime) {
+    let mut set: Set<i32, 1> = Set::new();
+    let items = [5, 6, 7];
+    let mut left = items.iter().copied();
+    assert!(rt; matches!(set.try_extend(&mut left), Err(Overfull { at: 1 })));
+    assert!(rt; set.iter().eq(&[5]));
+    assert_eq!(rt; left.next(), Some(7));
+    let mut set: Set<i32, 6> = Set::from([1, 2, 4, 1, 2, 4]);
+    assert!(rt; set.try_extend([2, 3, 5, 6].into_iter()).is_ok());
+    assert!(rt; set.iter().eq(&[1, 2, 4, 3, 5, 6]));
+}
+
+#[test]
+fn a_set_is_built_from_items(rt: HostRuntime) {
+    let letters = ['a', 'a', 'd', 'b', 'a', 'd', 'c', 'd', 'c'];
+    let set: Result<Set<char, 6>, Overfull> = Set::try_from_iter(letters.into_iter());
+    assert!(rt; set.is_ok_and(|set| set.into_iter().eq(['c', 'b', 'd', 'a'])));
+    let set: Result<Set<char, 2>, Overfull> = Set::try_from_iter(letters.into_iter());
+    assert!(rt; matches!(set, Err(Overfull { at: 3 })));
+}
+
+#[test]
+fn a_set_is_cloned(rt: HostRuntime) -> Result<(), AllocError> {
+    let set: Set<u8, 3> = numbers(&[2, 1]);
+    let mut other = set.clone()?;
+    other.checked_insert(3);
+    assert!(rt; other.iter().eq(&[2, 1, 3]));
+    assert!(rt; set.iter().eq(&[2, 1]));
+    Ok(())
+}
+
+#[test]
+fn a_set_prints_its_items(rt: HostRuntime) -> Result<(), AllocError> {
+    let alloc = rt.alloc();
+    let set: Set<u8, 2> = numbers(&[1, 2]);
+    assert_eq!(rt; format!(in alloc; "{set}")?.as_str(), "{1, 2}");
+    assert_eq!(rt; format!(in alloc; "{set:>3}")?.as_str(), "{  1,   2}");
+    assert_eq!(rt; format!(in alloc; "{set:?}")?.as_str(), "{1, 2}");
+    let none: Set<u8, 2> = Set::new();
+    assert_eq!(rt; format!(in alloc; "{none}")?.as_str(), "{}");
+    Ok(())
 }

@@ -4,7 +4,7 @@ use micromap::{Map, Text};
 use std::alloc::{AllocError, Global};
 
 // The three outcomes of `checked_insert`.
-pub fn row_1() -> bool {
+pub(super) fn row_1() -> bool {
     let mut map = Map::<_, _, 3>::new();
     map.checked_insert(1, "a") == Some(None)
         && map.checked_insert(1, "A") == Some(Some("a"))
@@ -16,7 +16,7 @@ pub fn row_1() -> bool {
 }
 
 // A map with no room at all.
-pub fn row_2() -> bool {
+pub(super) fn row_2() -> bool {
     let mut map: Map<u8, u8, 0> = Map::new();
     map.get(&1).is_none()
         && map.checked_insert(1, 1).is_none()
@@ -26,7 +26,7 @@ pub fn row_2() -> bool {
 }
 
 // A pair that is taken out leaves a gap for the last one.
-pub fn row_3() -> bool {
+pub(super) fn row_3() -> bool {
     let mut three = keys(&[1, 2, 3]);
     without(&[1, 2, 3, 4], 2, &[1, 4, 3])
         && without(&[1, 2, 3], 2, &[1, 3])
@@ -51,7 +51,7 @@ fn without(old: &[u8], key: u8, new: &[u8]) -> bool {
 }
 
 // Equal keys that aren't identical: one call keeps the stored one, the other replaces it.
-pub fn row_7() -> bool {
+pub(super) fn row_7() -> bool {
     let mut map: Map<Marked, char, 1> = Map::new();
     if map.insert(Marked::new(1, 'x'), 'p').is_some() {
         return false;
@@ -77,7 +77,7 @@ fn stores(map: &Map<Marked, char, 1>, key: Marked, mark: char, value: char) -> b
 }
 
 // A value that is made where its key is new alone.
-pub fn row_12() -> bool {
+pub(super) fn row_12() -> bool {
     let mut map: Map<char, u8, 10> = Map::new();
     first_value(&mut map, 'f', 43) == Some(43)
         && first_value(&mut map, 'f', 44) == Some(43)
@@ -95,7 +95,7 @@ fn first_value(map: &mut Map<char, u8, 10>, key: char, value: u8) -> Option<u8> 
 }
 
 // Keys that are texts, found by a probe.
-pub fn row_24(alloc: Global) -> Result<bool, AllocError> {
+pub(super) fn row_24(alloc: Global) -> Result<bool, AllocError> {
     let mut map: Map<String, i32, 10> = Map::new();
     for (name, value) in [("one", 1), ("two", 3), ("three", 5)] {
         map.checked_insert(String::from_str(alloc, name)?, value);

@@ -1,12 +1,61 @@
-//! The rows of sets.
-use micromap::Set;
+//! The rows of sets, and of texts.
+use micromap::{Map, Overfull, Set};
+use std::alloc::{AllocError, Global};
+
+// The set of these numbers, where there is room for them.
+fn numbers<const N: usize>(items: &[i32]) -> Set<i32, N> {
+    let mut set = Set::new();
+    for item in items {
+        set.checked_insert(*item);
+    }
+    set
+}
+
+// After a no the last item is visited next.
+pub(super) fn row_8() -> bool {
+    let mut set: Set<i32, 4> = numbers(&[1, 2, 3, 4]);
+    let visits = [1, 4, 2, 3];
+    let mut number = 0usize;
+    let mut in_order = true;
+    set.retain(|x| {
+        in_order &= visits.get(number) == Some(x);
+        number = number.wrapping_add(1);
+        *x == 3 || *x == 4
+    });
+    in_order && number == 4 && set.iter().eq(&[4, 3])
+}
+
+// The items before the first misfit are in the set.
+pub(super) fn row_14() -> bool {
+    let mut set: Set<i32, 3> = numbers(&[1, 2]);
+    let ended = set.try_extend([2, 5, 6, 7].into_iter());
+    matches!(ended, Err(Overfull { at: 2 })) && set.iter().eq(&[1, 2, 5])
+}
 
 // A full set refuses a new item, and hands back one that equals a stored one.
-pub fn row_16() -> bool {
+pub(super) fn row_16() -> bool {
     let mut set: Set<i32, 2> = Set::new();
     set.checked_insert(1).is_none()
         && set.checked_insert(2).is_none()
         && set.checked_insert(3).is_none()
         && set.len() == 2
         && set.checked_insert(2) == Some(2)
+}
+
+// The texts of maps and sets; a set hands a width to its items.
+pub(super) fn row_17(alloc: Global) -> Result<bool, AllocError> {
+    let names = Map::from([("one", 42), ("two", 16)]);
+    let flags = Map::from([(42, true)]);
+    let none: Map<u8, u8, 2> = Map::new();
+    let words = Set::from(["one", "two"]);
+    let small: Set<i32, 2> = numbers(&[1, 2]);
+    let pair = Map::from([(1, 2)]);
+    Ok(
+        format!(in alloc; "{names}")?.as_str() == "{one: 42, two: 16}"
+            && format!(in alloc; "{flags}")?.as_str() == "{42: true}"
+            && format!(in alloc; "{none}")?.as_str() == "{}"
+            && format!(in alloc; "{words}")?.as_str() == "{one, two}"
+            && format!(in alloc; "{small:>3}")?.as_str() == "{  1,   2}"
+            && format!(in alloc; "{pair:>3}")?.as_str() == "{1: 2}",
+    )
 }

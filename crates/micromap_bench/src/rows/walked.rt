@@ -3,7 +3,7 @@ use micromap::Map;
 use micromap::map::Keys;
 
 // Keys by reference from the front, and by value from the end.
-pub fn row_9() -> bool {
+pub(super) fn row_9() -> bool {
     let mut map: Map<&str, u8, 2> = Map::new();
     map.checked_insert("foo", 0);
     map.checked_insert("bar", 0);
@@ -16,7 +16,7 @@ pub fn row_9() -> bool {
 }
 
 // A drained map is empty at once.
-pub fn row_10() -> bool {
+pub(super) fn row_10() -> bool {
     let mut map: Map<char, u8, 3> = Map::new();
     for (letter, code) in [('a', 97), ('b', 98), ('c', 99)] {
         map.checked_insert(letter, code);
@@ -33,7 +33,7 @@ pub fn row_10() -> bool {
 }
 
 // Values written at some keys, one of which isn't there.
-pub fn row_13() -> bool {
+pub(super) fn row_13() -> bool {
     let mut map: Map<u8, usize, 3> = Map::new();
     for (key, value) in [(1, 10), (2, 20), (3, 30)] {
         map.checked_insert(key, value);
@@ -45,7 +45,7 @@ pub fn row_13() -> bool {
 }
 
 // Values doubled, from the front.
-pub fn row_29() -> bool {
+pub(super) fn row_29() -> bool {
     let mut map: Map<&str, u8, 3> = Map::new();
     map.checked_insert("one", 2);
     map.checked_insert("two", 3);
@@ -55,7 +55,7 @@ pub fn row_29() -> bool {
 }
 
 // A clone of a walk goes on from the same place, and a default walk is at its end.
-pub fn row_30() -> bool {
+pub(super) fn row_30() -> bool {
     let mut map: Map<u8, u8, 3> = Map::new();
     for key in [1, 2, 3] {
         map.checked_insert(key, 0);

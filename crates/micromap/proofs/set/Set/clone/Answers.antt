@@ -1,0 +1,16 @@
+use Rattle.std.proofs.Common.{ℕ, ◌<◌, length, get_or, subst}
+use Rattle.std.specs.Map.{keys_of}
+use Rattle.std.proofs.lemmas.Bool.{false≢true}
+use Rattle.std.proofs.lemmas.List.{length-map}
+use Rattle.micromap.proofs.ItemLemmas.{zip-keys, key_at}
+use Rattle.micromap.proofs.set.Set.clone.Goals as goal
+
+pub returns-clause-clones : goal.returns-clause-clones
+returns-clause-clones g c = rw (← c.self.view_is) (zip-keys g.T.Clone.is_clone _ c.self.inside.map c.in_ok-map.map c.in_ok-map.ensures.clones)
+
+pub returns-in_err-map-clause-succeeds : goal.returns-in_err-map-clause-succeeds
+returns-in_err-map-clause-succeeds g c =
+    λ all.
+    let pairs = c.self.inside.map in
+    let every : (i : ℕ) (x : g.row.T.Denot) → i < length (keys_of pairs) → g.T.Clone.is_infallible (get_or (keys_of pairs) i x) = rw c.self.view_is all in
+    absurd (false≢true (c.in_err-map.ensures.succeeds (λ i p within. (subst g.T.Clone.is_infallible (key_at pairs i p within) (every i p.0 (rw length-map within)), tt {0}))))

@@ -1,0 +1,29 @@
+//! Printing a set.
+ghost use Rattle.micromap.specs.ItemsText.{set_text};
+
+use super::Set;
+use std::fmt;
+
+/// `{a, b}`, from the front. Width and other flags are handed to the items; an error of the writer ends it with that
+/// error.
+impl<T: Eq + fmt::Display, const N: usize> fmt::Display for Set<T, N> {
+    ghost output = { set_text T.output };
+
+    fn fmt<W: fmt::Write>(&self, f: &mut fmt::Formatter<W>) -> fmt::Result {
+        let mut lead = "";
+        f.write_str("{")?;
+        for item in self {
+            f.write_str(lead)?;
+            item.fmt(f)?;
+            lead = ", ";
+        }
+        f.write_str("}")
+    }
+}
+
+/// As Rust prints a set, from the front.
+impl<T: Eq + fmt::Debug, const N: usize> fmt::Debug for Set<T, N> {
+    fn fmt<W: fmt::Write>(&self, f: &mut fmt::Formatter<W>) -> fmt::Result {
+        f.debug_set().entries(self).finish()
+    }
+}
