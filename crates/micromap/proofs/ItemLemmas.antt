@@ -7,14 +7,14 @@ use Rattle.std.proofs.lemmas.Bool.{false≢true}
 use Rattle.std.specs.List.{take-map}
 use Rattle.std.proofs.lemmas.List.{get_or-map, map-append, map_push, reverse-append, length-map, drop-map}
 use Rattle.micromap_core.specs.Clones.{IsPairClone}
-use Rattle.micromap_core.specs.Pairs.{fits, has, pair, put, put_key, take_out, take_out_by, last_first}
+use Rattle.micromap_core.specs.Pairs.{fits, has, pair, put, put_key, take_out, take_out_by, close_gap}
 use Rattle.micromap_core.specs.Probe.{pair_matched, take_out_matched}
 use Rattle.micromap_core.proofs.PairsLemmas.{keys_of-put_stored, keys_of-put_new}
 use Rattle.micromap.specs.Items.{add, contains, exchange, item, item_fits, item_matched, take_item, take_item_by, take_item_matched}
 
 module _ {T V : Type 0} where
-  pub last_first-keys : (pairs : List (T × V)) → last_first (keys_of pairs) ≡ keys_of (last_first pairs)
-  last_first-keys pairs =
+  pub close_gap-keys : (pairs : List (T × V)) → close_gap (keys_of pairs) ≡ keys_of (close_gap pairs)
+  close_gap-keys pairs =
       let key : T × V → T = λ p. p.0 in
       let n = length pairs - 1 in
       let same : length (keys_of pairs) - 1 ≡ n = ap (λ l. l - 1) (length-map pairs key) in
@@ -48,7 +48,7 @@ module _ {T V : Type 0} where
     pub take-keys : (pairs : List (T × V)) → take_item_by test (keys_of pairs) ≡ keys_of (take_out_by test pairs)
     unfolding take_item_by take_out_by
     take-keys [] = refl
-    take-keys (e ∷ es) = grind (arith, take-keys es, last_first-keys es)
+    take-keys (e ∷ es) = grind (arith, take-keys es, close_gap-keys es)
 
   pub fits-keys : (eq : T → T → Bool) (N : ℕ) (pairs : List (T × V)) (k : T) → item_fits eq N (keys_of pairs) k ≡ fits eq N pairs k
   fits-keys eq N pairs k = ap (λ b. b || nat_lt (length (keys_of pairs)) N) (any-keys (eq k) pairs) ∙ ap (λ n. has eq pairs k || nat_lt n N) (length-map pairs (λ (e : T × V). e.0))
@@ -118,7 +118,3 @@ module _ {T V : Type 0} where
   zip-keys C D [] (q ∷ qs) zip = absurd zip
   zip-keys C D (p ∷ ps) [] zip = absurd zip
   zip-keys C D (p ∷ ps) (q ∷ qs) zip = (zip.0.0, zip-keys C D ps qs zip.1)
-
-  -- the key of a pair, by its index
-  pub key_at : (pairs : List (T × V)) (i : ℕ) (p : T × V) → i < length pairs → get_or (keys_of pairs) i p.0 ≡ (get_or pairs i p).0
-  key_at pairs i p within = get_or-map (λ (e : T × V). e.0) pairs i p p.0 within

@@ -1,6 +1,12 @@
+pub mod AddedItems
 pub mod ExtendLemmas
 pub mod ItemLemmas
+pub mod OperationExamples
+pub mod OperationLaws
+pub mod OperationSteps
 pub mod RetainItems
+pub mod SetLaws
 pub use Rattle.micromap_core.proofs.ClosureLemmas
+pub use Rattle.micromap_core.proofs.FairLemmas
 pub use Rattle.micromap_core.proofs.LookupLemmas
 pub use Rattle.micromap_core.proofs.TextLemmas

@@ -1,7 +1,8 @@
 -- A set that is given items, which are put one after the other by the rule of insertion.
-use Rattle.std.specs.Prelude.{◌≡◌, ℕ, Bool, true, not, ◌&&◌, List, [], ◌∷◌, length, Option, Some, IsTrue}
-use Rattle.std.specs.Iterator.{Drains, YieldsThen}
+use Rattle.std.specs.Prelude.{ℕ, Bool, List, [], Option}
 use Rattle.std.specs.List.{fold}
+use Rattle.std.specs.Set.{distinct_count}
+use Rattle.micromap_core.specs.Build.{each_fits, PutsAll, PutsUpTo, BuildsAll, BuildsUpTo}
 use Rattle.micromap.specs.Items.{add, item_fits}
 
 module _ {T : Type 0} (eq : T → T → Bool) where
@@ -9,30 +10,27 @@ module _ {T : Type 0} (eq : T → T → Bool) where
   abbrev pub add_all : List T → List T → List T
   add_all = fold (add eq)
 
-  -- whether each fits when it is put
-  abbrev pub each_fits : ℕ → List T → List T → Bool
-  each_fits N items [] = true
-  each_fits N items (x ∷ xs) = item_fits eq N items x && each_fits N (add eq items x) xs
+  -- the items of a new set once these are put: each distinct one as it came first
+  abbrev pub distinct : List T → List T
+  distinct = add_all []
 
-  module _ {S : Type 0} (steps : S → Option T → S → Type 0) (N : ℕ) (old : List T) (it : S) where
-    -- the iterator gave items that all fit, and then ended; new has them all
-    pub record ExtendsAll (new : List T) : Type 0 where
-      pub given : List T
-      pub gave : Drains steps it given
-      pub fit : IsTrue (each_fits N old given)
-      pub added : new ≡ add_all old given
+  -- whether each item fits a new set of capacity N when it is put
+  abbrev pub all_items_fit : ℕ → List T → Bool
+  all_items_fit N = each_fits (item_fits eq N) (add eq) []
 
-    -- the iterator gave an item that didn't fit, after this many that did
-    pub record FirstMisfit (place : ℕ) : Type 0 where
-      pub before : List T
-      pub item : T
-      pub rest : S
-      pub gave : YieldsThen steps it before (Some item) rest
-      pub fit : IsTrue (each_fits N old before)
-      pub misfit : IsTrue (not (item_fits eq N (add_all old before) item))
-      pub place_is : place ≡ length before
+  module _ {S : Type 0} (steps : S → Option T → S → Type 0) (N : ℕ) where
+    -- the set has all that the iterator gave
+    abbrev pub ExtendsAll : List T → S → List T → Type 0
+    ExtendsAll = PutsAll (item_fits eq N) (add eq) steps
 
-    -- and new has those before it
-    pub record ExtendsUpTo (place : ℕ) (new : List T) : Type 0 where
-      pub first : FirstMisfit place
-      pub added : new ≡ add_all old first.before
+    -- the set has what came before the first item that didn't fit
+    abbrev pub ExtendsUpTo : List T → S → ℕ → List T → Type 0
+    ExtendsUpTo = PutsUpTo (item_fits eq N) (add eq) steps
+
+    -- a new set has all that the iterator gave
+    abbrev pub ItemsBuiltFrom : S → List T → Type 0
+    ItemsBuiltFrom = BuildsAll (item_fits eq N) (add eq) steps (distinct_count eq) N []
+
+    -- the first item that doesn't fit a new set comes after this many that do
+    abbrev pub ItemMisfitAt : S → ℕ → Type 0
+    ItemMisfitAt = BuildsUpTo (item_fits eq N) (add eq) steps (distinct_count eq) N []

@@ -1,17 +1,18 @@
 -- A set's content as the list of its items, from front to end, and what one insertion or removal makes of it. Items
 -- are compared by eq, which need not be identity; N is the capacity.
-use Rattle.std.specs.Prelude.{◌≡◌, ℕ, ◌≤◌, Bool, ◌||◌, List, [], ◌∷◌, ◌++◌, length, map, Option, None, if◌then◌else◌, nat_lt}
+use Rattle.std.specs.Prelude.{◌≡◌, ℕ, ◌≤◌, Bool, ◌||◌, List, [], ◌∷◌, ◌++◌, length, Option, None, if◌then◌else◌, nat_lt}
 use Rattle.std.specs.Borrow.{Bor}
-use Rattle.std.specs.Fn.{Mut, CalledAt, Takes}
+use Rattle.std.specs.Fn.{Mut, CalledAt, TakesAt}
 use Rattle.std.specs.Option.{option_map_or}
 use Rattle.std.specs.List.{IsDistinct, find, list_any}
-use Rattle.micromap_core.specs.Pairs.{last_first}
+use Rattle.micromap_core.specs.Pairs.{close_gap}
+use Rattle.micromap_core.specs.Retain.{AtEachVisit, WalkKeeps}
 
 module _ {T : Type 0} where
   -- without the first item that passes the test: the last item moves into the gap
   unfoldable pub take_item_by : (T → Bool) → List T → List T
   take_item_by test [] = []
-  take_item_by test (x ∷ xs) = if test x then last_first xs else x ∷ take_item_by test xs
+  take_item_by test (x ∷ xs) = if test x then close_gap xs else x ∷ take_item_by test xs
 
   module _ (eq : T → T → Bool) where
     -- what a set of capacity N may hold: no two items are equal
@@ -46,6 +47,10 @@ module _ {T : Type 0} where
 
   -- what a call by probe finds, where a probe is seen as the test of the items that it matches: each call does what
   -- the plain call does at the one stored item that matches
+  -- whether there is one
+  abbrev pub contains_matched : (T → Bool) → List T → Bool
+  contains_matched test items = list_any test items
+
   module _ (eq : T → T → Bool) (test : T → Bool) where
     -- the stored item
     abbrev pub item_matched : List T → Option T
@@ -55,15 +60,15 @@ module _ {T : Type 0} where
     abbrev pub take_item_matched : List T → List T
     take_item_matched items = option_map_or (take_item eq items) (find test items) items
 
--- the pairs of a map with the value `()` that has these items as its keys
-abbrev pub units : {T : Type 0} → List T → List (T × Unit {0})
-units items = map (λ x. (x, tt)) items
-
 module _ {F T : Type 0} (g : Mut F (Bor T × Unit {0}) Bool) where
-  -- a call of f at a `&` to x may answer b and leave f as f'
-  abbrev pub CalledAtItem : F → T → Unit {0} → Bool → Unit {0} → F → Type 0
-  CalledAtItem f x u b w f' = CalledAt g f x b f'
+  -- a call of f at a `&` to x may answer b, and leave f' for f; the item stays
+  abbrev pub VisitsItem : F → T → Bool → T → F → Type 0
+  VisitsItem f x b y f' = CalledAt g f x b f' × (y ≡ x)
 
-  -- f may be called at a `&` to x
-  abbrev pub TakesItem : F → T → Unit {0} → Type 0
-  TakesItem f x u = (item : Bor T) → item.now ≡ x → Takes g f (item, tt)
+  -- f may be called at each item that it visits
+  abbrev pub MayRetainItems : F → List T → Type 0
+  MayRetainItems f items = AtEachVisit VisitsItem f items (TakesAt g)
+
+  -- f can keep these of the items
+  abbrev pub RetainsItems : F → List T → List T → Type 0
+  RetainsItems f items kept = WalkKeeps VisitsItem f items kept

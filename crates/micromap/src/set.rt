@@ -5,7 +5,9 @@ ghost use Rattle.micromap.specs.Items.{IsItems, item, contains, item_fits};
 
 mod change;
 mod clone;
+mod compare;
 mod extend;
+mod operations;
 mod print;
 mod probed;
 mod relation;
@@ -13,6 +15,7 @@ mod retain;
 mod walk;
 
 use crate::Map;
+pub use operations::{Difference, DifferenceRef, Intersection, SymmetricDifference, Union};
 use std::marker::Model;
 pub use walk::{Drain, IntoIter, Iter};
 
@@ -46,7 +49,7 @@ impl<T: Eq, const N: usize> Set<T, N> {
     /// The number of items. Callers also learn here what holds of each set's content.
     #[inline]
     pub fn len(&self) -> usize
-        ensures value { result ≡ length self.now }
+        ensures answer { result ≡ length self.now }
         ensures content { IsItems T.eq N self.now }
     {
         self.map.len()

@@ -1,1 +1,2 @@
 pub mod LockstepLemmas
+mod ReportLemmas

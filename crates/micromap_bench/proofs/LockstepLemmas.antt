@@ -1,8 +1,14 @@
 -- What is left to run makes of two maps what the whole list of calls makes of them.
-use Rattle.std.proofs.Common.{◌≡◌, ℕ, ◌+◌, ◌<◌, Bool, true, false, ◌&&◌, List, ◌∷◌, length, get_or, drop, map, refl, ◌∙◌}
+use Rattle.std.proofs.Common.{◌≡◌, ◌↔◌, ℕ, ◌+◌, ◌<◌, ◌≤◌, Bool, true, false, ◌&&◌, List, [], ◌∷◌, length, get_or, drop, map, IsTrue, refl, ap, sym, ◌∙◌}
+use Rattle.std.specs.Cmp.{IsEquivalence}
 use Rattle.std.specs.Cmp.Lexicographic.{pointwise}
-use Rattle.std.proofs.lemmas.List.{drop_more}
+use Rattle.std.proofs.Math.Bool.{and-true}
+use Rattle.std.proofs.lemmas.List.{drop_all, drop_more}
+use Rattle.micromap.proofs.FairLemmas.{same_for_good}
 use Rattle.micromap.specs.Calls.{Call, answer, after, run, agree}
+use Rattle.micromap.specs.Fair.{IsFair, AnswersAgree}
+use Rattle.micromap.specs.Pairs.{IsUnique}
+use Rattle.micromap.specs.Same.{is_same, Same}
 
 and_assoc : (x y z : Bool) → ((x && y) && z) ≡ (x && (y && z))
 and_assoc true y z = refl
@@ -23,6 +29,21 @@ module _ {K V : Type 0} (eq : K → K → Bool) (same : V → V → Bool) (N M :
     answers_agree = and_assoc agreed _ _ ∙ leads.answers_agree;
   }
 
+  -- no call is left
+  pub Leads-all : (first second : List (K × V)) (agreed : Bool) (first_start second_start : List (K × V)) (calls : List (Call K V)) → Leads first second agreed [] first_start second_start calls → IsTrue agreed ↔ AnswersAgree eq same N M first_start second_start calls
+  Leads-all first second agreed first_start second_start calls leads =
+      let is = sym (and-true agreed) ∙ leads.answers_agree in
+      (λ yes. sym is ∙ yes, λ agrees. is ∙ agrees)
+
+  -- fair calls on two lists that are the same are answered alike, and leave the two the same
+  pub Leads-same : IsEquivalence eq → IsEquivalence same → (first second : List (K × V)) (agreed : Bool) (first_start second_start : List (K × V)) (calls : List (Call K V)) → Leads first second agreed [] first_start second_start calls → IsUnique eq first_start → IsUnique eq second_start → Same eq same first_start second_start → IsFair eq N M first_start second_start calls → IsTrue agreed × Same eq same first second
+  Leads-same keys values first second agreed first_start second_start calls leads unique_first unique_second are fair =
+      let kept = same_for_good eq same keys values N M first_start second_start unique_first unique_second are calls fair in
+      ((Leads-all first second agreed first_start second_start calls leads).1 kept.0, (λ i. is_same eq same (leads.first_ends i) (leads.second_ends i)) ∙ kept.1)
+
 -- the calls that are left, from the one at an index on
 pub calls_more : {X Y : Type 0} (f : X → Y) (xs : List X) (i : ℕ) (x : X) → i < length xs → x ≡ get_or xs i x → map f (drop i xs) ≡ f x ∷ map f (drop (i + 1) xs)
 calls_more f xs i x within read = rw (drop_more xs i x within, ← read) refl
+
+pub calls_ended : {X Y : Type 0} (f : X → Y) (xs : List X) (i : ℕ) → length xs ≤ i → map f (drop i xs) ≡ []
+calls_ended f xs i past = ap (map f) (drop_all i xs past)

@@ -1,1 +1,2 @@
 pub mod Lockstep
+pub mod Report

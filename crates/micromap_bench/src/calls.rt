@@ -1,6 +1,8 @@
 //! Two maps under one list of keyed calls.
 ghost use Rattle.std.specs.Prelude.{◌≡◌, ◌↔◌, map, IsTrue};
 ghost use Rattle.micromap.specs.Calls.{answer, after, run, agree, Agree};
+ghost use Rattle.micromap.specs.Fair.{IsFair};
+ghost use Rattle.micromap.specs.Same.{Same};
 ghost use Rattle.micromap_bench.specs.Lockstep.{call_of, answer_of};
 
 use micromap::Map;
@@ -34,6 +36,7 @@ enum Answer<K, V> {
 /// Runs every call on both maps, also after a difference, and answers whether all answers agreed.
 ///
 /// An insertion that doesn't fit changes nothing and answers that it was refused, which agrees with a refusal alone.
+/// On two maps that are the same, calls that are fair to both are answered alike and leave the two the same.
 pub fn lockstep<K: Eq + Copy, V: Eq + Copy, const N: usize, const M: usize>(
     first: &mut Map<K, V, N>,
     second: &mut Map<K, V, M>,
@@ -43,7 +46,12 @@ pub fn lockstep<K: Eq + Copy, V: Eq + Copy, const N: usize, const M: usize>(
     ensures second { second.new ≡ (run K.eq M second.old (map call_of calls.now)).1 }
     ensures answer { IsTrue result ↔ Agree K.eq V.eq (run K.eq N first.old (map call_of calls.now)).0
         (run K.eq M second.old (map call_of calls.now)).0 }
+    ensures keeps_same { Same K.eq V.eq first.old second.old
+        → IsFair K.eq N M first.old second.old (map call_of calls.now)
+        → IsTrue result × Same K.eq V.eq first.new second.new }
 {
+    // What holds of each map's content is learnt from `len`.
+    let _held = (first.len(), second.len());
     let mut agreed = true;
     for call in calls {
         let one = perform(first, call);
@@ -102,5 +110,29 @@ fn agrees<K: Eq, V: Eq>(one: &Answer<K, V>, other: &Answer<K, V>) -> bool
         (Answer::Done, Answer::Done) => true,
         (Answer::Refused, Answer::Refused) => true,
         _ => false,
+    }
+}
+
+#[cfg(test)]
+mod tests {
+    use super::{Call, lockstep};
+    use micromap::Map;
+
+    #[test]
+    fn empty_maps_answer_alike_at_any_capacity(rt: HostRuntime) {
+        let mut none: Map<u8, u8, 0> = Map::new();
+        let mut some: Map<u8, u8, 3> = Map::new();
+        let calls = [
+            Call::Get(1),
+            Call::GetKeyValue(1),
+            Call::Remove(1),
+            Call::RemoveEntry(1),
+            Call::Contains(1),
+            Call::Len,
+            Call::IsEmpty,
+            Call::Clear,
+        ];
+        assert!(rt; lockstep(&mut none, &mut some, &calls));
+        assert!(rt; none.eq_with(&some));
     }
 }

@@ -1,38 +1,36 @@
 //! Performs worked rows over the library, and says of each whether it came out.
 #![tactic(auto)]
 
-ghost use Rattle.std.specs.Prelude.{◌≤◌};
+ghost use Rattle.std.specs.Prelude.{◌≡◌, ◌≤◌};
+ghost use Rattle.std.specs.Io.KnownBytes.{Appends};
+ghost use Rattle.micromap_bench.specs.Report.{ok_lines};
 
 mod calls;
+mod report;
 mod rows;
 
 pub use calls::{Call, lockstep};
+use report::write_report;
+use rows::{NUMBERS, row};
 use std::alloc::Global;
 use std::io::{self, Write};
 use std::process::ExitCode;
 
 /// Performs the rows in the order of their numbers, and writes `row <n>: ok` or `row <n>: wrong` for each.
 ///
-/// The answer is 0 where all are ok and written, else 1. The first failed write ends the run.
+/// The answer is 0 where all are ok and every line was written, else 1. The first failed write ends the run.
 pub fn run_rows<W: Write>(alloc: Global, out: &mut W) -> u8
-    ensures { result ≤ 1 }
+    ensures answer { result ≤ 1 }
+    ensures lines { result ≡ 0 →
+        Appends (W.contents out.old) (W.contents out.new) (ok_lines NUMBERS) }
 {
-    let mut status = 0;
-    for number in 1..=rows::LAST {
-        let Some(ok) = rows::row(alloc, number) else {
-            continue;
-        };
-        let outcome = if ok {
-            "ok"
-        } else {
-            status = 1;
-            "wrong"
-        };
-        if writeln!(out, "row {number}: {outcome}").is_err() {
-            return 1;
-        }
+    let rows = NUMBERS
+        .into_iter()
+        .map(|number| (number, row(alloc, number).unwrap_or(false)));
+    match write_report(rows, out) {
+        Ok(true) => 0,
+        _ => 1,
     }
-    status
 }
 
 fn main(rt: HostRuntime) -> ExitCode {

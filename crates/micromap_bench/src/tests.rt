@@ -1,52 +1,86 @@
-//! What no contract says: values from outside, the lines that a run writes, and how it ends where they can't be written.
+//! What no contract says: values from outside, that a run comes through, and that a failed write ends it.
+use super::report::write_report;
+use super::rows::NUMBERS;
 use super::rows::marked::Marked;
 use super::{Call, lockstep, run_rows};
 use micromap::Map;
 use std::io::{self, Write};
 use std::test::Fail;
 
-// A writer that refuses each write after the first few.
+// A writer that counts its calls, and refuses one of them.
 #[derive(Drop)]
 struct Refusing {
-    accepted: u8,
+    refused: usize,
+    calls: usize,
 }
 
-impl Write for Refusing {
-    fn write(&mut self, buf: &[u8]) -> io::Result<usize> {
-        if self.accepted == 0 {
-            return Err(io::Error::from(io::ErrorKind::BrokenPipe));
-        }
-        self.accepted -= 1;
-        Ok(buf.len())
+impl Refusing {
+    // Refuses the call with this number, counted from 0.
+    fn new(refused: usize) -> Self {
+        Refusing { refused, calls: 0 }
     }
 
-    fn flush(&mut self) -> io::Result<()> {
+    // Counts a call, and refuses it where it is the one.
+    fn call(&mut self) -> io::Result<()> {
+        let number = self.calls;
+        self.calls = self.calls.saturating_add(1);
+        if number == self.refused {
+            return Err(io::Error::from(io::ErrorKind::BrokenPipe));
+        }
         Ok(())
     }
 }
 
-#[test]
-fn a_refused_first_write_ends_the_run_with_1(rt: HostRuntime) {
-    let mut out = Refusing { accepted: 0 };
-    assert_eq!(rt; run_rows(rt.alloc(), &mut out), 1);
+impl Write for Refusing {
+    fn write(&mut self, buf: &[u8]) -> io::Result<usize> {
+        self.call()?;
+        Ok(buf.len())
+    }
+
+    fn flush(&mut self) -> io::Result<()> {
+        self.call()
+    }
 }
 
 #[test]
-fn a_whole_run_ends_with_0(rt: HostRuntime) -> Result<(), Fail> {
+fn a_whole_run_writes_each_row(rt: HostRuntime) -> Result<(), Fail> {
+    let mut expected: Vec<u8> = Vec::new(rt.alloc());
+    for number in NUMBERS {
+        writeln!(expected, "row {number}: ok")?;
+    }
     let mut out: Vec<u8> = Vec::new(rt.alloc());
     assert_eq!(rt; run_rows(rt.alloc(), &mut out), 0);
-    assert!(rt;
-        out.as_slice()
-            .starts_with(b"row 1: ok\nrow 2: ok\nrow 3: ok\nrow 7: ok\n")
-    );
+    assert_eq!(rt; out.as_slice(), expected.as_slice());
     Ok(())
 }
 
 #[test]
+fn a_refused_write_ends_the_run(rt: HostRuntime) {
+    let mut willing = Refusing::new(usize::MAX);
+    assert_eq!(rt; run_rows(rt.alloc(), &mut willing), 0);
+    for refused in 0..willing.calls {
+        let mut out = Refusing::new(refused);
+        assert_eq!(rt; run_rows(rt.alloc(), &mut out), 1, "at {refused}");
+        assert_eq!(rt; out.calls, refused.saturating_add(1), "at {refused}");
+    }
+}
+
+#[test]
+fn a_report_goes_on_after_a_wrong_row(rt: HostRuntime) {
+    let rows = [(1, true), (2, false), (30, true)];
+    let mut out: Vec<u8> = Vec::new(rt.alloc());
+    let all_ok = write_report(rows.into_iter(), &mut out);
+    assert!(rt; matches!(all_ok, Ok(false)));
+    assert_eq!(rt;
+        out.as_slice(),
+        b"row 1: ok\nrow 2: wrong\nrow 30: ok\n".as_slice()
+    );
+}
+
+#[test]
 fn lockstep_goes_on_after_a_difference(rt: HostRuntime) {
-    let mut first: Map<u8, u8, 1> = Map::new();
+    let mut first: Map<u8, u8, 1> = Map::from([(1, 10)]);
     let mut second: Map<u8, u8, 2> = Map::new();
-    first.insert(1, 10);
     second.insert(1, 10);
     let calls = [
         Call::Insert(2, 20),
@@ -55,24 +89,19 @@ fn lockstep_goes_on_after_a_difference(rt: HostRuntime) {
         Call::Insert(3, 30),
     ];
     assert!(rt; !lockstep(&mut first, &mut second, &calls));
-    assert_eq!(rt; first.len(), 1);
-    assert_eq!(rt; first.get(&3), Some(&30));
-    assert_eq!(rt; second.len(), 2);
-    assert_eq!(rt; second.get(&2), Some(&20));
-    assert_eq!(rt; second.get(&3), Some(&30));
+    assert!(rt; first.drain().eq([(3, 30)]));
+    assert!(rt; second.drain().eq([(2, 20), (3, 30)]));
 }
 
 #[test]
 fn two_refusals_agree(rt: HostRuntime) {
-    let mut first: Map<u8, u8, 1> = Map::new();
-    let mut second: Map<u8, u8, 1> = Map::new();
-    first.insert(1, 10);
-    second.insert(1, 10);
+    let mut first: Map<u8, u8, 1> = Map::from([(1, 10)]);
+    let mut second: Map<u8, u8, 1> = Map::from([(1, 10)]);
     let calls = [Call::Insert(2, 20), Call::Get(1)];
     assert!(rt; lockstep(&mut first, &mut second, &calls));
     assert!(rt; lockstep(&mut first, &mut second, &[]));
-    assert_eq!(rt; first.get(&1), Some(&10));
-    assert_eq!(rt; second.get(&1), Some(&10));
+    assert_eq!(rt; (first.get(&1), first.len()), (Some(&10), 1));
+    assert_eq!(rt; (second.get(&1), second.len()), (Some(&10), 1));
     let others = [
         Call::InsertKeyValue(1, 11),
         Call::GetKeyValue(1),

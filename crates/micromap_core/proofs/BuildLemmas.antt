@@ -1,57 +1,68 @@
--- One more item of a map that is built.
-use Rattle.std.proofs.Common.{◌≡◌, ℕ, Bool, true, false, ◌&&◌, List, [], ◌∷◌, ◌++◌, Option, Some, None, is_some, not, if◌then◌else◌, IsTrue, refl, ap, sym, ◌∙◌, arith, length, get_or, take, ◌<◌, ◌≤◌, ◌+◌, ◌||◌}
+-- Items that are put one after the other: one more, and all of them.
+use Rattle.std.proofs.Common.{◌≡◌, ℕ, zero, suc, ◌+◌, ◌<◌, Bool, true, false, ◌&&◌, not, List, [], ◌∷◌, ◌++◌, length, get_or, take, Option, Some, if◌then◌else◌, IsTrue, ap, sym, subst, ◌∙◌, arith}
 use Rattle.std.specs.Cmp.{first_so, second_so}
 use Rattle.std.specs.Cmp.Derive.{both_true}
-use Rattle.std.specs.Map.{set_value}
-use Rattle.std.proofs.Math.Bool.{or-true}
-use Rattle.std.proofs.lemmas.Bool.{false≢true, lt-ltb}
-use Rattle.std.proofs.lemmas.List.{length-append, take_more}
-use Rattle.std.proofs.lemmas.Map.{length-set_value}
+use Rattle.std.specs.Iterator.{Drains, YieldsThen}
+use Rattle.std.specs.Iterator.Runs.{WholeRun}
+use Rattle.std.specs.List.{fold}
+use Rattle.std.proofs.Math.Bool.{and-true, and_assoc}
+use Rattle.std.proofs.iter.runs.Consumers.{total_runs}
+use Rattle.std.proofs.lemmas.List.{length_push, take_more}
 use Rattle.std.proofs.lemmas.List.Sums.{fold_push}
-use Rattle.micromap_core.specs.Build.{build, all_fit}
-use Rattle.micromap_core.specs.Pairs.{fits, has, put}
+use Rattle.micromap_core.specs.Build.{each_fits, PutsAll, PutsUpTo}
 
-module _ {K V : Type 0} (eq : K → K → Bool) where
-  pub build_more : (pairs items : List (K × V)) (item : K × V) → build eq pairs (items ++ item ∷ []) ≡ put eq (build eq pairs items) item.0 item.1
-  build_more pairs items item = fold_push (λ pairs item. put eq pairs item.0 item.1) pairs items item
+module _ {C X : Type 0} (fits : C → X → Bool) (put : C → X → C) where
+  fits_within : (old : C) (items : List X) (index : ℕ) (d : X) → index < length items → IsTrue (each_fits fits put old items) → fits (fold put old (take index items)) (get_or items index d) ≡ true
+  fits_within old [] index d within fit = absurd (omega arith)
+  fits_within old (x ∷ items) zero d within fit = first_so _ _ fit
+  fits_within old (x ∷ items) (suc index) d within fit = fits_within (put old x) items index d (omega arith) (second_so _ _ fit)
 
-  pub all_fit_more : (N : ℕ) (pairs items : List (K × V)) (item : K × V) → IsTrue (all_fit eq N pairs items) → IsTrue (fits eq N (build eq pairs items) item.0) → IsTrue (all_fit eq N pairs (items ++ item ∷ []))
-  all_fit_more N pairs [] item fit last = both_true last refl
-  all_fit_more N pairs (p ∷ items) item fit last =
-      let whole : (fits eq N pairs p.0 && all_fit eq N (put eq pairs p.0 p.1) items) ≡ true = fit in
-      both_true (first_so _ _ whole) (all_fit_more N (put eq pairs p.0 p.1) items item (second_so _ _ whole) last)
+  -- the items so far all fit and are put, and position counts them
+  pub record HasPut (old : C) (items : List X) (position : ℕ) (now : C) : Type 0 where
+    pub fit : IsTrue (each_fits fits put old items)
+    pub made : now ≡ fold put old items
+    pub position_is : position ≡ length items
 
--- what is answered only where a test is passed
-pub answered : {X : Type 0} (b : Bool) (x : X) (r : Option X) → r ≡ (if b then Some x else None) → is_some r ≡ true → IsTrue b
-answered true x r is some = refl
-answered false x r is some = absurd (false≢true (sym (ap is_some is) ∙ some))
+  pub each_fits-push : (old : C) (items : List X) (x : X) → each_fits fits put old (items ++ x ∷ []) ≡ (each_fits fits put old items && fits (fold put old items) x)
+  each_fits-push old [] x = and-true (fits old x)
+  each_fits-push old (y ∷ items) x = ap (λ b. fits old y && b) (each_fits-push (put old y) items x) ∙ sym (and_assoc (fits old y) _ _)
 
-pub unanswered : {X : Type 0} (b : Bool) (x : X) (r : Option X) → r ≡ (if b then Some x else None) → is_some r ≡ false → IsTrue (not b)
-unanswered true x r is none = absurd (false≢true (sym none ∙ ap is_some is))
-unanswered false x r is none = refl
+  module _ (old : C) (items : List X) (position : ℕ) (now new : C) (x : X) (has : HasPut old items position now) (next : new ≡ (if fits now x then put now x else now)) where
+    -- one more that fits
+    pub has_put_more : fits now x ≡ true → HasPut old (items ++ x ∷ []) (position + 1) new
+    has_put_more fit = record {
+      fit = each_fits-push old items x ∙ both_true has.fit (subst (λ c. fits c x ≡ true) has.made fit);
+      made = next ∙ ap (λ b. if b then put now x else now) fit ∙ ap (λ c. put c x) has.made ∙ sym (fold_push put old items x);
+      position_is = omega (arith, has.position_is, length_push items x);
+    }
 
--- the first of two lists where the test is passed
-pub passed : {X : Type 0} (b : Bool) (x y z : X) → z ≡ (if b then x else y) → IsTrue b → z ≡ x
-passed b x y z is so = is ∙ ap (λ c. if c then x else y) so
+    -- one that doesn't fit
+    pub puts_up_to : {S : Type 0} (steps : S → Option X → S → Type 0) (it rest : S) → fits now x ≡ false → YieldsThen steps it items (Some x) rest → PutsUpTo fits put steps old it position new
+    puts_up_to steps it rest misfit gave =
+        let same : new ≡ now = next ∙ ap (λ b. if b then put now x else now) misfit in
+        record {
+          before = items;
+          item = x;
+          rest = rest;
+          gave = gave;
+          fit = has.fit;
+          made = same ∙ has.made;
+          misfit = ap (λ c. not (fits c x)) same ∙ ap not misfit;
+          position_is = has.position_is;
+        }
 
-module _ {K V : Type 0} (eq : K → K → Bool) (pairs : List (K × V)) (k : K) where
-  -- with room each key fits
-  pub fits_room : (N : ℕ) → length pairs < N → IsTrue (fits eq N pairs k)
-  fits_room N room = ap (λ b. has eq pairs k || b) (lt-ltb (length pairs) N room) ∙ or-true (has eq pairs k)
+  module _ {S : Type 0} (steps : S → Option X → S → Type 0) (it : S) (old now : C) where
+    pub puts_all : (items : List X) (position : ℕ) → HasPut old items position now → Drains steps it items → PutsAll fits put steps old it now
+    puts_all items position has gave = record { items = items; gave = gave; fit = has.fit; made = has.made }
 
-  -- a put adds at most one pair
-  pub length_put : (v : V) → length (put eq pairs k v) ≤ length pairs + 1
-  unfolding put
-  length_put v = by (has eq pairs k)
-    where
-      by : (b : Bool) → length (if b then set_value (eq k) pairs v else pairs ++ (k, v) ∷ []) ≤ length pairs + 1
-      by true = omega (arith, length-set_value (eq k) pairs v)
-      by false = omega (arith, length-append pairs ((k, v) ∷ []))
+    -- read as a run of the iterator
+    pub run_puts : PutsAll fits put steps old it now → WholeRun steps it (λ p. now ≡ fold put old p.items)
+    run_puts all = total_runs steps it _ (λ items. now ≡ fold put old items) (all.items, λ _. all.gave, all.made) (tt {0})
 
--- one more item of a list, by its index
-pub built_at : {K V : Type 0} (eq : K → K → Bool) (items : List (K × V)) (n : ℕ) (d : K × V) (pairs new : List (K × V)) → n < length items → pairs ≡ build eq [] (take n items) → length pairs ≤ n → new ≡ put eq pairs (get_or items n d).0 (get_or items n d).1 → (new ≡ build eq [] (take (n + 1) items)) × (length new ≤ n + 1)
-built_at eq items n d pairs new within built short made =
-    let item = get_or items n d in (
-      made ∙ ap (λ l. put eq l item.0 item.1) built ∙ sym (ap (build eq []) (take_more items n d within) ∙ build_more eq [] (take n items) item),
-      omega (arith, ap length made, length_put eq pairs item.0 item.1, short),
-    )
+  -- the item of a list at an index
+  module _ (old : C) (items : List X) (index : ℕ) (d : X) (now : C) (within : index < length items) (made : now ≡ fold put old (take index items)) where
+    pub fits_at : IsTrue (each_fits fits put old items) → fits now (get_or items index d) ≡ true
+    fits_at fit = ap (λ c. fits c (get_or items index d)) made ∙ fits_within old items index d within fit
+
+    pub put_at : (new : C) → new ≡ put now (get_or items index d) → new ≡ fold put old (take (index + 1) items)
+    put_at new next = next ∙ ap (λ c. put c (get_or items index d)) made ∙ sym (ap (fold put old) (take_more items index d within) ∙ fold_push put old (take index items) (get_or items index d))

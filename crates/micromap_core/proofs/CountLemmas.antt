@@ -1,131 +1,98 @@
--- A map that is built has one pair for each distinct key of its items.
-use Rattle.std.proofs.Common.{◌≡◌, ℕ, ◌+◌, ◌<◌, ◌≤◌, Bool, true, false, ◌||◌, List, [], ◌∷◌, ◌++◌, length, if◌then◌else◌, IsTrue, refl, ap, sym, subst, ◌∙◌, arith}
-use Rattle.std.specs.Cmp.{IsEquivalence, first_so, second_so}
-use Rattle.std.specs.Cmp.Derive.{both_true}
-use Rattle.std.specs.List.{IsDistinct}
-use Rattle.std.specs.Map.{keys_of, set_value}
+-- A content that is built has one key for each distinct key of its items, so they all fit where there are few of those.
+use Rattle.std.proofs.Common.{◌≡◌, ℕ, ◌<◌, ◌≤◌, nat_lt, nat_le, Bool, true, false, ◌&&◌, ◌||◌, ◌⊎◌, inl, inr, List, [], ◌∷◌, ◌++◌, length, get_or, map, take, Option, IsTrue, refl, ap, sym, subst, ◌∙◌, add-one, arith}
+use Rattle.std.specs.Cmp.{IsEquivalence}
+use Rattle.std.specs.List.{fold, list_any, IsDistinct}
+use Rattle.std.specs.Map.{keys_of}
 use Rattle.std.specs.Set.{distinct_count, is_member}
-use Rattle.std.proofs.Math.Bool.{or-true, or-false}
-use Rattle.std.proofs.lemmas.Bool.{lt-ltb, ltb-true, ltb-false, not-true, or_parts}
-use Rattle.std.proofs.lemmas.List.{length-append}
+use Rattle.std.proofs.Math.Bool.{and-false, or-true, or-false, or_assoc}
+use Rattle.std.proofs.lemmas.Bool.{lt-leb, le-leb, leb-true, leb-false, not-true}
+use Rattle.std.proofs.lemmas.Bool.Decides.{leb_tells}
+use Rattle.std.proofs.lemmas.List.{length_push, length-map}
 use Rattle.std.proofs.lemmas.List.Folds.{list_any-append}
-use Rattle.std.proofs.lemmas.Map.{length-set_value}
 use Rattle.std.proofs.lemmas.Map.Entries.{length-keys_of}
 use Rattle.std.proofs.lemmas.Map.Keys.{IsDistinct-push}
-use Rattle.std.proofs.lemmas.Map.Made.{is_some-lookup, length-from_keys}
-use Rattle.micromap_core.specs.Build.{build, all_fit, IsMisfit}
-use Rattle.micromap_core.specs.Pairs.{fits, has, has_room, put, IsUnique}
-use Rattle.micromap_core.proofs.BuildLemmas.{build_more}
-use Rattle.micromap_core.proofs.PlacesLemmas.{ArePlaces-nil}
+use Rattle.std.proofs.lemmas.Map.Made.{is_some-lookup, distinct_count-le, length-from_keys, length-le_from_is_member}
+use Rattle.micromap_core.specs.Build.{each_fits, pair_fits, put_pair, PutsAll, PutsUpTo, BuildsAll, BuildsUpTo}
+use Rattle.micromap_core.specs.Pairs.{has, has_room}
+use Rattle.micromap_core.proofs.BuildLemmas.{each_fits-push, fits_at}
 use Rattle.micromap_core.proofs.PairsLemmas.{keys_of-put_stored, keys_of-put_new}
 
-module _ {K V : Type 0} (eq : K → K → Bool) (N : ℕ) where
-  -- a put of a stored key keeps the length, and of a new key adds one
-  length_stored : (pairs : List (K × V)) (k : K) (v : V) → has eq pairs k ≡ true → length (put eq pairs k v) ≡ length pairs
-  unfolding put
-  length_stored pairs k v stored = ap (λ b. length (if b then set_value (eq k) pairs v else pairs ++ (k, v) ∷ [])) stored ∙ length-set_value (eq k) pairs v
+IsDistinct-nil : {K : Type 0} (eq : K → K → Bool) → IsDistinct eq []
+unfolding IsDistinct
+IsDistinct-nil eq = tt
 
-  length_new : (pairs : List (K × V)) (k : K) (v : V) → has eq pairs k ≡ false → length (put eq pairs k v) ≡ length pairs + 1
-  unfolding put
-  length_new pairs k v missing = ap (λ b. length (if b then set_value (eq k) pairs v else pairs ++ (k, v) ∷ [])) missing ∙ length-append pairs ((k, v) ∷ [])
+-- a content and its items have keys: an item whose key is there fits and adds none, and any other fits where there is
+-- room and adds its key at the end; count tells how many distinct keys items have
+pub record IsKeyed {C X K : Type 0} (eq : K → K → Bool) (N : ℕ) (fits : C → X → Bool) (put : C → X → C) (keys : C → List K) (key : X → K) (empty : C) (count : List X → ℕ) : Type 0 where
+  pub cases : (c : C) (x : X) → ((is_member eq (keys c) (key x) ≡ true) × (fits c x ≡ true) × (keys (put c x) ≡ keys c)) ⊎ ((is_member eq (keys c) (key x) ≡ false) × (fits c x ≡ nat_lt (length (keys c)) N) × (keys (put c x) ≡ keys c ++ key x ∷ []))
+  pub none : keys empty ≡ []
+  pub counts : (items : List X) → count items ≡ distinct_count eq (map key items)
 
-  -- a put takes nothing out
-  put_longer : (pairs : List (K × V)) (k : K) (v : V) → length pairs ≤ length (put eq pairs k v)
-  put_longer pairs k v = by (has eq pairs k) refl
+module _ {C X K : Type 0} {eq : K → K → Bool} (laws : IsEquivalence eq) {N : ℕ} {fits : C → X → Bool} {put : C → X → C} {keys : C → List K} {key : X → K} {empty : C} {count : List X → ℕ} (keyed : IsKeyed eq N fits put keys key empty count) where
+  -- the keys after a put are distinct, and are those before it and the item's
+  keys-put : (c : C) (x : X) → IsDistinct eq (keys c) → IsDistinct eq (keys (put c x)) × ((q : K) → is_member eq (keys (put c x)) q ≡ (is_member eq (keys c) q || eq q (key x)))
+  keys-put c x distinct = elim (keyed.cases c x) [
+    | inl h ↦ subst (λ ks. IsDistinct eq ks × ((q : K) → is_member eq ks q ≡ (is_member eq (keys c) q || eq q (key x)))) (sym h.2) (distinct, λ q. member q (eq q (key x)) refl h.0)
+    | inr h ↦ subst (λ ks. IsDistinct eq ks × ((q : K) → is_member eq ks q ≡ (is_member eq (keys c) q || eq q (key x)))) (sym h.2) (IsDistinct-push laws (keys c) (key x) distinct h.0, λ q. list_any-append (eq q) (keys c) (key x ∷ []) ∙ ap (λ b. is_member eq (keys c) q || b) (or-false (eq q (key x))))
+  ]
     where
-      by : (b : Bool) → has eq pairs k ≡ b → length pairs ≤ length (put eq pairs k v)
-      by true h = omega (arith, length_stored pairs k v h)
-      by false h = omega (arith, length_new pairs k v h)
+      member : (q : K) (b : Bool) → eq q (key x) ≡ b → is_member eq (keys c) (key x) ≡ true → is_member eq (keys c) q ≡ (is_member eq (keys c) q || b)
+      member q true same there = ap (λ test. list_any test (keys c)) (λ i k. laws.congr q (key x) k same i) ∙ there ∙ sym (or-true _)
+      member q false other there = sym (or-false _)
 
-  build_longer : (pairs items : List (K × V)) → length pairs ≤ length (build eq pairs items)
-  build_longer pairs [] = omega arith
-  build_longer pairs (p ∷ items) = omega (arith, put_longer pairs p.0 p.1, build_longer (put eq pairs p.0 p.1) items)
+  keys-fold : (c : C) (items : List X) → IsDistinct eq (keys c) → IsDistinct eq (keys (fold put c items)) × ((q : K) → is_member eq (keys (fold put c items)) q ≡ (is_member eq (keys c) q || is_member eq (map key items) q))
+  keys-fold c [] distinct = (distinct, λ q. sym (or-false _))
+  keys-fold c (x ∷ items) distinct =
+      let one = keys-put c x distinct in
+      let all = keys-fold (put c x) items one.0 in
+      (all.0, λ q. all.1 q ∙ ap (λ b. b || is_member eq (map key items) q) (one.1 q) ∙ or_assoc (is_member eq (keys c) q) (eq q (key x)) (is_member eq (map key items) q))
 
-  -- where each item fits, so do all pairs, and the other way round
-  pub fit_short : (pairs items : List (K × V)) → length pairs ≤ N → IsTrue (all_fit eq N pairs items) → length (build eq pairs items) ≤ N
-  fit_short pairs [] short fit = short
-  fit_short pairs (p ∷ items) short fit =
-      fit_short (put eq pairs p.0 p.1) items (step (has eq pairs p.0) refl (first_so _ _ fit)) (second_so _ _ fit)
-    where
-      step : (b : Bool) → has eq pairs p.0 ≡ b → IsTrue (fits eq N pairs p.0) → length (put eq pairs p.0 p.1) ≤ N
-      step true h f = omega (arith, length_stored pairs p.0 p.1 h, short)
-      step false h f = omega (arith, length_new pairs p.0 p.1 h, ltb-true (length pairs) N (ap (λ b. b || has_room N pairs) (sym h) ∙ f))
+  -- an item fits, and items fit, exactly where the keys are few enough with them
+  fits-count : (c : C) (x : X) → length (keys c) ≤ N → fits c x ≡ nat_le (length (keys (put c x))) N
+  fits-count c x short = elim (keyed.cases c x) [
+    | inl h ↦ h.1 ∙ sym (le-leb (length (keys (put c x))) N (rw (h.2) short))
+    | inr h ↦ h.1 ∙ ap (λ n. nat_le n N) (sym (ap length h.2 ∙ length_push (keys c) (key x) ∙ add-one (length (keys c))))
+  ]
 
-  pub short_fit : (pairs items : List (K × V)) → length (build eq pairs items) ≤ N → IsTrue (all_fit eq N pairs items)
-  short_fit pairs [] short = refl
-  short_fit pairs (p ∷ items) short =
-      both_true (step (has eq pairs p.0) refl) (short_fit (put eq pairs p.0 p.1) items short)
-    where
-      step : (b : Bool) → has eq pairs p.0 ≡ b → fits eq N pairs p.0 ≡ true
-      step true h = ap (λ b. b || has_room N pairs) h
-      step false h = ap (λ b. has eq pairs p.0 || b) (lt-ltb (length pairs) N (omega (arith, length_new pairs p.0 p.1 h, build_longer (put eq pairs p.0 p.1) items, short))) ∙ or-true _
+  each_fits-count : (c : C) (items : List X) → IsDistinct eq (keys c) → length (keys c) ≤ N → each_fits fits put c items ≡ nat_le (length (keys (fold put c items))) N
+  each_fits-count c [] distinct short = sym (le-leb (length (keys c)) N short)
+  each_fits-count c (x ∷ items) distinct short =
+      let after = (keys-put c x distinct).0 in
+      let longer : length (keys (put c x)) ≤ length (keys (fold put (put c x) items)) = length-le_from_is_member laws _ _ after (λ q member. (keys-fold (put c x) items after).1 q ∙ ap (λ b. b || is_member eq (map key items) q) member) in
+      ap (λ b. b && each_fits fits put (put c x) items) (fits-count c x short) ∙ elim (leb_tells (length (keys (put c x))) N) [
+        | inl few ↦ ap (λ b. b && each_fits fits put (put c x) items) few.0 ∙ each_fits-count (put c x) items after few.1
+        | inr many ↦ ap (λ b. b && each_fits fits put (put c x) items) many.0 ∙ sym (lt-leb _ N (omega (arith, many.1, longer)))
+      ]
 
-or_thrice : (a b c : Bool) → ((a || b) || c) ≡ (a || (b || c))
-or_thrice true b c = refl
-or_thrice false b c = refl
+  all_fit-count : (items : List X) → each_fits fits put empty items ≡ nat_le (count items) N
+  all_fit-count items =
+      let distinct : IsDistinct eq (keys empty) = subst (IsDistinct eq) (sym keyed.none) (IsDistinct-nil eq) in
+      let built = keys-fold empty items distinct in
+      each_fits-count empty items distinct (rw (keyed.none) (omega arith))
+      ∙ ap (λ n. nat_le n N) (length-from_keys laws _ (map key items) built.0 (λ q. built.1 q ∙ ap (λ ks. is_member eq ks q || is_member eq (map key items) q) keyed.none) ∙ sym (keyed.counts items))
 
-module _ {K : Type 0} (eq : K → K → Bool) (laws : IsEquivalence eq) where
-  -- equal keys are members alike
-  member_alike : (ks : List K) (q k : K) → eq q k ≡ true → is_member eq ks q ≡ is_member eq ks k
-  member_alike [] q k same = refl
-  member_alike (x ∷ ks) q k same = ap (λ b. b || is_member eq ks q) (laws.congr q k x same) ∙ ap (λ b. eq k x || b) (member_alike ks q k same)
+  module _ {S : Type 0} {steps : S → Option X → S → Type 0} {it : S} {now : C} where
+    pub builds_all : PutsAll fits put steps empty it now → BuildsAll fits put steps count N empty it now
+    builds_all all = record { all = all; few = leb-true _ N (sym (all_fit-count all.items) ∙ all.fit) }
 
-  -- a member is a member still once an equal key is added
-  member_added : (ks : List K) (k q : K) → is_member eq ks k ≡ true → is_member eq ks q ≡ (is_member eq ks q || eq q k)
-  member_added ks k q member = by (eq q k) refl
-    where
-      by : (b : Bool) → eq q k ≡ b → is_member eq ks q ≡ (is_member eq ks q || b)
-      by true same = member_alike ks q k same ∙ member ∙ sym (or-true (is_member eq ks q))
-      by false other = sym (or-false (is_member eq ks q))
+    pub builds_up_to : {position : ℕ} → PutsUpTo fits put steps empty it position now → BuildsUpTo fits put steps count N empty it position
+    builds_up_to first =
+        let refused : fits (fold put empty first.before) first.item ≡ false = ap (λ c. fits c first.item) (sym first.made) ∙ not-true _ first.misfit in
+        let many : each_fits fits put empty (first.before ++ first.item ∷ []) ≡ false = each_fits-push fits put empty first.before first.item ∙ ap (λ b. each_fits fits put empty first.before && b) refused ∙ and-false _ in
+        record { built = now; first = first; many = leb-false _ N (sym (all_fit-count (first.before ++ first.item ∷ [])) ∙ many) }
 
-module _ {K V : Type 0} (eq : K → K → Bool) (laws : IsEquivalence eq) where
-  -- the keys after a put are those before it, and the one that is put
-  member_put : (pairs : List (K × V)) (k : K) (v : V) (q : K) → is_member eq (keys_of (put eq pairs k v)) q ≡ (is_member eq (keys_of pairs) q || eq q k)
-  member_put pairs k v q = by (has eq pairs k) refl
-    where
-      by : (b : Bool) → has eq pairs k ≡ b → is_member eq (keys_of (put eq pairs k v)) q ≡ (is_member eq (keys_of pairs) q || eq q k)
-      by true stored =
-          ap (λ ks. is_member eq ks q) (keys_of-put_stored eq pairs k v stored)
-          ∙ member_added eq laws (keys_of pairs) k q (sym (is_some-lookup (eq k) pairs) ∙ stored)
-      by false missing =
-          ap (λ ks. is_member eq ks q) (keys_of-put_new eq pairs k v missing)
-          ∙ list_any-append (eq q) (keys_of pairs) (k ∷ [])
-          ∙ ap (λ b. is_member eq (keys_of pairs) q || b) (or-false (eq q k))
+  -- as many items as there is room for
+  module _ (items : List X) (long : length items ≡ N) where
+    pub array_fits : IsTrue (each_fits fits put empty items)
+    array_fits = all_fit-count items ∙ le-leb _ N (omega (arith, keyed.counts items, distinct_count-le eq (map key items), length-map items key, long))
 
-  -- the keys that are built are those of the items
-  member_build : (pairs items : List (K × V)) (q : K) → is_member eq (keys_of (build eq pairs items)) q ≡ (is_member eq (keys_of pairs) q || is_member eq (keys_of items) q)
-  member_build pairs [] q = sym (or-false (is_member eq (keys_of pairs) q))
-  member_build pairs (p ∷ items) q =
-      member_build (put eq pairs p.0 p.1) items q
-      ∙ ap (λ b. b || is_member eq (keys_of items) q) (member_put pairs p.0 p.1 q)
-      ∙ or_thrice (is_member eq (keys_of pairs) q) (eq q p.0) (is_member eq (keys_of items) q)
+    pub array_fits_at : (index : ℕ) (d : X) (now : C) → index < N → now ≡ fold put empty (take index items) → fits now (get_or items index d) ≡ true
+    array_fits_at index d now within made = fits_at fits put empty items index d now (omega (arith, within, long)) made array_fits
 
-  unique_put : (pairs : List (K × V)) (k : K) (v : V) → IsUnique eq pairs → IsUnique eq (put eq pairs k v)
-  unique_put pairs k v unique = by (has eq pairs k) refl
-    where
-      by : (b : Bool) → has eq pairs k ≡ b → IsUnique eq (put eq pairs k v)
-      by true stored = subst (IsDistinct eq) (sym (keys_of-put_stored eq pairs k v stored)) unique
-      by false missing =
-          subst (IsDistinct eq) (sym (keys_of-put_new eq pairs k v missing))
-          (IsDistinct-push laws (keys_of pairs) k unique (sym (is_some-lookup (eq k) pairs) ∙ missing))
-
-  unique_build : (pairs items : List (K × V)) → IsUnique eq pairs → IsUnique eq (build eq pairs items)
-  unique_build pairs [] unique = unique
-  unique_build pairs (p ∷ items) unique = unique_build (put eq pairs p.0 p.1) items (unique_put pairs p.0 p.1 unique)
-
-  -- one pair for each distinct key
-  pub length_build : (items : List (K × V)) → length (build eq [] items) ≡ distinct_count eq (keys_of items)
-  length_build items =
-      let built = build eq [] items in
-      sym (length-keys_of built) ∙ length-from_keys laws (keys_of built) (keys_of items) (unique_build [] items (ArePlaces-nil {V = V} eq).unique) (member_build [] items)
-
-  -- where each item fits there are few distinct keys, and up to the first misfit there are too many
-  pub fit_few : (N : ℕ) (items : List (K × V)) → IsTrue (all_fit eq N [] items) → distinct_count eq (keys_of items) ≤ N
-  fit_few N items fit = omega (arith, length_build items, fit_short eq N [] items (omega arith) fit)
-
-  pub misfit_many : (N : ℕ) (before : List (K × V)) (item : K × V) → IsMisfit eq N [] before item → N < distinct_count eq (keys_of (before ++ item ∷ []))
-  misfit_many N before item m =
-      let built = build eq [] before in
-      let parts = or_parts (has eq built item.0) (has_room N built) (not-true (fits eq N built item.0) m.misfit) in
-      let full = ltb-false (length built) N parts.1 in
-      omega (arith, full, length_new eq N built item.0 item.1 parts.0, ap length (build_more eq [] before item), length_build (before ++ item ∷ []))
+-- a map's pairs
+pub pairs_keyed : {K V : Type 0} (eq : K → K → Bool) (N : ℕ) → IsKeyed eq N (pair_fits {V = V} eq N) (put_pair eq) keys_of (λ p. p.0) [] (λ items. distinct_count eq (keys_of items))
+pairs_keyed {K} {V} eq N = record { cases = λ pairs p. by pairs p (has eq pairs p.0) refl; none = refl; counts = λ items. refl }
+  where
+    by : (pairs : List (K × V)) (p : K × V) (b : Bool) → has eq pairs p.0 ≡ b → ((is_member eq (keys_of pairs) p.0 ≡ true) × (pair_fits eq N pairs p ≡ true) × (keys_of (put_pair eq pairs p) ≡ keys_of pairs)) ⊎ ((is_member eq (keys_of pairs) p.0 ≡ false) × (pair_fits eq N pairs p ≡ nat_lt (length (keys_of pairs)) N) × (keys_of (put_pair eq pairs p) ≡ keys_of pairs ++ p.0 ∷ []))
+    by pairs p true stored = inl (sym (is_some-lookup (eq p.0) pairs) ∙ stored, ap (λ b. b || has_room N pairs) stored, keys_of-put_stored eq pairs p.0 p.1 stored)
+    by pairs p false new = inr (sym (is_some-lookup (eq p.0) pairs) ∙ new, ap (λ b. b || has_room N pairs) new ∙ ap (λ n. nat_lt n N) (sym (length-keys_of pairs)), keys_of-put_new eq pairs p.0 p.1 new)

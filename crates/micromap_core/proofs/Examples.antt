@@ -1,7 +1,7 @@
 -- The definitions at worked values, with numbers as keys and values.
 use Rattle.std.proofs.Common.{◌≡◌, ℕ, ◌+◌, ◌%◌, Bool, true, false, List, [], ◌∷◌, Some, None, nat_eq, refl}
-use Rattle.micromap_core.specs.Pairs.{at, place, fits, put, put_key, take_out, take_out_by}
-use Rattle.micromap_core.specs.Closures.{updated_at}
+use Rattle.micromap_core.specs.Pairs.{at, index_of, fits, put, put_key, take_out, take_out_by}
+use Rattle.micromap_core.specs.Closures.{updated_disjoint}
 use Rattle.micromap_core.specs.Retain.{retained}
 use Rattle.micromap_core.specs.Calls.{insert, insert_key_value, get, get_key_value, contains, remove, remove_entry, len, is_empty, clear, value, entry, truth, number, done, refused, run}
 
@@ -33,15 +33,15 @@ taken_missing : take_out nat_eq three 9 ≡ three
 unfolding take_out_by
 taken_missing = refl
 
--- an equal key is found by its place
-found : (at nat_eq three 2 ≡ Some 20) × (place nat_eq three 2 ≡ Some 1) × (at nat_eq three 9 ≡ None) × (place nat_eq three 9 ≡ None)
+-- an equal key is found by its index
+found : (at nat_eq three 2 ≡ Some 20) × (index_of nat_eq three 2 ≡ Some 1) × (at nat_eq three 9 ≡ None) × (index_of nat_eq three 9 ≡ None)
 found = (refl, refl, refl, refl)
 
 -- a full map has room for a stored key alone
 room : (fits nat_eq 1 one 1 ≡ true) × (fits nat_eq 1 one 2 ≡ false) × (fits nat_eq 0 none 1 ≡ false)
 room = (refl, refl, refl)
 
--- a stored value is replaced at its place, and a new pair goes last
+-- a stored value is replaced at its index, and a new pair goes last
 putting : (put nat_eq three 2 7 ≡ (1, 10) ∷ (2, 7) ∷ (3, 30) ∷ []) × (put nat_eq one 2 20 ≡ (1, 10) ∷ (2, 20) ∷ [])
 unfolding put
 putting = (refl, refl)
@@ -57,10 +57,10 @@ unfolding put put_key take_out_by
 answering = refl
 
 -- what an even number passes: after a no the last of the others comes first
-retaining : (retained {P = ℕ} even (1 ∷ 2 ∷ 3 ∷ 4 ∷ 5 ∷ []) ≡ 4 ∷ 2 ∷ []) × (retained {P = ℕ} even (0 ∷ 1 ∷ 2 ∷ 3 ∷ 4 ∷ 5 ∷ 6 ∷ 7 ∷ []) ≡ 0 ∷ 6 ∷ 2 ∷ 4 ∷ []) × (retained {P = ℕ} (λ n. true) (1 ∷ 2 ∷ 3 ∷ []) ≡ 1 ∷ 2 ∷ 3 ∷ []) × (retained {P = ℕ} (λ n. false) (1 ∷ 2 ∷ 3 ∷ []) ≡ [])
+retaining : (retained {X = ℕ} even (1 ∷ 2 ∷ 3 ∷ 4 ∷ 5 ∷ []) ≡ 4 ∷ 2 ∷ []) × (retained {X = ℕ} even (0 ∷ 1 ∷ 2 ∷ 3 ∷ 4 ∷ 5 ∷ 6 ∷ 7 ∷ []) ≡ 0 ∷ 6 ∷ 2 ∷ 4 ∷ []) × (retained {X = ℕ} (λ n. true) (1 ∷ 2 ∷ 3 ∷ []) ≡ 1 ∷ 2 ∷ 3 ∷ []) × (retained {X = ℕ} (λ n. false) (1 ∷ 2 ∷ 3 ∷ []) ≡ [])
 retaining = (refl, refl, refl, refl)
 
 -- the position is added to the value of each key that is there
-updating : updated_at nat_eq (λ position v. v + position) 0 three (3 ∷ 9 ∷ 1 ∷ []) ≡ (1, 12) ∷ (2, 20) ∷ (3, 30) ∷ []
+updating : updated_disjoint nat_eq (λ position v. v + position) three (3 ∷ 9 ∷ 1 ∷ []) ≡ (1, 12) ∷ (2, 20) ∷ (3, 30) ∷ []
 unfolding put
 updating = refl

@@ -7,8 +7,8 @@ use Rattle.std.specs.Option.{option_or}
 use Rattle.std.proofs.lemmas.Bool.{false≢true}
 use Rattle.std.proofs.lemmas.List.{take_all, take_more}
 use Rattle.std.proofs.lemmas.Map.{lookup-set_value}
-use Rattle.micromap_core.specs.Pairs.{at, has, put, take_out, take_out_by, last_first, IsUnique}
-use Rattle.micromap_core.proofs.Lists.{last_first_is}
+use Rattle.micromap_core.specs.Pairs.{at, has, put, take_out, take_out_by, close_gap, IsUnique}
+use Rattle.micromap_core.proofs.Lists.{close_gap_is}
 
 -- what is found in front of the rest, or else there
 or_cond : {X : Type 0} (b : Bool) (x : X) (o r : Option X) → cond b (Some x) (option_or o r) ≡ option_or (cond b (Some x) o) r
@@ -77,14 +77,14 @@ module _ {K V : Type 0} (eq : K → K → Bool) (laws : IsEquivalence eq) where
   at_front es p q unique true same = sym (ap (λ o. option_or o (Some p.1)) (before_none es p q unique same))
   at_front es p q unique false other = sym (or_none (at eq es q))
 
-  at_last_first : (es : List (K × V)) (q : K) → IsUnique eq es → at eq (last_first es) q ≡ at eq es q
-  at_last_first [] q unique = refl
-  at_last_first (y ∷ ys) q unique =
+  at_close_gap : (es : List (K × V)) (q : K) → IsUnique eq es → at eq (close_gap es) q ≡ at eq es q
+  at_close_gap [] q unique = refl
+  at_close_gap (y ∷ ys) q unique =
       let n = length ys in
       let p = get_or (y ∷ ys) n y in
       let init = take n (y ∷ ys) in
       let whole : init ++ p ∷ [] ≡ y ∷ ys = sym (take_more (y ∷ ys) n y (omega arith)) ∙ take_all (n + 1) (y ∷ ys) (omega arith) in
-      ap (λ l. at eq l q) (last_first_is y ys y) ∙ at_front init p q (subst (IsUnique eq) (sym whole) unique) (eq q p.0) refl
+      ap (λ l. at eq l q) (close_gap_is y ys y) ∙ at_front init p q (subst (IsUnique eq) (sym whole) unique) (eq q p.0) refl
       ∙ sym (lookup_push (eq q) init p) ∙ ap (λ l. at eq l q) whole
 
   -- the first pair has the key, or it hasn't
@@ -106,12 +106,12 @@ module _ {K V : Type 0} (eq : K → K → Bool) (laws : IsEquivalence eq) where
   at_take_out [] k q unique = none_both (eq k q) None
   at_take_out (e ∷ es) k q unique = by (eq k e.0) refl (at_take_out es k q unique.1)
     where
-      by : (b : Bool) → eq k e.0 ≡ b → at eq (take_out_by (eq k) es) q ≡ (if eq k q then None else at eq es q) → at eq (if eq k e.0 then last_first es else e ∷ take_out_by (eq k) es) q ≡ (if eq k q then None else cond (eq q e.0) (Some e.1) (at eq es q))
+      by : (b : Bool) → eq k e.0 ≡ b → at eq (take_out_by (eq k) es) q ≡ (if eq k q then None else at eq es q) → at eq (if eq k e.0 then close_gap es else e ∷ take_out_by (eq k) es) q ≡ (if eq k q then None else cond (eq q e.0) (Some e.1) (at eq es q))
       by true here rest =
-          ap (λ b. at eq (if b then last_first es else e ∷ take_out_by (eq k) es) q) here
-          ∙ at_last_first es q unique.1 ∙ gone k q e es here unique.0 (eq k q) refl
+          ap (λ b. at eq (if b then close_gap es else e ∷ take_out_by (eq k) es) q) here
+          ∙ at_close_gap es q unique.1 ∙ gone k q e es here unique.0 (eq k q) refl
       by false other rest =
-          ap (λ b. at eq (if b then last_first es else e ∷ take_out_by (eq k) es) q) other
+          ap (λ b. at eq (if b then close_gap es else e ∷ take_out_by (eq k) es) q) other
           ∙ ap (λ o. cond (eq q e.0) (Some e.1) o) rest ∙ kept k q e (at eq es q) other (eq k q) refl
 
   -- what was put is found, and what was taken out is not

@@ -1,55 +1,75 @@
 -- What is written of a list in braces at a moment of its printing.
-use Rattle.std.proofs.Common.{◌≡◌, ℕ, List, [], ◌∷◌, Option, Some, None, Result, Ok, codes, refl, ap, sym, subst, ◌∙◌}
-use Rattle.std.specs.Fmt.{◌++?◌, DisplaysOnOk, debug_items, comma_space}
+use Rattle.std.proofs.Common.{◌≡◌, ℕ, List, [], ◌∷◌, Option, Some, None, Result, Ok, codes, refl, ap, sym, subst, ◌∙◌, IfSome}
+use Rattle.std.specs.Fmt.{◌++?◌, DisplaysOnOk, DisplaysStyledOnOk, HasWrittenStyled, WritesStyledOnOk, WritesText, debug_items, comma_space, formatter_spec}
+use Rattle.std.specs.List.{FoldsTo, concat}
 use Rattle.std.specs.declared.fmt.Error.{Error}
 use Rattle.std.specs.declared.fmt.Formatter.{Formatter}
-use Rattle.std.proofs.Output.{displays_on_IsOk_append}
-use Rattle.std.proofs.lemmas.List.{append_assoc, append-nil}
+use Rattle.std.proofs.Output.{displays_on_IsOk_append, has_written_styled_append, has_written_styled_nil, has_written_styled_of_eq, then_text_assoc}
+use Rattle.micromap_core.specs.Print.{set_text}
+use Rattle.micromap_core.specs.declared.map.print.Unstyled.{Unstyled}
 
--- texts are appended from either side
-append_twice : (a b c : Option (List ℕ)) → (a ++? b) ++? c ≡ a ++? (b ++? c)
-append_twice None b c = refl
-append_twice (Some a) None c = refl
-append_twice (Some a) (Some b) None = refl
-append_twice (Some a) (Some b) (Some c) = ap Some (append_assoc a b c)
+-- writes tells that a text is written between two formatters
+module _ {F X : Type 0} (writes : F → Result (Unit {0}) Error → Option (List ℕ) → F → Type 0) (item_text : X → Option (List ℕ)) where
+  -- what is left of a list, the first item after lead, and the closing brace
+  abbrev rest_text : List ℕ → List X → Option (List ℕ)
+  rest_text lead left = debug_items item_text lead left ++? Some (codes "}")
 
-nil_left : (a : Option (List ℕ)) → Some [] ++? a ≡ a
-nil_left None = refl
-nil_left (Some a) = refl
+  -- the whole list in braces is written from f on where what is left is written from g on
+  abbrev pub Printing : F → F → List X → List ℕ → List X → Type 0
+  Printing f g all lead left = (r : Result (Unit {0}) Error) (h : F) → writes g r (rest_text lead left) h → writes f r (set_text item_text all) h
 
-nil_right : (a : Option (List ℕ)) → a ++? Some [] ≡ a
-nil_right None = refl
-nil_right (Some a) = ap Some (append-nil a)
+  pub printing_ends : (f g h : F) (all : List X) (lead : List ℕ) (left : List X) (r : Result (Unit {0}) Error) → Printing f g all lead left → left ≡ [] → writes g r (Some (codes "}")) h → writes f r (set_text item_text all) h
+  printing_ends f g h all lead left r so_far none closes = so_far r h (rw none closes)
 
-module _ {P W : Type 0} (took : W → List ℕ → W → Type 0) (item_text : P → Option (List ℕ)) where
-  -- between f and g the text of the first items is written, and that of the others is left
-  pub record Printing (f g : Formatter W) (all : List P) (lead : List ℕ) (left : List P) : Type 0 where
-    pub text : Option (List ℕ)
-    pub written : DisplaysOnOk took f (Ok tt) text g
-    pub parts : text ++? debug_items item_text lead left ≡ debug_items item_text [] all
+  module _ (append : (f g h : F) (r : Result (Unit {0}) Error) (a b : Option (List ℕ)) → writes f (Ok tt) a g → writes g r b h → writes f r (a ++? b) h) where
+    pub printing_begins : (f g : F) (all : List X) → writes f (Ok tt) (Some (codes "{")) g → Printing f g all [] all
+    printing_begins f g all opens r h rest = append f g h r (Some (codes "{")) (rest_text [] all) opens rest
 
-  pub printing_begins : (f : Formatter W) (all : List P) → Printing f f all [] all
-  printing_begins f all = record {
-    text = Some [];
-    written = λ plain ok. record { wrote = record { parts = []; calls = refl; whole = refl }; plain = plain };
-    parts = nil_left (debug_items item_text [] all);
-  }
+    -- one more item
+    pub printing_more : (e f g : F) (all : List X) (lead : List ℕ) (left : List X) (x : X) (rest : List X) → Printing e f all lead left → left ≡ x ∷ rest → writes f (Ok tt) (Some lead ++? item_text x) g → Printing e g all comma_space rest
+    printing_more e f g all lead left x rest so_far first item r h others =
+        so_far r h (rw first (simp then_text_assoc (simp then_text_assoc at (append f g h r (Some lead ++? item_text x) (rest_text comma_space rest) item others))))
 
-  -- one more item
-  pub printing_more : (f g h : Formatter W) (all : List P) (lead : List ℕ) (left : List P) (p : P) (rest : List P) → Printing f g all lead left → left ≡ p ∷ rest → DisplaysOnOk took g (Ok tt) (Some lead ++? item_text p) h → Printing f h all comma_space rest
-  printing_more f g h all lead left p rest m first writes =
-      let item = item_text p in
-      let others = debug_items item_text comma_space rest in
-      record {
-        text = m.text ++? (Some lead ++? item);
-        written = displays_on_IsOk_append took f g h (Ok tt) (Ok tt) m.text (Some lead ++? item) (λ ok. ok) m.written writes;
-        parts = append_twice m.text (Some lead ++? item) others ∙ ap (λ l. m.text ++? l) (append_twice (Some lead) item others) ∙ ap (λ l. m.text ++? debug_items item_text lead l) (sym first) ∙ m.parts;
-      }
+module _ {W : Type 0} (took : W → List ℕ → W → Type 0) where
+  -- by a formatter without options
+  pub plain_append : (f g h : Formatter W) (r : Result (Unit {0}) Error) (a b : Option (List ℕ)) → DisplaysOnOk took f (Ok tt) a g → DisplaysOnOk took g r b h → DisplaysOnOk took f r (a ++? b) h
+  plain_append f g h r a b = displays_on_IsOk_append took f g h (Ok tt) r a b (λ ok. refl)
 
-  -- the braces around all items
-  pub printing_ends : (e f g h : Formatter W) (all : List P) (lead : List ℕ) (left : List P) (r : Result (Unit {0}) Error) → left ≡ [] → DisplaysOnOk took e (Ok tt) (Some (codes "{")) f → Printing f g all lead left → DisplaysOnOk took g r (Some (codes "}")) h → DisplaysOnOk took e r (Some (codes "{") ++? debug_items item_text [] all ++? Some (codes "}")) h
-  printing_ends e f g h all lead left r none opens m closes =
-      let whole : m.text ≡ debug_items item_text [] all = sym (nil_right m.text) ∙ ap (λ l. m.text ++? debug_items item_text lead l) (sym none) ∙ m.parts in
-      subst (λ t. DisplaysOnOk took e r (Some (codes "{") ++? (t ++? Some (codes "}"))) h) whole
-      (displays_on_IsOk_append took e f h (Ok tt) r (Some (codes "{")) (m.text ++? Some (codes "}")) (λ ok. refl) opens
-      (displays_on_IsOk_append took f g h (Ok tt) r m.text (Some (codes "}")) (λ ok. refl) m.written closes))
+  module _ (e : Formatter W) where
+    -- by a formatter with the options of e
+    abbrev pub WritesAs : Formatter W → Result (Unit {0}) Error → Option (List ℕ) → Formatter W → Type 0
+    WritesAs f r o g = IfSome o (λ bs. formatter_spec f ≡ formatter_spec e → WritesStyledOnOk took f r bs g)
+
+    pub styled_append : (f g h : Formatter W) (r : Result (Unit {0}) Error) (a b : Option (List ℕ)) → WritesAs f (Ok tt) a g → WritesAs g r b h → WritesAs f r (a ++? b) h
+    styled_append f g h r None b first next = tt
+    styled_append f g h r (Some a) None first next = tt
+    styled_append f g h r (Some a) (Some b) first next = λ same flush ok. (let one = first same flush refl in has_written_styled_append took f a g b h one (next (one.spec ∙ same) (one.flush) ok))
+
+    pub with_options : (f g : Formatter W) (r : Result (Unit {0}) Error) (text : _ → Option (List ℕ)) → DisplaysStyledOnOk took f r (text (formatter_spec f)) g → WritesAs f r (text (formatter_spec e)) g
+    with_options f g r text writes = by (text (formatter_spec e)) refl
+      where
+        by : (o : Option (List ℕ)) → text (formatter_spec e) ≡ o → WritesAs f r o g
+        by None is = tt
+        by (Some bs) is = λ same. subst (λ o. DisplaysStyledOnOk took f r o g) (ap text same ∙ is) writes
+
+    pub styled_from : (g : Formatter W) (r : Result (Unit {0}) Error) (o : Option (List ℕ)) → WritesAs e r o g → DisplaysStyledOnOk took e r o g
+    styled_from g r None writes = tt
+    styled_from g r (Some bs) writes = writes refl
+
+  -- a formatter as a mere writer: what one call of write_str did
+  abbrev pub Took : Unstyled W → List ℕ → Unstyled W → Type 0
+  Took old text new = WritesStyledOnOk took old.f.now (Ok tt) text new.f.now × (new.f.ghost_name ≡ old.f.ghost_name)
+
+  -- and several calls in a row
+  in_calls : (old : Unstyled W) (texts : List (List ℕ)) (new : Unstyled W) → FoldsTo Took old texts new → Took old (concat texts) new
+  in_calls old [] new same = subst (Took old []) same ((λ flush ok. has_written_styled_nil took old.f.now flush), refl)
+  in_calls old (text ∷ texts) new calls =
+      let first = calls.1 in
+      let rest = in_calls calls.0 texts new calls.2 in
+      ((λ flush ok. (let one = first.0 flush refl in has_written_styled_append took old.f.now text calls.0.f.now (concat texts) new.f.now one (rest.0 (one.flush) ok))), rest.1 ∙ first.1)
+
+  pub unstyled_writes : (old new : Unstyled W) (f : Formatter W) (o : Option (List ℕ)) → (new.f.ghost_name ≡ old.f.ghost_name → f ≡ new.f.now) → WritesText Took old o new → DisplaysStyledOnOk took old.f.now (Ok tt) o f
+  unstyled_writes old new f None back writes = tt
+  unstyled_writes old new f (Some text) back writes =
+      let all = in_calls old writes.parts new writes.calls in
+      λ flush ok. subst (HasWrittenStyled took old.f.now text) (sym (back all.1)) (has_written_styled_of_eq took old.f.now (concat writes.parts) text new.f.now writes.whole (all.0 flush refl))

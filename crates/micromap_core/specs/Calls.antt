@@ -71,6 +71,6 @@ module _ {K V : Type 0} (eq : K → K → Bool) (same : V → V → Bool) where
   agree refused refused = true
   agree x y = false
 
-  -- two lists of answers agree place by place
+  -- two lists of answers agree one by one
   abbrev pub Agree : List (Answer K V) → List (Answer K V) → Type 0
   Agree xs ys = IsTrue (pointwise agree xs ys)

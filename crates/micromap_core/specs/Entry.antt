@@ -3,9 +3,8 @@ pub use Rattle.micromap_core.specs.declared.entry.EntryIn.TheVariants.{Occupied,
 use Rattle.std.specs.Prelude.{◌≡◌, ℕ, ◌<◌, Bool, true, false, ◌||◌, List, [], ◌∷◌, ◌++◌, length, Option, Some, None, slice_get}
 use Rattle.std.specs.Option.{option_map, option_map_or, IsSomeAnd}
 use Rattle.std.specs.Fn.{FnOnceReturnsAt, Once}
-use Rattle.std.specs.List.{swap_remove}
 use Rattle.std.specs.Borrow.{Bor, MutBor, RattleType, Fml, follows}
-use Rattle.micromap_core.specs.Pairs.{place, has_room, with_value_at}
+use Rattle.micromap_core.specs.Pairs.{at, pair, index_of, has, has_room, put, take_out, with_value_at, without_at}
 use Rattle.micromap_core.specs.declared.entry.EntryIn.{EntryIn}
 use Rattle.micromap_core.specs.declared.entry.OccupiedIn.{OccupiedIn}
 use Rattle.micromap_core.specs.contracts.map.Map.{the_row}
@@ -44,27 +43,39 @@ module _ {K V : Type 0} where
 
   -- the pairs once the key is taken out
   abbrev pub entry_taken : EntryIn K (List (K × V)) → List (K × V)
-  entry_taken (Occupied o) = option_map_or (λ p. swap_remove o.map.now o.index p) (slice_get o.map.now o.index) o.map.now
+  entry_taken (Occupied o) = without_at o.map.now o.index
   entry_taken (Vacant e) = e.map.now
 
   -- whether the key can have a value
   abbrev pub entry_has_room : ℕ → EntryIn K (List (K × V)) → Bool
   entry_has_room N e = is_occupied e || has_room N (entry_pairs e)
 
-  -- the place of an occupied entry is there, and the key of a vacant one is new
+  -- an occupied entry points at a pair, and the key of a vacant one is new
   abbrev pub IsSound : (K → K → Bool) → EntryIn K (List (K × V)) → Type 0
   IsSound eq (Occupied o) = o.index < length o.map.now
-  IsSound eq (Vacant e) = place eq e.map.now e.key ≡ None
+  IsSound eq (Vacant e) = index_of eq e.map.now e.key ≡ None
+
+  -- e is the entry of k in the map
+  pub record IsEntryOf (eq : K → K → Bool) (map : MutBor (List (K × V))) (k : K) (e : EntryIn K (List (K × V))) : Type 0 where
+    pub same_map : (entry_map_ref e).ghost_name ≡ map.ghost_name
+    pub pairs : entry_pairs e ≡ map.now
+    pub occupied : is_occupied e ≡ has eq map.now k
+    pub key : entry_key e ≡ Some (option_map_or (λ p. p.0) (pair eq map.now k) k)
+    pub value : entry_value e ≡ at eq map.now k
+    pub puts : (v : V) → entry_put e v ≡ put eq map.now k v
+    pub taken : entry_taken e ≡ take_out eq map.now k
+    pub sound : IsSound eq e
 
   -- d is the entry e once v is the key's value
-  pub record IsWritten (e : EntryIn K (List (K × V))) (v : V) (d : EntryIn K (List (K × V))) : Type 0 where
+  pub record IsWritten (eq : K → K → Bool) (e : EntryIn K (List (K × V))) (v : V) (d : EntryIn K (List (K × V))) : Type 0 where
     pub same_map : (entry_map_ref d).ghost_name ≡ (entry_map_ref e).ghost_name
     pub pairs : entry_pairs d ≡ entry_put e v
+    pub occupied : is_occupied d ≡ true
     pub key : entry_key d ≡ entry_key e
     pub value : entry_value d ≡ Some v
     pub puts : (w : V) → entry_put d w ≡ entry_put e w
     pub taken : entry_taken d ≡ entry_taken e
-    pub occupied : is_occupied d ≡ true
+    pub sound : IsSound eq d
 
   -- o once v is its value
   abbrev pub with_entry_value : OccupiedIn (List (K × V)) → V → OccupiedIn (List (K × V))

@@ -1,17 +1,9 @@
--- What a map, or one of its places, ends as where a `&mut` to a value is returned.
-use Rattle.std.specs.Prelude.{ℕ, Bool, List, [], ◌∷◌, Option}
+-- What a map ends as where a `&mut` to a value is returned.
+use Rattle.std.specs.Prelude.{ℕ, Bool, List, Option}
 use Rattle.std.specs.Borrow.{Lends, LendsIf, Fml, RattleType, MutBor}
-use Rattle.std.specs.contracts.option.Option.{the_row as option_row}
 use Rattle.micromap_core.specs.Pairs.{put, with_value_at}
 use Rattle.micromap_core.specs.Probe.{put_matched}
-use Rattle.micromap_core.specs.Places.{with_value}
 use Rattle.micromap_core.specs.contracts.map.Map.{the_row}
-use denote.Struct.Tuple.{Tuple}
-
-module _ (K V : RattleType) where
-  -- once the borrow r ends, the place has the last value written through r
-  abbrev pub lends_value_in : MutBor (Option (K.Denot × V.Denot)) → MutBor V.Denot → Fml
-  lends_value_in place r = Lends (option_row (Tuple (K ∷ V ∷ []))) V place r (with_value place.now)
 
 module _ (K V N : RattleType) (eq : K.Denot → K.Denot → Bool) (map : MutBor (List (K.Denot × V.Denot))) where
   -- once the borrow r ends, the pair at the index has the last value written through r

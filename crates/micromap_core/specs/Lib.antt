@@ -1,5 +1,6 @@
 pub mod Build
 pub mod Entry
+pub mod Fair
 pub mod Lends
 pub mod Pairs
 pub mod Probe
@@ -9,4 +10,7 @@ pub mod Calls
 pub mod Clones
 pub mod Closures
 pub mod Retain
-pub mod Places
+pub mod Same
+pub mod SameLaws
+pub mod Slots
+pub mod Found

@@ -1,13 +1,17 @@
 -- A map's content as a list of pairs of a key and a value, from front to end, and what one look-up, insertion
 -- or removal makes of it. Keys are compared by eq, which need not be identity; N is the capacity.
-use Rattle.std.specs.Prelude.{ℕ, ◌-◌, ◌≤◌, Bool, ◌||◌, List, [], ◌∷◌, ◌++◌, length, take, drop, Option, is_some, slice_get, slice_set, if◌then◌else◌, nat_lt}
+use Rattle.std.specs.Prelude.{ℕ, suc, ◌-◌, ◌≤◌, Bool, ◌||◌, List, [], ◌∷◌, ◌++◌, length, take, drop, Option, is_some, slice_get, slice_set, if◌then◌else◌, nat_lt}
 use Rattle.std.specs.Option.{option_map_or}
 use Rattle.std.specs.List.{IsDistinct, position}
 use Rattle.std.specs.Map.{keys_of, lookup, lookup_entry, set_value, set_key}
 
--- the last element comes first
-abbrev pub last_first : {X : Type 0} → List X → List X
-last_first xs = drop (length xs - 1) xs ++ take (length xs - 1) xs
+-- what stands behind a gap once it is closed: the last comes first
+abbrev pub close_gap : {X : Type 0} → List X → List X
+close_gap xs = drop (length xs - 1) xs ++ take (length xs - 1) xs
+
+-- without the element at the index
+unfoldable pub without_at : {X : Type 0} → List X → ℕ → List X
+without_at xs index = take index xs ++ close_gap (drop (suc index) xs)
 
 module _ {K V : Type 0} where
   -- fewer pairs than the capacity
@@ -15,8 +19,8 @@ module _ {K V : Type 0} where
   has_room N pairs = nat_lt (length pairs) N
 
   -- the number of pairs before the first whose key passes the test
-  abbrev pub place_by : (K → Bool) → List (K × V) → Option ℕ
-  place_by test pairs = position test (keys_of pairs)
+  abbrev pub index_by : (K → Bool) → List (K × V) → Option ℕ
+  index_by test pairs = position test (keys_of pairs)
 
   -- with v as the value of the pair at the index
   abbrev pub with_value_at : List (K × V) → ℕ → V → List (K × V)
@@ -25,7 +29,7 @@ module _ {K V : Type 0} where
   -- without the first pair whose key passes the test: the last pair moves into the gap
   unfoldable pub take_out_by : (K → Bool) → List (K × V) → List (K × V)
   take_out_by test [] = []
-  take_out_by test (e ∷ es) = if test e.0 then last_first es else e ∷ take_out_by test es
+  take_out_by test (e ∷ es) = if test e.0 then close_gap es else e ∷ take_out_by test es
 
   module _ (eq : K → K → Bool) where
     -- no two keys are equal
@@ -46,8 +50,8 @@ module _ {K V : Type 0} where
     pair pairs k = lookup_entry (eq k) pairs
 
     -- the number of pairs before it
-    abbrev pub place : List (K × V) → K → Option ℕ
-    place pairs k = place_by (eq k) pairs
+    abbrev pub index_of : List (K × V) → K → Option ℕ
+    index_of pairs k = index_by (eq k) pairs
 
     -- whether some key equals k
     abbrev pub has : List (K × V) → K → Bool

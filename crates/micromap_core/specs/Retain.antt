@@ -1,42 +1,44 @@
--- The walk of `retain` over its pairs, which form a queue with two ends. `T f k v b w f'` says that the closure f,
--- called at the key k and the value v, may answer b, and leave w as the value and f' as the closure.
-use Rattle.std.specs.Prelude.{◌≡◌, ℕ, zero, suc, Bool, true, false, List, [], ◌∷◌, ◌++◌, length, if◌then◌else◌}
-use Rattle.micromap_core.specs.Pairs.{last_first}
+-- The walk of `retain`. What waits is a queue with two ends: after a yes the next to be visited leaves it at the front,
+-- after a no at the back. The next is always the first of the list here, since after a no what waits is `close_gap rest`,
+-- where the last comes first.
+use Rattle.std.specs.Prelude.{ℕ, zero, suc, Bool, true, false, List, [], ◌∷◌, ◌++◌, length, if◌then◌else◌}
+use Rattle.std.specs.Borrow.{Bor, MutBor}
+use Rattle.std.specs.Fn.{Mut}
+use Rattle.micromap_core.specs.Closures.{AcceptsPair, VisitsPair}
+use Rattle.micromap_core.specs.Pairs.{close_gap}
 
--- where the next pair leaves the queue
-pub data End : Type 0 where
-  front : End
-  back : End
+-- `T f x b y f'` says that a visit of x by the closure f may answer b, and leave y for x and f' for f
+module _ {F X : Type 0} (T : F → X → Bool → X → F → Type 0) (f : F) (xs : List X) where
+  -- a moment that the walk of f over xs can come to: the closure as the visits left it, the queue, and what is kept
+  pub data Walks : F → List X → List X → Type 0 where
+    begins : Walks f xs []
+    keeps : (s t : F) (x y : X) (rest kept : List X) → Walks s (x ∷ rest) kept → T s x true y t → Walks t rest (kept ++ y ∷ [])
+    drops : (s t : F) (x y : X) (rest kept : List X) → Walks s (x ∷ rest) kept → T s x false y t → Walks t (close_gap rest) kept
 
--- the pair p leaves the queue there, and rest stays
-abbrev pub Leaves : {P : Type 0} → End → List P → P → List P → Type 0
-Leaves front queue p rest = queue ≡ p ∷ rest
-Leaves back queue p rest = queue ≡ rest ++ p ∷ []
+  -- Q holds at each visit, of the closure as the visits before it left it
+  pub record AtEachVisit (Q : F → X → Type 0) : Type 0 where
+    pub each : (s : F) (x : X) (rest kept : List X) → Walks s (x ∷ rest) kept → Q s x
 
-module _ {F K V : Type 0} (T : F → K → V → Bool → V → F → Type 0) (f : F) (pairs : List (K × V)) where
-  -- the walk with f over the pairs can come to this moment: where the next pair leaves, the closure as the calls left
-  -- it, the queue, and the pairs kept. After a yes the next pair leaves at the front, after a no at the back.
-  pub data Walks : End → F → List (K × V) → List (K × V) → Type 0 where
-    begins : Walks front f pairs []
-    keeps : (at : End) (s t : F) (queue kept : List (K × V)) (p : K × V) (rest : List (K × V)) (w : V) → Walks at s queue kept → Leaves at queue p rest → T s p.0 p.1 true w t → Walks front t rest (kept ++ (p.0, w) ∷ [])
-    drops : (at : End) (s t : F) (queue kept : List (K × V)) (p : K × V) (rest : List (K × V)) (w : V) → Walks at s queue kept → Leaves at queue p rest → T s p.0 p.1 false w t → Walks back t rest kept
-
-  -- the walk can end with these pairs kept
-  pub record Retains (kept : List (K × V)) : Type 0 where
-    pub at : End
+  -- the walk can end with these kept
+  pub record WalkKeeps (kept : List X) : Type 0 where
     pub last : F
-    pub walk : Walks at last [] kept
+    pub walk : Walks last [] kept
 
-  -- Q holds of each pair that leaves the queue, and of the closure as the calls before left it
-  pub record CallableOnQueue (Q : F → K → V → Type 0) : Type 0 where
-    pub each : (at : End) (s : F) (queue kept : List (K × V)) (p : K × V) (rest : List (K × V)) → Walks at s queue kept → Leaves at queue p rest → Q s p.0 p.1
+module _ {F K V : Type 0} (g : Mut F (Bor K × (MutBor V × Unit {0})) (Bool × (MutBor V × Unit {0}))) (f : F) (pairs : List (K × V)) where
+  -- f may be called at each pair that it visits
+  abbrev pub MayRetain : Type 0
+  MayRetain = AtEachVisit (VisitsPair g) f pairs (λ s p. AcceptsPair g s p.0 p.1)
 
--- what is kept of n pairs by a test that changes nothing: after a no the last pair comes first
-abbrev pub sift : {P : Type 0} → (P → Bool) → ℕ → List P → List P
-sift test zero pairs = []
+  -- f can keep these of the pairs, with the values that its calls left
+  abbrev pub Retains : List (K × V) → Type 0
+  Retains kept = WalkKeeps (VisitsPair g) f pairs kept
+
+-- what is kept of n elements by a test that changes nothing
+abbrev pub sift : {X : Type 0} → (X → Bool) → ℕ → List X → List X
+sift test zero xs = []
 sift test (suc n) [] = []
-sift test (suc n) (p ∷ rest) = if test p then p ∷ sift test n rest else sift test n (last_first rest)
+sift test (suc n) (x ∷ rest) = if test x then x ∷ sift test n rest else sift test n (close_gap rest)
 
--- what is kept of the pairs
-abbrev pub retained : {P : Type 0} → (P → Bool) → List P → List P
-retained test pairs = sift test (length pairs) pairs
+-- what is kept of a list
+abbrev pub retained : {X : Type 0} → (X → Bool) → List X → List X
+retained test xs = sift test (length xs) xs

@@ -1,14 +1,12 @@
 //! A map of fixed capacity that finds its keys by `==` alone: no hash, no order, no memory but its own.
 #![tactic(auto)]
 
-mod build;
-mod closures;
 pub mod entry;
+pub mod laws;
 pub mod map;
-mod places;
-mod print;
 pub mod probe;
+mod slots;
 
-pub use build::Overfull;
 pub use map::Map;
+pub use map::build::Overfull;
 pub use probe::{Probe, Text};

@@ -2,16 +2,20 @@
 ghost use Rattle.std.specs.Prelude.{◌≡◌, ◌==◌, ◌≤◌, [], length};
 ghost use Rattle.micromap_core.specs.Pairs.{IsContent};
 
+pub(crate) mod build;
 mod clone;
+mod closures;
+mod compare;
 mod indexed;
 mod insert;
 mod lookup;
+mod print;
 mod probed;
 mod remove;
 mod walk;
 
 pub use crate::entry::{Entry, OccupiedEntry, VacantEntry};
-use arrayvec::ArrayVec;
+use crate::slots::Slots;
 pub use micromap_walk::{Drain, IntoIter, IntoKeys, IntoValues, Iter, Keys, Values};
 use std::marker::Model;
 
@@ -21,18 +25,18 @@ use std::marker::Model;
 /// takes memory of its own. A scan compares the keys from the front, each at most once.
 #[derive(Drop)]
 pub struct Map<K: Eq, V, const N: usize> {
-    places: ArrayVec<Option<(K, V)>, N>,
+    pairs: Slots<(K, V), N>,
 }
 
 impl<K: Eq, V, const N: usize> Model for Map<K, V, N> {
     ghost use Rattle.std.specs.Prelude.{List};
-    ghost use Rattle.micromap_core.specs.Places.{items_of, ArePlaces};
+    ghost use Rattle.micromap_core.specs.Pairs.{IsUnique};
 
     ghost Value = { List (K × V) };
 
-    ghost view = { λ m. items_of m.places.items };
+    ghost view = { λ m. m.pairs };
 
-    ghost invariant = { λ m. ArePlaces K.eq m.places.items };
+    ghost invariant = { λ m. IsUnique K.eq m.pairs };
 }
 
 impl<K: Eq, V, const N: usize> Map<K, V, N> {
@@ -42,7 +46,7 @@ impl<K: Eq, V, const N: usize> Map<K, V, N> {
         ensures { result ≡ [] }
     {
         Map {
-            places: ArrayVec::new(),
+            pairs: Slots::new(),
         }
     }
 
@@ -59,10 +63,10 @@ impl<K: Eq, V, const N: usize> Map<K, V, N> {
     /// The number of pairs. Callers also learn here what holds of each map's content.
     #[inline]
     pub fn len(&self) -> usize
-        ensures value { result ≡ length self.now }
+        ensures answer { result ≡ length self.now }
         ensures content { IsContent K.eq N self.now }
     {
-        self.places.len()
+        self.pairs.len()
     }
 
     /// Whether there is no pair.
@@ -70,7 +74,7 @@ impl<K: Eq, V, const N: usize> Map<K, V, N> {
     pub fn is_empty(&self) -> bool
         ensures { result ≡ (length self.now == 0) }
     {
-        self.places.is_empty()
+        self.len() == 0
     }
 
     /// The greatest number of pairs, which is `N`.
@@ -87,7 +91,7 @@ impl<K: Eq + Drop, V: Drop, const N: usize> Map<K, V, N> {
     pub fn clear(&mut self)
         ensures { self.new ≡ [] }
     {
-        self.places.clear();
+        self.pairs.clear();
     }
 }
 

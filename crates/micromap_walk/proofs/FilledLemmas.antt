@@ -1,21 +1,20 @@
--- Facts about filled places and the items in them.
+-- Facts about filled slots and the items in them.
 use Rattle.std.proofs.Common.{◌≡◌, ℕ, zero, suc, ◌<◌, List, [], ◌∷◌, ◌++◌, length, get_or, drop, map, reverse, Option, Some, None, is_some, true, refl, ap, sym, subst, ◌∙◌, arith}
-use Rattle.std.proofs.lemmas.Bool.{false≢true}
 use Rattle.std.proofs.lemmas.List.{length-map, length-append, map-append, append_cancel_right, reverse-append}
 use Rattle.micromap_walk.specs.Filled.{items_of, AreFilled}
 
 module _ {X : Type 0} where
-  -- the items of filled places
+  -- the items of filled slots
   pub items_of-map : (items : List X) → items_of (map Some items) ≡ items
   items_of-map [] = refl
   items_of-map (x ∷ xs) = ap (λ ys. x ∷ ys) (items_of-map xs)
 
-  -- so places that are made of items are filled
-  pub AreFilled-from : (places : List (Option X)) (items : List X) → places ≡ map Some items → AreFilled places
-  AreFilled-from places items made = rw (made, items_of-map) refl
+  -- so slots that are made of items are filled
+  pub AreFilled-from : (slots : List (Option X)) (items : List X) → slots ≡ map Some items → AreFilled slots
+  AreFilled-from slots items made = rw (made, items_of-map) refl
 
-  -- one more filled place at the end
-  items_of-push : (places : List (Option X)) (x : X) → items_of (places ++ Some x ∷ []) ≡ items_of places ++ x ∷ []
+  -- one more filled slot at the end
+  items_of-push : (slots : List (Option X)) (x : X) → items_of (slots ++ Some x ∷ []) ≡ items_of slots ++ x ∷ []
   items_of-push [] x = refl
   items_of-push (None ∷ rest) x = items_of-push rest x
   items_of-push (Some y ∷ rest) x = ap (λ ys. y ∷ ys) (items_of-push rest x)
@@ -24,54 +23,51 @@ module _ {X : Type 0} where
   get_or_last [] x d = refl
   get_or_last (y ∷ ys) x d = get_or_last ys x d
 
-  before_made : (places : List (Option X)) (x : X) → AreFilled (places ++ Some x ∷ []) → AreFilled places
-  before_made places x filled =
-      append_cancel_right _ _ _ (filled ∙ rw (items_of-push places x) (map-append Some (items_of places) (x ∷ [])))
+  before_made : (slots : List (Option X)) (x : X) → AreFilled (slots ++ Some x ∷ []) → AreFilled slots
+  before_made slots x filled =
+      append_cancel_right _ _ _ (filled ∙ rw (items_of-push slots x) (map-append Some (items_of slots) (x ∷ [])))
 
   some_at_made : (items : List X) (i : ℕ) (d : Option X) → i < length items → is_some (get_or (map Some items) i d) ≡ true
   some_at_made [] i d within = absurd (omega arith)
   some_at_made (x ∷ xs) zero d within = refl
   some_at_made (x ∷ xs) (suc i) d within = some_at_made xs i d (omega arith)
 
-  module _ (places : List (Option X)) (filled : AreFilled places) where
-    pub length_filled : length (items_of places) ≡ length places
-    length_filled = sym (ap length filled ∙ length-map (items_of places) Some)
+  module _ (slots : List (Option X)) (filled : AreFilled slots) where
+    pub length_filled : length (items_of slots) ≡ length slots
+    length_filled = sym (ap length filled ∙ length-map (items_of slots) Some)
 
-    -- a place within is filled
-    pub some_at : (i : ℕ) (d : Option X) → i < length places → is_some (get_or places i d) ≡ true
+    -- a slot within is filled
+    pub some_at : (i : ℕ) (d : Option X) → i < length slots → is_some (get_or slots i d) ≡ true
     some_at i d within =
-        ap (λ ps. is_some (get_or ps i d)) filled ∙ some_at_made (items_of places) i d (rw length_filled within)
+        ap (λ ps. is_some (get_or ps i d)) filled ∙ some_at_made (items_of slots) i d (rw length_filled within)
 
-    -- the first place, and those behind it
-    module _ (place : Option X) (rest : List (Option X)) (parts : places ≡ place ∷ rest) where
-      pub first_some : place ≡ None → ⊥
-      first_some none =
-          let some : is_some place ≡ true = ap (λ ps. is_some (get_or ps 0 None)) (sym parts) ∙ some_at 0 None (rw parts (omega arith)) in
-          false≢true (ap is_some (sym none) ∙ some)
+    -- the first slot, and those behind it
+    module _ (slot : Option X) (rest : List (Option X)) (parts : slots ≡ slot ∷ rest) where
+      pub first_some : is_some slot ≡ true
+      first_some = ap (λ ps. is_some (get_or ps 0 None)) (sym parts) ∙ some_at 0 None (rw parts (omega arith))
 
-      module _ (x : X) (some : place ≡ Some x) where
+      module _ (x : X) (some : slot ≡ Some x) where
         pub rest_filled : AreFilled rest
         rest_filled =
             let whole : AreFilled (Some x ∷ rest) = subst AreFilled (rw (parts, some) refl) filled in
             ap (drop 1) whole
 
-        pub items_first : items_of places ≡ x ∷ items_of rest
+        pub items_first : items_of slots ≡ x ∷ items_of rest
         items_first = rw (parts, some) refl
 
-    -- the last place, and those before it
-    module _ (before : List (Option X)) (place : Option X) (parts : places ≡ before ++ place ∷ []) where
-      pub last_some : place ≡ None → ⊥
-      last_some none =
-          let stands = get_or_last before place None in
-          let some : is_some place ≡ true = ap is_some (sym stands) ∙ ap (λ ps. is_some (get_or ps (length before) None)) (sym parts) ∙ some_at (length before) None (rw (parts, length-append) (omega arith)) in
-          false≢true (ap is_some (sym none) ∙ some)
+    -- the last slot, and those before it
+    module _ (before : List (Option X)) (slot : Option X) (parts : slots ≡ before ++ slot ∷ []) where
+      pub last_some : is_some slot ≡ true
+      last_some =
+          ap is_some (sym (get_or_last before slot None)) ∙ ap (λ ps. is_some (get_or ps (length before) None)) (sym parts)
+          ∙ some_at (length before) None (rw (parts, length-append) (omega arith))
 
-      module _ (x : X) (some : place ≡ Some x) where
-        pub items_last : items_of places ≡ items_of before ++ x ∷ []
+      module _ (x : X) (some : slot ≡ Some x) where
+        pub items_last : items_of slots ≡ items_of before ++ x ∷ []
         items_last = rw (parts, some) (items_of-push before x)
 
         pub before_filled : AreFilled before
         before_filled = before_made before x (subst AreFilled (rw (parts, some) refl) filled)
 
-        pub reversed_first : reverse (items_of places) ≡ x ∷ reverse (items_of before)
+        pub reversed_first : reverse (items_of slots) ≡ x ∷ reverse (items_of before)
         reversed_first = rw (items_last, reverse-append) refl

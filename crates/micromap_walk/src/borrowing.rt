@@ -6,6 +6,7 @@ ghost use Rattle.std.specs.Map.{keys_of, values_of};
 ghost use Rattle.std.specs.Map.Iter.{TakesFirst, deref, deref_pair};
 ghost use Rattle.micromap_walk.specs.Filled.{items_of, AreFilled};
 
+use crate::slot::item_of;
 use std::alloc::AllocError;
 use std::iter::FusedIterator;
 use std::marker::Model;
@@ -14,7 +15,7 @@ use std::slice;
 /// The pairs from the front, each as `(&K, &V)`.
 #[derive(Drop)]
 pub struct Iter<'a, K, V> {
-    places: slice::Iter<'a, Option<(K, V)>>,
+    slots: slice::Iter<'a, Option<(K, V)>>,
 }
 
 impl<'a, K, V> Model for Iter<'a, K, V> {
@@ -24,20 +25,20 @@ impl<'a, K, V> Model for Iter<'a, K, V> {
 
     ghost Value = { List (K × V) };
 
-    ghost view = { λ walk. items_of (iter_rest walk.places) };
+    ghost view = { λ walk. items_of (iter_rest walk.slots) };
 
-    ghost invariant = { λ walk. AreFilled (iter_rest walk.places) };
+    ghost invariant = { λ walk. AreFilled (iter_rest walk.slots) };
 }
 
 impl<'a, K, V> Iter<'a, K, V> {
-    /// A walk over the pairs in `places`, none of which may be empty.
+    /// A walk over the pairs in `slots`, none of which may be empty.
     #[inline]
-    pub fn over(places: &'a [Option<(K, V)>]) -> Self
-        requires { AreFilled places.now }
-        ensures { result ≡ items_of places.now }
+    pub fn over(slots: &'a [Option<(K, V)>]) -> Self
+        requires { AreFilled slots.now }
+        ensures { result ≡ items_of slots.now }
     {
         Iter {
-            places: places.iter(),
+            slots: slots.iter(),
         }
     }
 
@@ -46,7 +47,7 @@ impl<'a, K, V> Iter<'a, K, V> {
     pub fn len(&self) -> usize
         ensures { result ≡ length self.now }
     {
-        self.places.len()
+        self.slots.len()
     }
 
     // A walk over what is left.
@@ -54,16 +55,16 @@ impl<'a, K, V> Iter<'a, K, V> {
     pub(crate) fn left(&self) -> Iter<'_, K, V>
         ensures { result ≡ self.now }
     {
-        Iter::over(self.places.as_slice())
+        Iter::over(self.slots.as_slice())
     }
 
-    /// A walk that goes on from the same place. It never lacks memory.
+    /// A walk that goes on where this one stands. It never lacks memory.
     #[inline]
     pub fn clone(&self) -> Result<Self, AllocError>
         ensures { result ≡ Ok self.now }
     {
         Ok(Iter {
-            places: self.places.clone()?,
+            slots: self.slots.clone()?,
         })
     }
 }
@@ -77,10 +78,9 @@ impl<'a, K, V> Iterator for Iter<'a, K, V> {
 
     #[inline]
     fn next(&mut self) -> Option<(&'a K, &'a V)> {
-        match self.places.next()? {
-            Some((key, value)) => Some((key, value)),
-            None => unreachable!(),
-        }
+        let slot = self.slots.next()?;
+        let (key, value) = item_of(slot);
+        Some((key, value))
     }
 
     #[inline]
@@ -120,14 +120,14 @@ impl<'a, K, V> Model for Keys<'a, K, V> {
 }
 
 impl<'a, K, V> Keys<'a, K, V> {
-    /// A walk over the keys in `places`, none of which may be empty.
+    /// A walk over the keys in `slots`, none of which may be empty.
     #[inline]
-    pub fn over(places: &'a [Option<(K, V)>]) -> Self
-        requires { AreFilled places.now }
-        ensures { result ≡ keys_of (items_of places.now) }
+    pub fn over(slots: &'a [Option<(K, V)>]) -> Self
+        requires { AreFilled slots.now }
+        ensures { result ≡ keys_of (items_of slots.now) }
     {
         Keys {
-            pairs: Iter::over(places),
+            pairs: Iter::over(slots),
         }
     }
 
@@ -139,7 +139,7 @@ impl<'a, K, V> Keys<'a, K, V> {
         self.pairs.len()
     }
 
-    /// A walk that goes on from the same place. It never lacks memory.
+    /// A walk that goes on where this one stands. It never lacks memory.
     #[inline]
     pub fn clone(&self) -> Result<Self, AllocError>
         ensures { result ≡ Ok self.now }
@@ -199,14 +199,14 @@ impl<'a, K, V> Model for Values<'a, K, V> {
 }
 
 impl<'a, K, V> Values<'a, K, V> {
-    /// A walk over the values in `places`, none of which may be empty.
+    /// A walk over the values in `slots`, none of which may be empty.
     #[inline]
-    pub fn over(places: &'a [Option<(K, V)>]) -> Self
-        requires { AreFilled places.now }
-        ensures { result ≡ values_of (items_of places.now) }
+    pub fn over(slots: &'a [Option<(K, V)>]) -> Self
+        requires { AreFilled slots.now }
+        ensures { result ≡ values_of (items_of slots.now) }
     {
         Values {
-            pairs: Iter::over(places),
+            pairs: Iter::over(slots),
         }
     }
 
@@ -218,7 +218,7 @@ impl<'a, K, V> Values<'a, K, V> {
         self.pairs.len()
     }
 
-    /// A walk that goes on from the same place. It never lacks memory.
+    /// A walk that goes on where this one stands. It never lacks memory.
     #[inline]
     pub fn clone(&self) -> Result<Self, AllocError>
         ensures { result ≡ Ok self.now }

@@ -6,6 +6,7 @@ ghost use Rattle.std.specs.Map.Iter.{TakesFirst};
 ghost use Rattle.micromap_walk.specs.Filled.{items_of, AreFilled};
 
 use crate::Iter;
+use crate::slot::into_item;
 use arrayvec::{ArrayVec, IntoIter};
 use std::iter::FusedIterator;
 use std::marker::Model;
@@ -13,7 +14,7 @@ use std::marker::Model;
 /// The pairs by value, from the front. What isn't taken is dropped with the walk.
 #[derive(Drop)]
 pub struct Drain<K, V, const N: usize> {
-    places: IntoIter<Option<(K, V)>, N>,
+    slots: IntoIter<Option<(K, V)>, N>,
 }
 
 impl<K, V, const N: usize> Model for Drain<K, V, N> {
@@ -22,20 +23,20 @@ impl<K, V, const N: usize> Model for Drain<K, V, N> {
 
     ghost Value = { List (K × V) };
 
-    ghost view = { λ walk. items_of walk.places };
+    ghost view = { λ walk. items_of walk.slots };
 
-    ghost invariant = { λ walk. AreFilled walk.places };
+    ghost invariant = { λ walk. AreFilled walk.slots };
 }
 
 impl<K: Drop, V: Drop, const N: usize> Drain<K, V, N> {
-    /// A walk over the pairs in `places`, none of which may be empty.
+    /// A walk over the pairs in `slots`, none of which may be empty.
     #[inline]
-    pub fn over(places: ArrayVec<Option<(K, V)>, N>) -> Self
-        requires { AreFilled places.items }
-        ensures { result ≡ items_of places.items }
+    pub fn over(slots: ArrayVec<Option<(K, V)>, N>) -> Self
+        requires { AreFilled slots.items }
+        ensures { result ≡ items_of slots.items }
     {
         Drain {
-            places: places.into_iter(),
+            slots: slots.into_iter(),
         }
     }
 
@@ -44,7 +45,7 @@ impl<K: Drop, V: Drop, const N: usize> Drain<K, V, N> {
     pub fn len(&self) -> usize
         ensures { result ≡ length self.now }
     {
-        self.places.len()
+        self.slots.len()
     }
 }
 
@@ -54,7 +55,7 @@ impl<K, V, const N: usize> Drain<K, V, N> {
     pub(crate) fn left(&self) -> Iter<'_, K, V>
         ensures { result ≡ self.now }
     {
-        Iter::over(self.places.as_slice())
+        Iter::over(self.slots.as_slice())
     }
 }
 
@@ -67,10 +68,8 @@ impl<K: Drop, V: Drop, const N: usize> Iterator for Drain<K, V, N> {
 
     #[inline]
     fn next(&mut self) -> Option<(K, V)> {
-        match self.places.next()? {
-            Some(pair) => Some(pair),
-            None => unreachable!(),
-        }
+        let slot = self.slots.next()?;
+        Some(into_item(slot))
     }
 
     #[inline]

@@ -7,6 +7,7 @@ mod borrowing;
 mod drain;
 mod owning;
 mod print;
+pub mod slot;
 
 pub use borrowing::{Iter, Keys, Values};
 pub use drain::Drain;

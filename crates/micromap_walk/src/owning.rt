@@ -7,6 +7,7 @@ ghost use Rattle.std.specs.Map.Iter.{TakesFirst};
 ghost use Rattle.micromap_walk.specs.Filled.{items_of, AreFilled};
 
 use crate::Iter;
+use crate::slot::into_item;
 use arrayvec::ArrayVec;
 use std::iter::FusedIterator;
 use std::marker::Model;
@@ -14,7 +15,7 @@ use std::marker::Model;
 /// The pairs by value, from the end. What isn't taken is dropped with the walk.
 #[derive(Drop)]
 pub struct IntoIter<K, V, const N: usize> {
-    places: ArrayVec<Option<(K, V)>, N>,
+    slots: ArrayVec<Option<(K, V)>, N>,
 }
 
 impl<K, V, const N: usize> Model for IntoIter<K, V, N> {
@@ -23,19 +24,19 @@ impl<K, V, const N: usize> Model for IntoIter<K, V, N> {
 
     ghost Value = { List (K × V) };
 
-    ghost view = { λ walk. reverse (items_of walk.places.items) };
+    ghost view = { λ walk. reverse (items_of walk.slots.items) };
 
-    ghost invariant = { λ walk. AreFilled walk.places.items };
+    ghost invariant = { λ walk. AreFilled walk.slots.items };
 }
 
 impl<K, V, const N: usize> IntoIter<K, V, N> {
-    /// A walk over the pairs in `places`, none of which may be empty.
+    /// A walk over the pairs in `slots`, none of which may be empty.
     #[inline]
-    pub fn over(places: ArrayVec<Option<(K, V)>, N>) -> Self
-        requires { AreFilled places.items }
-        ensures { result ≡ reverse (items_of places.items) }
+    pub fn over(slots: ArrayVec<Option<(K, V)>, N>) -> Self
+        requires { AreFilled slots.items }
+        ensures { result ≡ reverse (items_of slots.items) }
     {
-        IntoIter { places }
+        IntoIter { slots }
     }
 
     /// The number of pairs left.
@@ -43,7 +44,7 @@ impl<K, V, const N: usize> IntoIter<K, V, N> {
     pub fn len(&self) -> usize
         ensures { result ≡ length self.now }
     {
-        self.places.len()
+        self.slots.len()
     }
 
     // A walk over what is left, from the front.
@@ -51,7 +52,7 @@ impl<K, V, const N: usize> IntoIter<K, V, N> {
     pub(crate) fn left(&self) -> Iter<'_, K, V>
         ensures { result ≡ reverse self.now }
     {
-        Iter::over(self.places.as_slice())
+        Iter::over(self.slots.as_slice())
     }
 }
 
@@ -64,10 +65,8 @@ impl<K: Drop, V: Drop, const N: usize> Iterator for IntoIter<K, V, N> {
 
     #[inline]
     fn next(&mut self) -> Option<(K, V)> {
-        match self.places.pop()? {
-            Some(pair) => Some(pair),
-            None => unreachable!(),
-        }
+        let slot = self.slots.pop()?;
+        Some(into_item(slot))
     }
 
     #[inline]
@@ -107,14 +106,14 @@ impl<K, V, const N: usize> Model for IntoKeys<K, V, N> {
 }
 
 impl<K, V, const N: usize> IntoKeys<K, V, N> {
-    /// A walk over the keys in `places`, none of which may be empty.
+    /// A walk over the keys in `slots`, none of which may be empty.
     #[inline]
-    pub fn over(places: ArrayVec<Option<(K, V)>, N>) -> Self
-        requires { AreFilled places.items }
-        ensures { result ≡ keys_of (reverse (items_of places.items)) }
+    pub fn over(slots: ArrayVec<Option<(K, V)>, N>) -> Self
+        requires { AreFilled slots.items }
+        ensures { result ≡ keys_of (reverse (items_of slots.items)) }
     {
         IntoKeys {
-            pairs: IntoIter::over(places),
+            pairs: IntoIter::over(slots),
         }
     }
 
@@ -176,14 +175,14 @@ impl<K, V, const N: usize> Model for IntoValues<K, V, N> {
 }
 
 impl<K, V, const N: usize> IntoValues<K, V, N> {
-    /// A walk over the values in `places`, none of which may be empty.
+    /// A walk over the values in `slots`, none of which may be empty.
     #[inline]
-    pub fn over(places: ArrayVec<Option<(K, V)>, N>) -> Self
-        requires { AreFilled places.items }
-        ensures { result ≡ values_of (reverse (items_of places.items)) }
+    pub fn over(slots: ArrayVec<Option<(K, V)>, N>) -> Self
+        requires { AreFilled slots.items }
+        ensures { result ≡ values_of (reverse (items_of slots.items)) }
     {
         IntoValues {
-            pairs: IntoIter::over(places),
+            pairs: IntoIter::over(slots),
         }
     }
 

@@ -40,7 +40,7 @@ impl<T: Eq + Drop, const N: usize> Set<T, N> {
     #[inline]
     pub fn replace(&mut self, x: T) -> Option<T>
         requires { IsTrue (item_fits T.eq N self.old x) }
-        ensures answer { result ≡ item T.eq self.old x }
+        ensures old { result ≡ item T.eq self.old x }
         ensures items { self.new ≡ exchange T.eq self.old x }
     {
         let (old, _) = self.map.insert_key_value(x, ())?;

@@ -1,5 +1,5 @@
 //! Cloning a set.
-ghost use Rattle.std.specs.Prelude.{◌≡◌, ◌<◌, ℕ, length, IsOk, IfOk, slice_index_or};
+ghost use Rattle.std.specs.Prelude.{◌≡◌, All, IsOk, IfOk};
 ghost use Rattle.std.specs.List.{AllZip};
 ghost use Rattle.std.specs.Set.{ClonesAreEqual};
 ghost use Rattle.micromap.specs.Clones.{AreIdentical};
@@ -16,7 +16,7 @@ impl<T: Eq + Clone + Drop, const N: usize> Set<T, N> {
         requires { ClonesAreEqual T.eq T.is_clone }
         ensures clones { IfOk result (AllZip T.is_clone self.now) }
         ensures same { AreIdentical T.is_clone → IfOk result (λ new. new ≡ self.now) }
-        ensures succeeds { ((i : ℕ) (x : T) → i < length self.now → T.is_infallible (slice_index_or self.now i x)) → IsOk result }
+        ensures succeeds { All T.is_infallible self.now → IsOk result }
     {
         let map = self.map.clone()?;
         Ok(Set { map })

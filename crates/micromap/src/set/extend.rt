@@ -1,9 +1,10 @@
 //! Putting the items of an iterator, one after the other by the rule of `insert`: each distinct item is stored as it
 //! came first, in that order.
-ghost use Rattle.std.specs.Prelude.{◌≡◌, ◌-◌, ◌^◌, [], IfOk, IfErr, IsTrue, if◌then◌else◌};
+ghost use Rattle.std.specs.Prelude.{◌≡◌, IfOk, IfErr, IsTrue, if◌then◌else◌};
 ghost use Rattle.std.specs.Iterator.{UpTo};
 ghost use Rattle.std.specs.Iterator.Runs.{WholeRun};
-ghost use Rattle.micromap.specs.Extend.{add_all, each_fits, ExtendsAll, ExtendsUpTo, FirstMisfit};
+ghost use Rattle.micromap.specs.Build.{most_items};
+ghost use Rattle.micromap.specs.Extend.{add_all, all_items_fit, distinct, ExtendsAll, ExtendsUpTo, ItemsBuiltFrom, ItemMisfitAt};
 ghost use Rattle.micromap.specs.Items.{add, item_fits};
 
 use super::Set;
@@ -19,13 +20,13 @@ impl<T: Eq + Drop, const N: usize> Set<T, N> {
         self.map.checked_insert(x, ()).is_some()
     }
 
-    /// Puts the items, or answers the place of the first that doesn't fit, counted from 0 over all items. Each item
+    /// Puts the items, or answers the position of the first that doesn't fit, counted from 0 over all items. Each item
     /// costs one scan.
     ///
     /// Where one doesn't fit, all before it are in the set, it is dropped, and nothing after it is taken.
     pub fn try_extend<I: Iterator<Item = T>>(&mut self, items: I) -> Result<(), Overfull>
         requires can { I.can_next items }
-        requires ends { UpTo (I.remaining items) (2 ^ 64 - 2) }
+        requires ends { UpTo (I.remaining items) most_items }
         ensures extends { IfOk result (λ _. ExtendsAll T.eq I.next_gives N self.old items self.new) }
         ensures misfit { IfErr result (λ e. ExtendsUpTo T.eq I.next_gives N self.old items e.at self.new) }
         ensures runs { IfOk result (λ _. WholeRun I.next_gives items (λ p. self.new ≡ add_all T.eq self.old p.items)) }
@@ -40,14 +41,16 @@ impl<T: Eq + Drop, const N: usize> Set<T, N> {
         Ok(())
     }
 
-    /// The set of these items, or the place of the first that doesn't fit, counted from 0 over all items; then no set
-    /// is made, and what was put and what is left is dropped. Each item costs one scan.
+    /// The set of these items, or the position of the first that doesn't fit, counted from 0 over all items; then no
+    /// set is made, and what was put and what is left is dropped. Each item costs one scan.
+    ///
+    /// The answer is `Err` exactly where the items have more than `N` distinct ones.
     pub fn try_from_iter<I: Iterator<Item = T>>(items: I) -> Result<Self, Overfull>
         requires can { I.can_next items }
-        requires ends { UpTo (I.remaining items) (2 ^ 64 - 2) }
-        ensures built { IfOk result (ExtendsAll T.eq I.next_gives N [] items) }
-        ensures misfit { IfErr result (λ e. FirstMisfit T.eq I.next_gives N [] items e.at) }
-        ensures runs { IfOk result (λ new. WholeRun I.next_gives items (λ p. new ≡ add_all T.eq [] p.items)) }
+        requires ends { UpTo (I.remaining items) most_items }
+        ensures built { IfOk result (ItemsBuiltFrom T.eq I.next_gives N items) }
+        ensures misfit { IfErr result (λ e. ItemMisfitAt T.eq I.next_gives N items e.at) }
+        ensures runs { IfOk result (λ new. WholeRun I.next_gives items (λ p. new ≡ distinct T.eq p.items)) }
     {
         let mut set = Set::new();
         set.try_extend(items)?;
@@ -56,7 +59,7 @@ impl<T: Eq + Drop, const N: usize> Set<T, N> {
 }
 
 impl<T: Eq + Copy, const N: usize> From<[T; N]> for Set<T, N> {
-    ghost from_gives = { λ items set. (set ≡ add_all T.eq [] items) × IsTrue (each_fits T.eq N [] items) };
+    ghost from_gives = { λ items set. (set ≡ distinct T.eq items) × IsTrue (all_items_fit T.eq N items) };
 
     /// The set of these items: each distinct item as it came first. Each item fits, and costs one scan.
     fn from(items: [T; N]) -> Self {

@@ -1,5 +1,5 @@
 //! Printing a set.
-ghost use Rattle.micromap.specs.ItemsText.{set_text};
+ghost use Rattle.micromap.specs.Print.{set_text};
 
 use super::Set;
 use std::fmt;
@@ -8,6 +8,8 @@ use std::fmt;
 /// error.
 impl<T: Eq + fmt::Display, const N: usize> fmt::Display for Set<T, N> {
     ghost output = { set_text T.output };
+
+    ghost styled_output = { λ items spec. set_text (λ x. T.styled_output x spec) items };
 
     fn fmt<W: fmt::Write>(&self, f: &mut fmt::Formatter<W>) -> fmt::Result {
         let mut lead = "";

@@ -1,9 +1,8 @@
 //! The set's calls by probe: each does what its plain form does at the one stored item that matches, or what the plain
 //! form does at a missing item.
 ghost use Rattle.std.specs.Prelude.{◌≡◌, is_some};
-ghost use Rattle.std.specs.List.{list_any};
 ghost use Rattle.std.specs.Option.{option_copied};
-ghost use Rattle.micromap.specs.Items.{item_matched, take_item_matched};
+ghost use Rattle.micromap.specs.Items.{contains_matched, item_matched, take_item_matched};
 
 use super::Set;
 use crate::Probe;
@@ -23,7 +22,7 @@ impl<T: Eq, const N: usize> Set<T, N> {
     /// Whether a stored item matches, by one scan.
     #[inline]
     pub fn contains_by<P: Probe<T>>(&self, probe: &P) -> bool
-        ensures { result ≡ list_any (P.matches probe.now) self.now }
+        ensures { result ≡ contains_matched (P.matches probe.now) self.now }
     {
         self.map.contains_key_by(probe)
     }

@@ -1,7 +1,6 @@
 //! Keeping the items that pass a test.
 ghost use Rattle.std.specs.Fn.{CalledAt};
-ghost use Rattle.micromap.specs.Items.{CalledAtItem, TakesItem, units};
-ghost use Rattle.micromap.specs.Retain.{CallableOnQueue, Retains};
+ghost use Rattle.micromap.specs.Items.{MayRetainItems, RetainsItems};
 
 use super::Set;
 
@@ -11,8 +10,8 @@ impl<T: Eq + Drop, const N: usize> Set<T, N> {
     /// The first item is visited first. After a yes the next is the front-most item not yet visited, after a no the
     /// last one. Each item is visited once, and the kept ones stand in the order of their visits. It compares no item.
     pub fn retain<F: FnMut(&T) -> bool>(&mut self, mut keep: F)
-        requires { CallableOnQueue (CalledAtItem F.FnMut) keep (units self.old) (TakesItem F.FnMut) }
-        ensures { Retains (CalledAtItem F.FnMut) keep (units self.old) (units self.new) }
+        requires { MayRetainItems F.FnMut keep self.old }
+        ensures { RetainsItems F.FnMut keep self.old self.new }
     {
         self.map.retain(
             |x: &T, _: &mut ()|

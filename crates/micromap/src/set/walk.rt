@@ -1,120 +1,19 @@
 //! The walks over a set, which lend its items from the front or give them away.
-ghost use Rattle.std.specs.Prelude.{◌≡◌, IfSome, Ok, Some, [], length, reverse};
+ghost use Rattle.std.specs.Prelude.{◌≡◌, IfSome, Some, [], length, reverse};
 ghost use Rattle.std.specs.Iterator.{UpTo, at_most};
 ghost use Rattle.std.specs.Iterator.SizeHint.{IsWithinCount};
 ghost use Rattle.std.specs.Map.Iter.{GivesInOrder, ShowsInOrder, TakesFirst, deref};
 
 use super::Set;
 use crate::map;
-use std::alloc::AllocError;
 use std::iter::FusedIterator;
 use std::marker::Model;
 
 /// The items, from the front.
-#[derive(Drop)]
-pub struct Iter<'a, T> {
-    keys: map::Keys<'a, T, ()>,
-}
-
-impl<'a, T> Model for Iter<'a, T> {
-    ghost use Rattle.std.specs.Prelude.{List};
-
-    ghost Value = { List T };
-
-    ghost view = { λ walk. walk.keys };
-}
-
-impl<'a, T> Iter<'a, T> {
-    /// The number of items left.
-    #[inline]
-    pub fn len(&self) -> usize
-        ensures { result ≡ length self.now }
-    {
-        self.keys.len()
-    }
-
-    /// A walk that goes on from the same place. It never lacks memory.
-    #[inline]
-    pub fn clone(&self) -> Result<Self, AllocError>
-        ensures { result ≡ Ok self.now }
-    {
-        Ok(Iter {
-            keys: self.keys.clone()?,
-        })
-    }
-}
-
-impl<'a, T> Iterator for Iter<'a, T> {
-    type Item = &'a T;
-
-    ghost next_gives = { TakesFirst deref };
-
-    ghost remaining = { λ left. at_most (length left) };
-
-    #[inline]
-    fn next(&mut self) -> Option<&'a T> {
-        self.keys.next()
-    }
-
-    #[inline]
-    fn size_hint(&self) -> (usize, Option<usize>)
-        ensures lower { IsWithinCount result.0 (at_most (length self.now)) }
-        ensures upper { IfSome result.1 (UpTo (at_most (length self.now))) }
-        ensures exact { result ≡ (length self.now, Some (length self.now)) }
-    {
-        self.keys.size_hint()
-    }
-}
-
-impl<'a, T> FusedIterator for Iter<'a, T> {}
+pub type Iter<'a, T> = map::Keys<'a, T, ()>;
 
 /// The items by value, from the end. What isn't taken is dropped with the walk.
-#[derive(Drop)]
-pub struct IntoIter<T, const N: usize> {
-    items: map::IntoKeys<T, (), N>,
-}
-
-impl<T, const N: usize> Model for IntoIter<T, N> {
-    ghost use Rattle.std.specs.Prelude.{List};
-
-    ghost Value = { List T };
-
-    ghost view = { λ walk. walk.items };
-}
-
-impl<T, const N: usize> IntoIter<T, N> {
-    /// The number of items left.
-    #[inline]
-    pub fn len(&self) -> usize
-        ensures { result ≡ length self.now }
-    {
-        self.items.len()
-    }
-}
-
-impl<T: Drop, const N: usize> Iterator for IntoIter<T, N> {
-    type Item = T;
-
-    ghost next_gives = { TakesFirst (λ p. p) };
-
-    ghost remaining = { λ left. at_most (length left) };
-
-    #[inline]
-    fn next(&mut self) -> Option<T> {
-        self.items.next()
-    }
-
-    #[inline]
-    fn size_hint(&self) -> (usize, Option<usize>)
-        ensures lower { IsWithinCount result.0 (at_most (length self.now)) }
-        ensures upper { IfSome result.1 (UpTo (at_most (length self.now))) }
-        ensures exact { result ≡ (length self.now, Some (length self.now)) }
-    {
-        self.items.size_hint()
-    }
-}
-
-impl<T: Drop, const N: usize> FusedIterator for IntoIter<T, N> {}
+pub type IntoIter<T, const N: usize> = map::IntoKeys<T, (), N>;
 
 /// The items by value, from the front. What isn't taken is dropped with the walk.
 #[derive(Drop)]
@@ -170,12 +69,10 @@ impl<T: Eq, const N: usize> Set<T, N> {
     /// The items from the front.
     #[inline]
     pub fn iter(&self) -> Iter<'_, T>
-        ensures items { result ≡ self.now }
+        ensures answer { result ≡ self.now }
         ensures runs { ShowsInOrder (deref {X = T}) }
     {
-        Iter {
-            keys: self.map.keys(),
-        }
+        self.map.keys()
     }
 }
 
@@ -183,7 +80,7 @@ impl<T: Eq + Drop, const N: usize> Set<T, N> {
     /// Takes all items out, from the front. The set is empty at once; what isn't taken is dropped with the walk.
     #[inline]
     pub fn drain(&mut self) -> Drain<T, N>
-        ensures items { result ≡ self.old }
+        ensures answer { result ≡ self.old }
         ensures emptied { self.new ≡ [] }
         ensures runs { GivesInOrder T }
     {
@@ -203,9 +100,7 @@ impl<T: Eq + Drop, const N: usize> IntoIterator for Set<T, N> {
 
     fn into_iter(self) -> IntoIter<T, N> {
         let Set { map } = self;
-        IntoIter {
-            items: map.into_keys(),
-        }
+        map.into_keys()
     }
 }
 

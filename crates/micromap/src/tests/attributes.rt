@@ -11,7 +11,7 @@ use std::alloc::{AllocError, Global};
 
 type Attributes<const N: usize> = Map<String, String, N>;
 
-// Sets an attribute, in its place or at the end, and answers whether there was room for it.
+// Sets an attribute, at its index or at the end, and answers whether there was room for it.
 fn set<const N: usize>(list: &mut Attributes<N>, name: String, value: String) -> bool
     ensures answer { result ≡ fits string_eq N list.old name }
     ensures list { list.new ≡ (if fits string_eq N list.old name then put string_eq list.old name value else list.old) }

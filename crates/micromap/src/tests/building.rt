@@ -1,14 +1,14 @@
-//! Maps built from items, what is said of the first that doesn't fit, and a caller's proof over the items.
-ghost use Rattle.std.specs.Prelude.{◌≡◌, [], IfOk, nat_eq};
+//! Maps and sets built from items, what is said of the first that doesn't fit, and a caller's proof over the items.
+ghost use Rattle.std.specs.Prelude.{◌≡◌, IfOk, nat_eq};
 ghost use Rattle.std.specs.Vec.{vec_items};
 ghost use Rattle.micromap.specs.Build.{build};
 
-use crate::{Map, Overfull};
+use crate::{Map, Overfull, Set};
 use std::alloc::AllocError;
 
 // The map of these items, where they fit.
 fn of_items<const N: usize>(items: Vec<(u8, u8)>) -> Result<Map<u8, u8, N>, Overfull>
-    ensures { IfOk result (λ map. map ≡ build nat_eq [] (vec_items items)) }
+    ensures { IfOk result (λ map. map ≡ build nat_eq (vec_items items)) }
 {
     Map::try_from_iter(items.into_iter())
 }
@@ -22,10 +22,13 @@ fn a_vector_becomes_a_map(rt: HostRuntime) -> Result<(), AllocError> {
 }
 
 #[test]
-fn items_are_put_in_turn(rt: HostRuntime) {
-    let map = Map::from([(1, "sun"), (2, "mon"), (1, "tue")]);
+fn an_array_becomes_a_map_or_a_set(rt: HostRuntime) {
+    let map: Map<u8, &str, 3> = [(1, "sun"), (2, "mon"), (1, "tue")].into();
     assert_eq!(rt; map.capacity(), 3);
     assert!(rt; map.into_iter().eq([(2, "mon"), (1, "tue")]));
+    let set: Set<u8, 8> = [4, 5, 6, 6, 6, 7, 8, 9].into();
+    assert_eq!(rt; set.capacity(), 8);
+    assert!(rt; set.iter().eq(&[4, 5, 6, 7, 8, 9]));
 }
 
 #[test]
@@ -41,6 +44,34 @@ fn the_first_misfit_is_named(rt: HostRuntime) {
     let items = [(1, "a"), (2, "b"), (1, "c"), (3, "d")];
     let map: Result<Map<u8, &str, 2>, Overfull> = Map::try_from_iter(items.into_iter());
     assert!(rt; matches!(map, Err(Overfull { at: 3 })));
+}
+
+#[test]
+fn nothing_is_taken_after_a_misfit(rt: HostRuntime) {
+    let mut left = [(1, 'a'), (2, 'b'), (1, 'c'), (3, 'd'), (4, 'e')].into_iter();
+    let map: Result<Map<u8, char, 2>, Overfull> = Map::try_from_iter(&mut left);
+    assert!(rt; matches!(map, Err(Overfull { at: 3 })));
+    assert_eq!(rt; left.next(), Some((4, 'e')));
+    let mut left = [5, 6, 7].into_iter();
+    let set: Result<Set<u8, 1>, Overfull> = Set::try_from_iter(&mut left);
+    assert!(rt; matches!(set, Err(Overfull { at: 1 })));
+    assert_eq!(rt; left.next(), Some(7));
+    let mut set: Set<i32, 1> = Set::new();
+    let mut left = [5, 6, 7].into_iter();
+    assert_eq!(rt; set.try_extend(&mut left), Err(Overfull { at: 1 }));
+    assert!(rt; set.iter().eq(&[5]));
+    assert_eq!(rt; left.next(), Some(7));
+}
+
+#[test]
+fn each_distinct_item_is_put_once(rt: HostRuntime) -> Result<(), Overfull> {
+    let letters = ['a', 'a', 'd', 'b', 'a', 'd', 'c', 'd', 'c'];
+    let set: Set<char, 6> = Set::try_from_iter(letters.into_iter())?;
+    assert!(rt; set.iter().eq(&['a', 'd', 'b', 'c']));
+    let mut set: Set<i32, 6> = Set::try_from_iter([1, 2, 4].into_iter())?;
+    set.try_extend([2, 3, 5, 6].into_iter())?;
+    assert!(rt; set.iter().eq(&[1, 2, 4, 3, 5, 6]));
+    Ok(())
 }
 
 #[test]

@@ -1,9 +1,9 @@
-//! Clones of a map, and two callers' proofs: numbers never lack memory, and texts stay what they are.
+//! Clones of maps and sets, and two callers' proofs: numbers never lack memory, and texts stay what they are.
 ghost use Rattle.std.specs.Prelude.{◌≡◌, IfOk, Ok};
 ghost use Rattle.std.specs.List.{AllZip};
 ghost use Rattle.std.specs.String.{string_bytes};
 
-use crate::Map;
+use crate::{Map, Set};
 use std::alloc::AllocError;
 
 // A copy of a map of numbers.
@@ -33,6 +33,22 @@ fn a_clone_goes_its_own_way(rt: HostRuntime) -> Result<(), AllocError> {
     assert!(rt; map.drain().eq([(1, 5), (2, 6)]));
     let none = map.clone()?;
     assert!(rt; none.is_empty());
+    Ok(())
+}
+
+#[test]
+fn maps_of_any_capacity_are_cloned(rt: HostRuntime) -> Result<(), AllocError> {
+    let none: Map<u8, u64, 0> = Map::new();
+    assert!(rt; copy_of_numbers(&none)?.is_empty());
+    let none: Set<u8, 0> = Set::new();
+    assert!(rt; none.clone()?.is_empty());
+    let mut full: Map<u8, u64, 16> = Map::new();
+    for number in 0..16 {
+        full.checked_insert(number, u64::from(number) + 100);
+    }
+    let copy = copy_of_numbers(&full)?;
+    assert!(rt; copy.keys().copied().eq(0..16));
+    assert!(rt; copy.values().copied().eq(100..116));
     Ok(())
 }
 
@@ -87,5 +103,20 @@ fn a_clone_that_fails_leaves_the_map(rt: HostRuntime) {
         assert_eq!(rt; map.len(), 2);
         assert!(rt; map.keys().map(|key| key.number).eq([0, 2]));
         assert!(rt; map.values().map(|value| value.number).eq([1, 3]));
+    }
+}
+
+#[test]
+fn a_clone_that_fails_leaves_the_set(rt: HostRuntime) {
+    for failing in 0..3 {
+        let mut set: Set<Brittle, 3> = Set::new();
+        for number in 0..3 {
+            set.checked_insert(Brittle {
+                number,
+                broken: failing == number,
+            });
+        }
+        assert!(rt; matches!(set.clone(), Err(AllocError)));
+        assert!(rt; set.iter().map(|item| item.number).eq([0, 1, 2]));
     }
 }

@@ -1,7 +1,7 @@
 //! Pairs kept and values written by a closure, and three callers' proofs over the final list.
 ghost use Rattle.std.specs.Prelude.{◌≡◌, ◌==◌, ◌%◌, nat_eq, map};
 ghost use Rattle.std.specs.Set.{distinct_count};
-ghost use Rattle.micromap.specs.Closures.{updated_at};
+ghost use Rattle.micromap.specs.Closures.{updated_disjoint};
 ghost use Rattle.micromap.specs.Retain.{retained};
 
 use crate::Map;
@@ -23,7 +23,7 @@ fn keys_as_values<const N: usize>(pairs: &mut Map<u8, u8, N>)
 // Sets the value of each key that is stored to its position.
 fn positions<const J: usize, const N: usize>(pairs: &mut Map<u8, usize, N>, keys: &[u8; J])
     requires { distinct_count nat_eq keys.now ≡ J }
-    ensures { pairs.new ≡ updated_at nat_eq (λ position _. position) 0 pairs.old keys.now }
+    ensures { pairs.new ≡ updated_disjoint nat_eq (λ position _. position) pairs.old keys.now }
 {
     pairs.update_disjoint(keys, |position, value| *value = position);
 }
@@ -99,10 +99,33 @@ fn no_key_finds_nothing(rt: HostRuntime) {
     let mut map = numbered(&[1, 2]);
     assert_eq!(rt; map.update_disjoint(&[], |_, value| *value = 9), []);
     assert!(rt; map.values().copied().eq([1, 2]));
-    let mut places: Map<u8, usize, 3> = Map::new();
+    let mut slots: Map<u8, usize, 3> = Map::new();
     for key in [1, 2, 3] {
-        places.checked_insert(key, 7);
+        slots.checked_insert(key, 7);
     }
-    positions(&mut places, &[3, 9, 1]);
-    assert!(rt; places.values().copied().eq([2, 7, 0]));
+    positions(&mut slots, &[3, 9, 1]);
+    assert!(rt; slots.values().copied().eq([2, 7, 0]));
+}
+
+#[test]
+fn more_keys_than_there_is_room_for(rt: HostRuntime) {
+    let mut map: Map<u8, usize, 2> = Map::new();
+    for key in [1, 2] {
+        map.checked_insert(key, 7);
+    }
+    let found = map.update_disjoint(&[9, 2, 8, 1], |position, value| *value = position);
+    assert_eq!(rt; found, [false, true, false, true]);
+    assert!(rt; map.values().copied().eq([3, 1]));
+}
+
+#[test]
+fn an_empty_map_calls_nothing(rt: HostRuntime) {
+    let mut map: Map<u8, u8, 0> = Map::new();
+    let mut called = false;
+    map.retain(|_, _| {
+        called = true;
+        true
+    });
+    map.update_all(|_, _| called = true);
+    assert!(rt; !called);
 }

@@ -1,12 +1,12 @@
-//! Entries as a user writes them, and three callers' proofs over the final list.
-ghost use Rattle.std.specs.Prelude.{◌≡◌, ◌+ℤ◌, IfOk, IsTrue, nat_eq, pos};
+//! Entries as a user writes them, and the proofs of callers with a contract over the final list.
+ghost use Rattle.std.specs.Prelude.{◌≡◌, ◌+ℤ◌, IfOk, IsTrue, if◌then◌else◌, nat_eq, pos};
 ghost use Rattle.std.specs.Int.{saturate_signed, w32};
 ghost use Rattle.std.specs.Option.{option_map_or, unwrap_or};
 ghost use Rattle.micromap.specs.Entry.{IsSound, entry_has_room};
 ghost use Rattle.micromap_core.specs.declared.entry.EntryIn.TheVariants.{Occupied, Vacant};
 ghost use Rattle.micromap.specs.Pairs.{at, fits, has, put, take_out};
 
-use super::tagged::Tagged;
+use super::marked::Marked;
 use crate::Map;
 use crate::map::{Entry, OccupiedEntry, VacantEntry};
 use std::process::Abort;
@@ -26,10 +26,61 @@ fn count<const N: usize>(counts: &mut Map<char, i32, N>, letter: char)
 // The value of `key`, which is `value` from now on where it had none.
 fn get_or_insert<const N: usize>(map: &mut Map<u8, u8, N>, key: u8, value: u8) -> u8
     requires { IsTrue (fits nat_eq N map.old key) }
-    ensures value { result ≡ unwrap_or (at nat_eq map.old key) value }
-    ensures stored { map.new ≡ put nat_eq map.old key result }
+    ensures answer { result ≡ unwrap_or (at nat_eq map.old key) value }
+    ensures pairs { map.new ≡ put nat_eq map.old key result }
 {
     *map.entry(key).or_insert(value)
+}
+
+// Writes `value` at `key`, where there is room for it, and answers whether there was.
+fn overwrite<const N: usize>(map: &mut Map<u8, u8, N>, key: u8, value: u8) -> bool
+    ensures answer { result ≡ fits nat_eq N map.old key }
+    ensures pairs { map.new ≡ (if fits nat_eq N map.old key then put nat_eq map.old key value else map.old) }
+{
+    let entry = map.entry(key);
+    if entry.has_room() {
+        *entry.or_insert(0) = value;
+        true
+    } else {
+        false
+    }
+}
+
+// Writes 7 at `key`, where it is stored.
+fn overwrite_stored<K: Eq + Drop, const N: usize>(map: &mut Map<K, u8, N>, key: K)
+    ensures { map.new ≡ (if has K.eq map.old key then put K.eq map.old key 7 else map.old) }
+{
+    map.entry(key).and_modify(|value| *value = 7);
+}
+
+// Whether `key` is stored.
+fn is_stored<K: Eq + Drop, V, const N: usize>(map: &mut Map<K, V, N>, key: K) -> bool
+    ensures answer { result ≡ has K.eq map.old key }
+    ensures pairs { map.new ≡ map.old }
+{
+    matches!(map.entry(key), Entry::Occupied(_))
+}
+
+// Puts `value` at `key`, and reads it by the entry that the call answers.
+fn put_and_read<const N: usize>(map: &mut Map<u8, u8, N>, key: u8, value: u8) -> u8
+    requires { IsTrue (fits nat_eq N map.old key) }
+    ensures answer { result ≡ value }
+    ensures pairs { map.new ≡ put nat_eq map.old key value }
+{
+    let entry = map.entry(key).insert_entry(value);
+    *entry.get()
+}
+
+#[test]
+fn a_dropped_entry_leaves_the_map(rt: HostRuntime) {
+    let mut map: Map<u8, u8, 1> = Map::new();
+    map.insert(1, 10);
+    assert!(rt; !overwrite(&mut map, 2, 20));
+    assert!(rt; is_stored(&mut map, 1));
+    assert!(rt; !is_stored(&mut map, 2));
+    assert_eq!(rt; map.get(&1), Some(&10));
+    overwrite_stored(&mut map, 1);
+    assert_eq!(rt; map.get(&1), Some(&7));
 }
 
 #[test]
@@ -75,11 +126,38 @@ fn room_decides_at_a_full_map(rt: HostRuntime) -> Result<(), Fail> {
 }
 
 #[test]
+fn no_key_has_room_at_capacity_0(rt: HostRuntime) -> Result<(), Fail> {
+    let mut map: Map<u8, u8, 0> = Map::new();
+    let Entry::Vacant(entry) = map.entry(1) else {
+        return Err(Fail::from("1 is new"));
+    };
+    assert!(rt; !entry.has_room());
+    assert_eq!(rt; entry.into_key(), 1);
+    Ok(())
+}
+
+#[test]
+fn an_inserted_value_is_in_the_entry(rt: HostRuntime) -> Result<(), Fail> {
+    let mut map: Map<char, u8, 2> = Map::new();
+    let new = open(&mut map, 'a')?.insert_entry(1);
+    assert_eq!(rt; (*new.key(), *new.get()), ('a', 1));
+    drop(new);
+    let old = open(&mut map, 'a')?.insert_entry(2);
+    assert_eq!(rt; (*old.key(), *old.get()), ('a', 2));
+    drop(old);
+    let vacant = free(&mut map, 'b')?.insert_entry(3);
+    assert_eq!(rt; (*vacant.key(), *vacant.get()), ('b', 3));
+    drop(vacant);
+    assert!(rt; map.drain().eq([('a', 2), ('b', 3)]));
+    Ok(())
+}
+
+#[test]
 fn a_stored_key_stays_in_its_entry(rt: HostRuntime) {
-    let mut map: Map<Tagged, u8, 1> = Map::new();
-    map.insert(Tagged::new(1, 'x'), 5);
-    assert_eq!(rt; map.entry(Tagged::new(1, 'y')).key().mark, 'x');
-    let entry = map.entry(Tagged::new(1, 'y'));
+    let mut map: Map<Marked, u8, 1> = Map::new();
+    map.insert(Marked::new(1, 'x'), 5);
+    assert_eq!(rt; map.entry(Marked::new(1, 'y')).key().mark, 'x');
+    let entry = map.entry(Marked::new(1, 'y'));
     assert!(rt; entry.has_room());
     let entry = entry.insert_entry(6);
     assert_eq!(rt; entry.key().mark, 'x');
@@ -132,7 +210,8 @@ fn free<const N: usize>(
 {
     match map.entry(letter) {
         Entry::Vacant(entry) if entry.has_room() => Ok(entry),
-        _ => Err(Fail::from("the letter is new, and there is room")),
+        Entry::Vacant(_entry) => Err(Fail::from("there is room")),
+        Entry::Occupied(_entry) => Err(Fail::from("the letter is new")),
     }
 }
 
@@ -172,14 +251,13 @@ fn make(rt: &impl Abort, map: &mut Map<char, u8, 10>) -> Result<(), Fail> {
 // The third part: a pair that goes and comes.
 fn take_and_put(rt: &impl Abort, map: &mut Map<char, u8, 10>) -> Result<(), Fail> {
     assert_eq!(rt; stored(map, 'e')?.remove(), 101);
-    assert_eq!(rt; *free(map, 'e')?.key(), 'e');
-    assert_eq!(rt; free(map, 'e')?.into_key(), 'e');
+    let entry = free(map, 'e')?;
+    assert_eq!(rt; *entry.key(), 'e');
+    assert_eq!(rt; entry.into_key(), 'e');
     assert_eq!(rt; *free(map, 'e')?.insert(101), 101);
     let mut entry = stored(map, 'e')?;
-    assert_eq!(rt; *entry.key(), 'e');
     assert_eq!(rt; entry.insert(69), 101);
     assert_eq!(rt; entry.remove_entry(), ('e', 69));
-    assert_eq!(rt; *free(map, 'e')?.insert_entry(100).key(), 'e');
     assert_eq!(rt; *open(map, 'e')?.insert_entry(101).get(), 101);
     Ok(())
 }
@@ -206,7 +284,7 @@ fn a_long_run_of_entries(rt: HostRuntime) -> Result<(), Fail> {
 // Raises the value of a key that is there, and takes it out by the same entry.
 fn raise_and_take<const N: usize>(map: &mut Map<u8, u8, N>, key: u8) -> bool
     ensures answer { result ≡ has nat_eq map.old key }
-    ensures taken { map.new ≡ take_out nat_eq map.old key }
+    ensures pairs { map.new ≡ take_out nat_eq map.old key }
 {
     let entry = map.entry(key);
     match entry.and_modify(|value| *value = value.wrapping_add(1)) {

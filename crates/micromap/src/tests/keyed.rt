@@ -3,7 +3,8 @@
 ghost use Rattle.std.specs.Prelude.{◌≡◌, Some, None, IsTrue, nat_eq, if◌then◌else◌};
 ghost use Rattle.micromap.specs.Pairs.{fits, has, put};
 
-use super::tagged::{Id, Tagged};
+use super::gives;
+use super::marked::{Digit, Id, Marked};
 use crate::{Map, Text};
 use std::test::Fail;
 
@@ -75,7 +76,7 @@ fn a_removed_entry_is_gone(rt: HostRuntime) {
 #[tactic(auto, unfolding(micromap_core::specs::Pairs::put))]
 fn a_full_map_takes_a_stored_key(rt: HostRuntime) {
     let mut map: Map<i32, i32, 1> = Map::with_capacity(1);
-    assert_eq!(rt; map.insert(1, 42), None);
+    assert_eq!(rt; map.insert_unchecked(1, 42), None);
     assert_eq!(rt; map.insert(1, 42), Some(42));
     assert_eq!(rt; map.len(), 1);
     assert_eq!(rt; map.insert_unchecked(1, 41), Some(42));
@@ -92,6 +93,23 @@ fn a_map_has_its_capacity(rt: HostRuntime) {
     assert_eq!(rt; map.insert(2, "bar"), None);
     assert_eq!(rt; map.len(), 2);
     assert_eq!(rt; map.capacity(), 10);
+}
+
+#[test]
+fn a_missing_key_finds_nothing_and_leaves_the_map(rt: HostRuntime) {
+    let mut map: Map<u8, u8, 3> = Map::new();
+    map.checked_insert(1, 10);
+    map.checked_insert(2, 20);
+    assert_eq!(rt; map.get(&3), None);
+    assert_eq!(rt; map.get_key_value(&3), None);
+    assert!(rt; map.get_mut(&3).is_none());
+    assert!(rt; !map.contains_key(&3));
+    assert_eq!(rt; map.remove(&3), None);
+    assert_eq!(rt; map.remove_entry(&3), None);
+    assert!(rt; gives(map.iter(), &[(&1, &10), (&2, &20)]));
+    assert!(rt; map.fits(&3));
+    assert_eq!(rt; map.insert_key_value(3, 30), None);
+    assert!(rt; gives(map.iter(), &[(&1, &10), (&2, &20), (&3, &30)]));
 }
 
 #[test]
@@ -121,17 +139,36 @@ fn texts_find_their_keys(rt: HostRuntime) -> Result<(), Fail> {
 
 #[test]
 fn a_probe_finds_the_stored_key(rt: HostRuntime) {
-    let mut map: Map<Tagged, u8, 2> = Map::new();
-    map.insert(Tagged::new(1, 'x'), 5);
+    let mut map: Map<Marked, u8, 2> = Map::new();
+    map.insert(Marked::new(1, 'x'), 5);
     let found = map.get_key_value_by(&Id(1));
     assert_eq!(rt;
         found.map(|(key, value)| (key.mark, *value)),
         Some(('x', 5))
     );
-    if let Some(value) = map.get_mut_by(&Id(1)) {
+    if let Some(value) = map.get_mut_by(&Digit('1')) {
         *value = 6;
     }
     assert!(rt; map.contains_key_by(&Id(1)));
     assert_eq!(rt; *map.index_by(&Id(1)), 6);
-    assert!(rt; !map.contains_key_by(&Id(2)));
+    // A key is a probe too.
+    assert_eq!(rt; map.get_by(&Marked::new(1, 'y')), Some(&6));
+    let taken = map.remove_entry_by(&Digit('1'));
+    assert_eq!(rt; taken.map(|(key, value)| (key.mark, value)), Some(('x', 6)));
+    assert!(rt; map.is_empty());
+}
+
+#[test]
+fn a_probe_that_matches_no_key_leaves_the_map(rt: HostRuntime) {
+    let mut map: Map<Marked, u8, 2> = Map::new();
+    map.checked_insert(Marked::new(1, 'x'), 5);
+    map.checked_insert(Marked::new(2, 'x'), 6);
+    assert_eq!(rt; map.get_by(&Id(3)), None);
+    assert!(rt; map.get_mut_by(&Id(3)).is_none());
+    assert!(rt; map.get_key_value_by(&Digit('3')).is_none());
+    assert!(rt; !map.contains_key_by(&Digit('x')));
+    assert_eq!(rt; map.remove_by(&Id(3)), None);
+    assert!(rt; map.remove_entry_by(&Digit('3')).is_none());
+    assert!(rt; gives(map.keys().map(|key| key.id), &[1, 2]));
+    assert!(rt; gives(map.values(), &[&5, &6]));
 }

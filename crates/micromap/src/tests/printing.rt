@@ -1,10 +1,11 @@
-//! The texts of a map and of its walks, and a caller's proof over a map's text.
+//! The texts of a map, of a set and of a map's walks, and a caller's proof over a map's text.
 ghost use Rattle.std.specs.Prelude.{◌≡◌, Some, IfOk};
 ghost use Rattle.std.specs.String.{string_bytes};
 ghost use Rattle.micromap.specs.Print.{map_text};
 
-use crate::Map;
+use crate::{Map, Set};
 use std::alloc::{AllocError, Global};
+use std::fmt::{self, Write};
 
 // The text of a map of texts.
 fn text_of<const N: usize>(
@@ -16,14 +17,15 @@ fn text_of<const N: usize>(
     format!(in alloc; "{map}")
 }
 
-use std::fmt::{self, Write};
-
 #[test]
 fn a_map_prints_its_pairs(rt: HostRuntime) -> Result<(), AllocError> {
     let alloc = rt.alloc();
     let numbers = Map::from([(1, 2), (3, 4)]);
     assert_eq!(rt; format!(in alloc; "{numbers}")?.as_str(), "{1: 2, 3: 4}");
-    assert_eq!(rt; format!(in alloc; "{numbers:>3}")?.as_str(), "{1: 2, 3: 4}");
+    let one = Map::from([(1, 2)]);
+    assert_eq!(rt; format!(in alloc; "{one:>3}")?.as_str(), "{1: 2}");
+    let answer = Map::from([(42, true)]);
+    assert_eq!(rt; format!(in alloc; "{answer}")?.as_str(), "{42: true}");
     let names = Map::from([("one", 42), ("two", 16)]);
     assert_eq!(rt;
         format!(in alloc; "{names}")?.as_str(),
@@ -34,7 +36,40 @@ fn a_map_prints_its_pairs(rt: HostRuntime) -> Result<(), AllocError> {
         "{\"one\": 42, \"two\": 16}"
     );
     let none = Map::new();
-    assert_eq!(rt; text_of::<3>(alloc, &none)?.as_str(), "{}");
+    assert_eq!(rt; text_of::<0>(alloc, &none)?.as_str(), "{}");
+    assert_eq!(rt; format!(in alloc; "{none:?}")?.as_str(), "{}");
+    Ok(())
+}
+
+#[test]
+fn a_map_prints_within_another_and_in_a_box(rt: HostRuntime) -> Result<(), AllocError> {
+    let alloc = rt.alloc();
+    let mut lists: Map<char, Map<u8, u8, 2>, 2> = Map::new();
+    lists.checked_insert('a', Map::from([(1, 2), (3, 4)]));
+    lists.checked_insert('b', Map::new());
+    assert_eq!(rt;
+        format!(in alloc; "{lists}")?.as_str(),
+        "{a: {1: 2, 3: 4}, b: {}}"
+    );
+    let mut boxed = Box::new(alloc, lists)?;
+    boxed.remove(&'a');
+    assert_eq!(rt; format!(in alloc; "{boxed}")?.as_str(), "{b: {}}");
+    Ok(())
+}
+
+#[test]
+fn a_set_prints_its_items(rt: HostRuntime) -> Result<(), AllocError> {
+    let alloc = rt.alloc();
+    let numbers = Set::from([1, 2]);
+    assert_eq!(rt; format!(in alloc; "{numbers:>3}")?.as_str(), "{  1,   2}");
+    let names = Set::from(["one", "two"]);
+    assert_eq!(rt; format!(in alloc; "{names}")?.as_str(), "{one, two}");
+    assert_eq!(rt;
+        format!(in alloc; "{names:?}")?.as_str(),
+        "{\"one\", \"two\"}"
+    );
+    let none: Set<u8, 0> = Set::new();
+    assert_eq!(rt; format!(in alloc; "{none}")?.as_str(), "{}");
     Ok(())
 }
 
@@ -83,28 +118,41 @@ fn an_owning_walk_prints_from_the_front(rt: HostRuntime) -> Result<(), AllocErro
     Ok(())
 }
 
-// A writer that refuses each text after the first few.
+// A writer that counts what it is given to write, and refuses one of these texts alone, counted from 0.
 #[derive(Drop)]
 struct Refusing {
-    accepted: u8,
+    refused: usize,
+    given: usize,
 }
 
 impl Write for Refusing {
     fn write_str(&mut self, _text: &str) -> fmt::Result {
-        if self.accepted == 0 {
+        let position = self.given;
+        self.given = position.saturating_add(1);
+        if position == self.refused {
             return Err(fmt::Error);
         }
-        self.accepted -= 1;
         Ok(())
     }
+}
+
+// How many texts the value is printed in, where a print ends with the first that is refused and answers its error.
+fn counted_texts<T: fmt::Display>(value: &T) -> Option<usize> {
+    for refused in 0..100 {
+        let mut out = Refusing { refused, given: 0 };
+        match write!(out, "{value}") {
+            Ok(()) if out.given == refused => return Some(refused),
+            Err(fmt::Error) if out.given == refused + 1 => {}
+            _ => return None,
+        }
+    }
+    None
 }
 
 #[test]
 fn a_refused_text_ends_the_printing(rt: HostRuntime) {
     let map = Map::from([(1, 2), (3, 4)]);
-    for accepted in 0..3 {
-        let mut out = Refusing { accepted };
-        assert_eq!(rt; write!(out, "{map}"), Err(fmt::Error));
-        assert_eq!(rt; out.accepted, 0);
-    }
+    assert!(rt; counted_texts(&map).is_some_and(|texts| texts > 2));
+    let set = Set::from([1, 2]);
+    assert!(rt; counted_texts(&set).is_some_and(|texts| texts > 2));
 }

@@ -10,6 +10,7 @@ pub(super) fn row_1() -> bool {
         && map.checked_insert(1, "A") == Some(Some("a"))
         && map.checked_insert(2, "b") == Some(None)
         && map.checked_insert(3, "c") == Some(None)
+        && map.len() == 3
         && map.checked_insert(2, "B") == Some(Some("b"))
         && map.checked_insert(4, "d").is_none()
         && map.len() == 3

@@ -15,14 +15,14 @@ fn numbers<const N: usize>(items: &[i32]) -> Set<i32, N> {
 pub(super) fn row_8() -> bool {
     let mut set: Set<i32, 4> = numbers(&[1, 2, 3, 4]);
     let visits = [1, 4, 2, 3];
-    let mut number = 0usize;
+    let mut visited = 0usize;
     let mut in_order = true;
     set.retain(|x| {
-        in_order &= visits.get(number) == Some(x);
-        number = number.wrapping_add(1);
+        in_order &= visits.get(visited) == Some(x);
+        visited = visited.wrapping_add(1);
         *x == 3 || *x == 4
     });
-    in_order && number == 4 && set.iter().eq(&[4, 3])
+    in_order && visited == visits.len() && set.iter().eq(&[4, 3])
 }
 
 // The items before the first misfit are in the set.

@@ -4,8 +4,7 @@ ghost use Rattle.std.specs.Prelude.{◌≡◌, Some, None, IsTrue, unwrap_or};
 ghost use Rattle.std.specs.Borrow.{sem, Bor, MutBor};
 ghost use Rattle.std.specs.Map.Calls.{ModifiesValue};
 ghost use Rattle.std.specs.Option.{UnwrapsOrElse, option_map_or};
-ghost use Rattle.micromap_core.specs.Entry.{Occupied, AnswersOfKey, entry_map_ref, entry_pairs, is_occupied, entry_key, entry_value, entry_put, entry_taken, entry_has_room, IsSound, IsWritten, entry_lends};
-ghost use Rattle.micromap_core.specs.Pairs.{at, pair, has, put, take_out};
+ghost use Rattle.micromap_core.specs.Entry.{Occupied, AnswersOfKey, entry_map_ref, entry_pairs, is_occupied, entry_key, entry_value, entry_put, entry_taken, entry_has_room, IsSound, IsEntryOf, IsWritten, entry_lends};
 
 use super::{Entry, EntryIn, OccupiedEntry, OccupiedIn, VacantIn};
 use crate::Map;
@@ -17,18 +16,9 @@ impl<K: Eq, V, const N: usize> Map<K, V, N> {
     pub fn entry(&mut self, key: K) -> Entry<'_, K, V, N>
     where
         K: Drop,
-        ensures occupied { is_occupied result ≡ has K.eq self.old key }
-        ensures key { entry_key result ≡ Some (option_map_or (λ p. p.0) (pair K.eq self.old key) key) }
-        ensures value { entry_value result ≡ at K.eq self.old key }
-
-        // It borrows this map as it is. Writing puts a value at the key, and removing takes the key out.
-        ensures same_map { (entry_map_ref result).ghost_name ≡ self.entry.ghost_name }
-        ensures pairs { entry_pairs result ≡ self.old }
-        ensures puts { (v : V) → entry_put result v ≡ put K.eq self.old key v }
-        ensures taken { entry_taken result ≡ take_out K.eq self.old key }
-        ensures sound { IsSound K.eq result }
+        ensures { IsEntryOf K.eq self.entry key result }
     {
-        match self.place_of(&key) {
+        match self.index_of(&key) {
             Some(index) => Entry::Occupied(OccupiedIn { map: self, index }),
             None => Entry::Vacant(VacantIn { map: self, key }),
         }
@@ -62,10 +52,10 @@ impl<'a, K: Eq, V, const N: usize> EntryIn<'a, K, Map<K, V, N>> {
         requires sound { IsSound K.eq self }
         requires callable { (p : MutBor V) → entry_value self ≡ Some p.now → F.pre f p }
         ensures same_map { (entry_map_ref result).ghost_name ≡ (entry_map_ref self.entry).ghost_name }
+        ensures pairs { entry_pairs result ≡ option_map_or (entry_put self.entry) (entry_value result) (entry_pairs self.entry) }
         ensures occupied { is_occupied result ≡ is_occupied self.entry }
         ensures key { entry_key result ≡ entry_key self.entry }
         ensures value { ModifiesValue F.FnOnce f (entry_value self.entry) (entry_value result) }
-        ensures pairs { entry_pairs result ≡ option_map_or (entry_put self.entry) (entry_value result) (entry_pairs self.entry) }
         ensures puts { (v : V) → entry_put result v ≡ entry_put self.entry v }
         ensures taken { entry_taken result ≡ entry_taken self.entry }
         ensures sound { IsSound K.eq result }
@@ -88,7 +78,7 @@ impl<'a, K: Eq + Drop, V: Drop, const N: usize> EntryIn<'a, K, Map<K, V, N>> {
         requires sound { IsSound K.eq self }
         requires room { IsTrue (entry_has_room N self) }
         ensures* writes_back { sem 𝓛 (entry_lends K.row V.row N.row K.eq self.entry result) }
-        ensures value { result.now ≡ unwrap_or (entry_value self.entry) default }
+        ensures answer { result.now ≡ unwrap_or (entry_value self.entry) default }
     {
         self.or_insert_with(|| default)
     }
@@ -101,7 +91,7 @@ impl<'a, K: Eq + Drop, V: Drop, const N: usize> EntryIn<'a, K, Map<K, V, N>> {
         requires room { IsTrue (entry_has_room N self) }
         requires callable { entry_value self ≡ None → F.pre default }
         ensures* writes_back { sem 𝓛 (entry_lends K.row V.row N.row K.eq self.entry result) }
-        ensures value { UnwrapsOrElse (entry_value self.entry) (F.post default) result.now }
+        ensures answer { UnwrapsOrElse (entry_value self.entry) (F.post default) result.now }
     {
         self.or_insert_with_key(|_| default())
     }
@@ -115,7 +105,7 @@ impl<'a, K: Eq + Drop, V: Drop, const N: usize> EntryIn<'a, K, Map<K, V, N>> {
         requires room { IsTrue (entry_has_room N self) }
         requires callable { entry_value self ≡ None → (p : Bor K) → entry_key self ≡ Some p.now → F.pre default p }
         ensures* writes_back { sem 𝓛 (entry_lends K.row V.row N.row K.eq self.entry result) }
-        ensures value { UnwrapsOrElse (entry_value self.entry) (AnswersOfKey F.FnOnce default (entry_key self.entry)) result.now }
+        ensures answer { UnwrapsOrElse (entry_value self.entry) (AnswersOfKey F.FnOnce default (entry_key self.entry)) result.now }
     {
         match self {
             EntryIn::Occupied(entry) => entry.into_mut(),
@@ -135,7 +125,7 @@ impl<'a, K: Eq + Drop, V: Drop, const N: usize> EntryIn<'a, K, Map<K, V, N>> {
         requires sound { IsSound K.eq self }
         requires room { IsTrue (entry_has_room N self) }
         ensures* writes_back { sem 𝓛 (entry_lends K.row V.row N.row K.eq self.entry result) }
-        ensures value { UnwrapsOrElse (entry_value self.entry) V.is_default result.now }
+        ensures answer { UnwrapsOrElse (entry_value self.entry) V.is_default result.now }
     {
         self.or_insert_with(|| V::default())
     }
@@ -146,8 +136,7 @@ impl<'a, K: Eq + Drop, V: Drop, const N: usize> EntryIn<'a, K, Map<K, V, N>> {
     pub fn insert_entry(self, value: V) -> OccupiedEntry<'a, K, V, N>
         requires sound { IsSound K.eq self }
         requires room { IsTrue (entry_has_room N self) }
-        ensures written { IsWritten self.entry value (Occupied result) }
-        ensures sound { IsSound K.eq (Occupied result) }
+        ensures { IsWritten K.eq self.entry value (Occupied result) }
     {
         match self {
             EntryIn::Occupied(mut entry) => {

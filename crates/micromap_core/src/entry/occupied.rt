@@ -1,4 +1,5 @@
-//! The calls of `OccupiedEntry`.
+//! The calls of `OccupiedEntry`. A clause's `self.exit.0.now` is the map behind the reference that the entry held, once
+//! the entry is used up.
 ghost use Rattle.std.specs.Prelude.{◌≡◌, Some, slice_get};
 ghost use Rattle.std.specs.Borrow.{sem};
 ghost use Rattle.micromap_core.specs.Entry.{Occupied, entry_key, entry_value, entry_taken, IsSound, IsWritten, entry_lends, occupied_lends};
@@ -27,7 +28,7 @@ impl<'a, K: Eq, V, const N: usize> OccupiedIn<'a, Map<K, V, N>> {
     pub fn get_mut(&mut self) -> &mut V
         requires { IsSound K.eq (Occupied self.old) }
         ensures* writes_back { sem 𝓛 (occupied_lends K.row V.row N.row K.eq self.entry result) }
-        ensures value { entry_value (Occupied self.old) ≡ Some result.now }
+        ensures answer { entry_value (Occupied self.old) ≡ Some result.now }
     {
         let index = self.index;
         self.map.value_at(index)
@@ -37,7 +38,7 @@ impl<'a, K: Eq, V, const N: usize> OccupiedIn<'a, Map<K, V, N>> {
     pub fn into_mut(self) -> &'a mut V
         requires { IsSound K.eq (Occupied self) }
         ensures* writes_back { sem 𝓛 (entry_lends K.row V.row N.row K.eq (Occupied self.entry) result) }
-        ensures value { entry_value (Occupied self.entry) ≡ Some result.now }
+        ensures answer { entry_value (Occupied self.entry) ≡ Some result.now }
     {
         let OccupiedIn { map, index } = self;
         map.value_at(index)
@@ -47,8 +48,7 @@ impl<'a, K: Eq, V, const N: usize> OccupiedIn<'a, Map<K, V, N>> {
     pub fn insert(&mut self, value: V) -> V
         requires { IsSound K.eq (Occupied self.old) }
         ensures old { entry_value (Occupied self.old) ≡ Some result }
-        ensures written { IsWritten (Occupied self.old) value (Occupied self.new) }
-        ensures sound { IsSound K.eq (Occupied self.new) }
+        ensures written { IsWritten K.eq (Occupied self.old) value (Occupied self.new) }
     {
         let index = self.index;
         self.map.replace_at(index, value)
@@ -59,8 +59,8 @@ impl<'a, K: Eq + Drop, V: Drop, const N: usize> OccupiedIn<'a, Map<K, V, N>> {
     /// Takes the pair out, and answers its value; the last pair moves into the gap.
     pub fn remove(self) -> V
         requires { IsSound K.eq (Occupied self) }
-        ensures value { entry_value (Occupied self.entry) ≡ Some result }
-        ensures taken { self.exit.0.now ≡ entry_taken (Occupied self.entry) }
+        ensures answer { entry_value (Occupied self.entry) ≡ Some result }
+        ensures pairs { self.exit.0.now ≡ entry_taken (Occupied self.entry) }
     {
         let OccupiedIn { map, index } = self;
         let (_key, value) = map.take_at(index);
@@ -72,7 +72,7 @@ impl<'a, K: Eq + Drop, V: Drop, const N: usize> OccupiedIn<'a, Map<K, V, N>> {
         requires { IsSound K.eq (Occupied self) }
         ensures key { entry_key (Occupied self.entry) ≡ Some result.0 }
         ensures value { entry_value (Occupied self.entry) ≡ Some result.1 }
-        ensures taken { self.exit.0.now ≡ entry_taken (Occupied self.entry) }
+        ensures pairs { self.exit.0.now ≡ entry_taken (Occupied self.entry) }
     {
         let OccupiedIn { map, index } = self;
         map.take_at(index)

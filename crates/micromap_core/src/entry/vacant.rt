@@ -1,4 +1,5 @@
-//! The calls of `VacantEntry`.
+//! The calls of `VacantEntry`. A clause's `self.exit.0.now` is the map behind the reference that the entry held, once
+//! the entry is used up.
 ghost use Rattle.std.specs.Prelude.{◌≡◌, Some, IsTrue};
 ghost use Rattle.std.specs.Borrow.{sem};
 ghost use Rattle.micromap_core.specs.Entry.{Occupied, Vacant, entry_key, entry_pairs, entry_has_room, IsSound, IsWritten, entry_lends};
@@ -16,10 +17,11 @@ impl<'a, K: Eq, V, const N: usize> VacantIn<'a, K, Map<K, V, N>> {
 
     /// Hands the held key back, and leaves the map as it is.
     pub fn into_key(self) -> K
-        ensures key { entry_key (Vacant self.entry) ≡ Some result }
-        ensures unchanged { self.exit.0.now ≡ entry_pairs (Vacant self.entry) }
+        ensures answer { entry_key (Vacant self.entry) ≡ Some result }
+        ensures pairs { self.exit.0.now ≡ entry_pairs (Vacant self.entry) }
     {
-        self.key
+        let VacantIn { map: _, key } = self;
+        key
     }
 
     /// Whether a value can be put. It compares no key.
@@ -38,7 +40,7 @@ impl<'a, K: Eq + Drop, V: Drop, const N: usize> VacantIn<'a, K, Map<K, V, N>> {
         requires sound { IsSound K.eq (Vacant self) }
         requires room { IsTrue (entry_has_room N (Vacant self)) }
         ensures* writes_back { sem 𝓛 (entry_lends K.row V.row N.row K.eq (Vacant self.entry) result) }
-        ensures value { result.now ≡ value }
+        ensures answer { result.now ≡ value }
     {
         let VacantIn { map, key } = self;
         let index = map.len();
@@ -52,8 +54,7 @@ impl<'a, K: Eq + Drop, V: Drop, const N: usize> VacantIn<'a, K, Map<K, V, N>> {
     pub fn insert_entry(self, value: V) -> OccupiedEntry<'a, K, V, N>
         requires sound { IsSound K.eq (Vacant self) }
         requires room { IsTrue (entry_has_room N (Vacant self)) }
-        ensures written { IsWritten (Vacant self.entry) value (Occupied result) }
-        ensures sound { IsSound K.eq (Occupied result) }
+        ensures { IsWritten K.eq (Vacant self.entry) value (Occupied result) }
     {
         let VacantIn { map, key } = self;
         let index = map.len();

@@ -1,5 +1,5 @@
 //! Cloning a map.
-ghost use Rattle.std.specs.Prelude.{◌≡◌, ◌<◌, ℕ, length, IsOk, IfOk, slice_index_or};
+ghost use Rattle.std.specs.Prelude.{◌≡◌, All, IsOk, IfOk};
 ghost use Rattle.std.specs.List.{AllZip};
 ghost use Rattle.std.specs.Set.{ClonesAreEqual};
 ghost use Rattle.micromap_core.specs.Clones.{AreIdentical, IsPairClone};
@@ -16,9 +16,9 @@ impl<K: Eq + Clone + Drop, V: Clone + Drop, const N: usize> Map<K, V, N> {
         requires { ClonesAreEqual K.eq K.is_clone }
         ensures clones { IfOk result (AllZip (IsPairClone K.is_clone V.is_clone) self.now) }
         ensures same { AreIdentical K.is_clone → AreIdentical V.is_clone → IfOk result (λ new. new ≡ self.now) }
-        ensures succeeds { ((i : ℕ) (p : K × V) → i < length self.now → K.is_infallible (slice_index_or self.now i p).0 × V.is_infallible (slice_index_or self.now i p).1) → IsOk result }
+        ensures succeeds { All (λ p. K.is_infallible p.0 × V.is_infallible p.1) self.now → IsOk result }
     {
-        let places = self.places.clone()?;
-        Ok(Map { places })
+        let pairs = self.pairs.clone()?;
+        Ok(Map { pairs })
     }
 }

@@ -1,35 +1,61 @@
-//! The pairs by their index. Every other call goes through these, so only they and `places` change with the layout.
-ghost use Rattle.std.specs.Prelude.{◌≡◌, ◌∷◌, [], ◌++◌, ◌<◌, length, Some, None, slice_get, slice_set};
+//! The pairs by their index, and the one scan that every call by a key or a probe makes.
+ghost use Rattle.std.specs.Prelude.{◌≡◌, ◌∷◌, [], ◌++◌, ◌<◌, length, Some, None, IfNone, slice_get};
 ghost use Rattle.std.specs.Borrow.{sem};
-ghost use Rattle.std.specs.List.{swap_remove};
-ghost use Rattle.std.specs.Map.{lookup_entry};
-ghost use Rattle.std.specs.Option.{IfSome, option_copied, option_map};
-ghost use Rattle.micromap_core.specs.Closures.{CalledAtPair, TakesPair, VisitsAt};
+ghost use Rattle.std.specs.Map.{lookup, lookup_entry, lookup_key};
+ghost use Rattle.std.specs.Map.Iter.{deref_pair};
+ghost use Rattle.std.specs.Option.{IfSome, option_map};
+ghost use Rattle.micromap_core.specs.Closures.{CalledOnPair, AcceptsPair, VisitsAt};
+ghost use Rattle.micromap_core.specs.Found.{FoundAt, NotFound};
 ghost use Rattle.micromap_core.specs.Lends.{lends_value_at};
-ghost use Rattle.micromap_core.specs.Pairs.{has_room, place, place_by};
-ghost use Rattle.micromap_core.specs.Places.{ReplacesValue};
+ghost use Rattle.micromap_core.specs.Pairs.{at, has_room, index_by, index_of, pair, put, put_key, take_out_by, with_value_at, without_at};
+ghost use Rattle.micromap_core.specs.Probe.{at_matched, pair_matched, take_out_matched};
 
 use super::Map;
-use crate::places::{
-    into_filled, pair_in, pair_of, place_of, replace_pair, replace_value, value_in, visit_pair,
-};
 use crate::probe::Probe;
+use std::mem;
 
 impl<K: Eq, V, const N: usize> Map<K, V, N> {
-    // The first pair whose key the probe matches.
+    // The first pair whose key the probe matches: the scan of every call that reads.
     #[inline]
-    pub(crate) fn find<P: Probe<K>>(&self, probe: &P) -> Option<&(K, V)>
-        ensures { option_copied result ≡ lookup_entry (P.matches probe.now) self.now }
+    fn first<P: Probe<K>>(&self, probe: &P) -> Option<(&K, &V)>
+        ensures { option_map deref_pair result ≡ lookup_entry (P.matches probe.now) self.now }
     {
-        pair_of(self.places.as_slice(), probe)
+        for (key, value) in self {
+            if probe.matches(key) {
+                return Some((key, value));
+            }
+        }
+        None
     }
 
-    // Its index.
+    // Its index: the scan of every call that writes.
     #[inline]
-    pub(crate) fn place_of<P: Probe<K>>(&self, probe: &P) -> Option<usize>
-        ensures { result ≡ place_by (P.matches probe.now) self.now }
+    fn first_index<P: Probe<K>>(&self, probe: &P) -> Option<usize>
+        ensures { result ≡ index_by (P.matches probe.now) self.now }
     {
-        place_of(self.places.as_slice(), probe)
+        self.keys().position(|key| probe.matches(key))
+    }
+
+    // The first pair whose key the probe matches, in the words of a test and in those of the key that matches.
+    #[inline]
+    pub(crate) fn find<P: Probe<K>>(&self, probe: &P) -> Option<(&K, &V)>
+        ensures pair { option_map deref_pair result ≡ lookup_entry (P.matches probe.now) self.now }
+        ensures key { option_map (λ p. p.0.now) result ≡ lookup_key (P.matches probe.now) self.now }
+        ensures value { option_map (λ p. p.1.now) result ≡ lookup (P.matches probe.now) self.now }
+        ensures pair_matched { option_map deref_pair result ≡ pair_matched K.eq (P.matches probe.now) self.now }
+        ensures value_matched { option_map (λ p. p.1.now) result ≡ at_matched K.eq (P.matches probe.now) self.now }
+    {
+        self.first(probe)
+    }
+
+    // Its index, and what follows of it.
+    #[inline]
+    pub(crate) fn index_of<P: Probe<K>>(&self, probe: &P) -> Option<usize>
+        ensures answer { result ≡ index_by (P.matches probe.now) self.now }
+        ensures found { IfSome result (FoundAt (P.matches probe.now) self.now) }
+        ensures missing { IfNone result (NotFound (P.matches probe.now) self.now) }
+    {
+        self.first_index(probe)
     }
 
     // Whether there is room for one more pair.
@@ -37,7 +63,7 @@ impl<K: Eq, V, const N: usize> Map<K, V, N> {
     pub(crate) fn has_room(&self) -> bool
         ensures { result ≡ has_room N self.now }
     {
-        self.places.len() < N
+        self.pairs.len() < N
     }
 
     // The pair at `index`.
@@ -46,7 +72,7 @@ impl<K: Eq, V, const N: usize> Map<K, V, N> {
         requires { index < length self.now }
         ensures { slice_get self.now index ≡ Some result.now }
     {
-        pair_in(self.places.as_slice(), index)
+        self.pairs.item_at(index)
     }
 
     // The value at `index`, for writing.
@@ -56,10 +82,7 @@ impl<K: Eq, V, const N: usize> Map<K, V, N> {
         ensures* writes_back { sem 𝓛 (lends_value_at K.row V.row N.row K.eq self.entry index result) }
         ensures value { option_map (λ p. p.1) (slice_get self.old index) ≡ Some result.now }
     {
-        match self.places.get_mut(index) {
-            Some(place) => value_in(place),
-            None => unreachable!(),
-        }
+        &mut self.pairs.item_at_mut(index).1
     }
 
     // Calls `visit` at the pair at `index`.
@@ -70,29 +93,41 @@ impl<K: Eq, V, const N: usize> Map<K, V, N> {
         visit: &mut F,
     ) -> R
         requires within { index < length self.old }
-        requires callable { IfSome (slice_get self.old index) (λ p. TakesPair F.FnMut visit.old p.0 p.1) }
-        ensures { VisitsAt (CalledAtPair F.FnMut) visit.old self.old index result visit.new self.new }
+        requires callable { IfSome (slice_get self.old index) (λ p. AcceptsPair F.FnMut visit.old p.0 p.1) }
+        ensures { VisitsAt (CalledOnPair F.FnMut) visit.old self.old index result visit.new self.new }
     {
-        visit_pair(self.places.as_mut_slice(), index, visit)
+        let pair = self.pairs.item_at_mut(index);
+        visit(&pair.0, &mut pair.1)
     }
 
     // Writes `value` at `index`, and answers the old value.
     #[inline]
     pub(crate) fn replace_at(&mut self, index: usize, value: V) -> V
         requires { index < length self.old }
-        ensures { ReplacesValue self.old index value result self.new }
+        ensures old { option_map (λ p. p.1) (slice_get self.old index) ≡ Some result }
+        ensures pairs { self.new ≡ with_value_at self.old index value }
     {
-        replace_value(self.places.as_mut_slice(), index, value)
+        mem::replace(self.value_at(index), value)
     }
 
-    // Writes key and value at the index of the key, and answers the old pair.
+    // Puts `value` at a key that stands at `index`, and answers the old value.
     #[inline]
-    pub(crate) fn replace_pair_at(&mut self, index: usize, key: K, value: V) -> (K, V)
-        requires { place K.eq self.old key ≡ Some index }
-        ensures old { slice_get self.old index ≡ Some result }
-        ensures pairs { self.new ≡ slice_set self.old index (key, value) }
+    pub(crate) fn put_at(&mut self, index: usize, key: &K, value: V) -> V
+        requires { index_of K.eq self.old key.now ≡ Some index }
+        ensures old { at K.eq self.old key.now ≡ Some result }
+        ensures pairs { self.new ≡ put K.eq self.old key.now value }
     {
-        replace_pair(self.places.as_mut_slice(), index, (key, value))
+        mem::replace(self.value_at(index), value)
+    }
+
+    // Puts key and value at the index of the key, and answers the old pair.
+    #[inline]
+    pub(crate) fn put_key_at(&mut self, index: usize, key: K, value: V) -> (K, V)
+        requires { index_of K.eq self.old key ≡ Some index }
+        ensures old { pair K.eq self.old key ≡ Some result }
+        ensures pairs { self.new ≡ put_key K.eq self.old key value }
+    {
+        mem::replace(self.pairs.item_at_mut(index), (key, value))
     }
 }
 
@@ -100,20 +135,46 @@ impl<K: Eq + Drop, V: Drop, const N: usize> Map<K, V, N> {
     // Puts a pair with a new key last.
     #[inline]
     pub(crate) fn push_pair(&mut self, key: K, value: V)
-        requires new { place K.eq self.old key ≡ None }
+        requires new { index_of K.eq self.old key ≡ None }
         requires room { length self.old < N }
-        ensures { self.new ≡ self.old ++ (key, value) ∷ [] }
+        ensures pairs { self.new ≡ self.old ++ (key, value) ∷ [] }
+        ensures put { self.new ≡ put K.eq self.old key value }
+        ensures put_key { self.new ≡ put_key K.eq self.old key value }
     {
-        self.places.push(Some((key, value)));
+        self.pairs.push((key, value));
+    }
+
+    // Takes the first pair out whose key the probe matches; the last pair moves there.
+    #[inline]
+    fn take_first<P: Probe<K>>(&mut self, probe: &P) -> Option<(K, V)>
+        ensures pair { result ≡ lookup_entry (P.matches probe.now) self.old }
+        ensures value { option_map (λ p. p.1) result ≡ lookup (P.matches probe.now) self.old }
+        ensures pairs { self.new ≡ take_out_by (P.matches probe.now) self.old }
+    {
+        let index = self.index_of(probe)?;
+        Some(self.take_at(index))
+    }
+
+    // The same, said as in `find`.
+    #[inline]
+    pub(crate) fn take<P: Probe<K>>(&mut self, probe: &P) -> Option<(K, V)>
+        ensures pair { result ≡ lookup_entry (P.matches probe.now) self.old }
+        ensures value { option_map (λ p. p.1) result ≡ lookup (P.matches probe.now) self.old }
+        ensures pairs { self.new ≡ take_out_by (P.matches probe.now) self.old }
+        ensures pair_matched { result ≡ pair_matched K.eq (P.matches probe.now) self.old }
+        ensures value_matched { option_map (λ p. p.1) result ≡ at_matched K.eq (P.matches probe.now) self.old }
+        ensures pairs_matched { self.new ≡ take_out_matched K.eq (P.matches probe.now) self.old }
+    {
+        self.take_first(probe)
     }
 
     // Takes the pair at `index` out; the last pair moves there.
     #[inline]
     pub(crate) fn take_at(&mut self, index: usize) -> (K, V)
         requires { index < length self.old }
-        ensures pair { slice_get self.old index ≡ Some result }
-        ensures pairs { self.new ≡ swap_remove self.old index result }
+        ensures answer { slice_get self.old index ≡ Some result }
+        ensures pairs { self.new ≡ without_at self.old index }
     {
-        into_filled(self.places.swap_remove(index))
+        self.pairs.swap_remove(index)
     }
 }

@@ -12,11 +12,11 @@ impl<K: Eq + Drop, V: Drop, const N: usize> Map<K, V, N> {
     #[inline]
     pub fn insert(&mut self, key: K, value: V) -> Option<V>
         requires { IsTrue (fits K.eq N self.old key) }
-        ensures answer { result ≡ at K.eq self.old key }
+        ensures old { result ≡ at K.eq self.old key }
         ensures pairs { self.new ≡ put K.eq self.old key value }
     {
-        match self.place_of(&key) {
-            Some(index) => Some(self.replace_at(index, value)),
+        match self.index_of(&key) {
+            Some(index) => Some(self.put_at(index, &key, value)),
             None => {
                 self.push_pair(key, value);
                 None
@@ -28,7 +28,7 @@ impl<K: Eq + Drop, V: Drop, const N: usize> Map<K, V, N> {
     #[inline]
     pub fn insert_unchecked(&mut self, key: K, value: V) -> Option<V>
         requires { IsTrue (fits K.eq N self.old key) }
-        ensures answer { result ≡ at K.eq self.old key }
+        ensures old { result ≡ at K.eq self.old key }
         ensures pairs { self.new ≡ put K.eq self.old key value }
     {
         self.insert(key, value)
@@ -41,11 +41,11 @@ impl<K: Eq + Drop, V: Drop, const N: usize> Map<K, V, N> {
     #[inline]
     pub fn insert_key_value(&mut self, key: K, value: V) -> Option<(K, V)>
         requires { IsTrue (fits K.eq N self.old key) }
-        ensures answer { result ≡ pair K.eq self.old key }
+        ensures old { result ≡ pair K.eq self.old key }
         ensures pairs { self.new ≡ put_key K.eq self.old key value }
     {
-        match self.place_of(&key) {
-            Some(index) => Some(self.replace_pair_at(index, key, value)),
+        match self.index_of(&key) {
+            Some(index) => Some(self.put_key_at(index, key, value)),
             None => {
                 self.push_pair(key, value);
                 None
@@ -63,8 +63,8 @@ impl<K: Eq + Drop, V: Drop, const N: usize> Map<K, V, N> {
         ensures answer { result ≡ (if fits K.eq N self.old key then Some (at K.eq self.old key) else None) }
         ensures pairs { self.new ≡ (if fits K.eq N self.old key then put K.eq self.old key value else self.old) }
     {
-        match self.place_of(&key) {
-            Some(index) => Some(Some(self.replace_at(index, value))),
+        match self.index_of(&key) {
+            Some(index) => Some(Some(self.put_at(index, &key, value))),
             None if self.has_room() => {
                 self.push_pair(key, value);
                 Some(None)

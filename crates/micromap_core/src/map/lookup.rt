@@ -1,6 +1,7 @@
 //! Looking a key up.
 ghost use Rattle.std.specs.Prelude.{◌≡◌, Some, IsTrue};
 ghost use Rattle.std.specs.Borrow.{sem};
+ghost use Rattle.std.specs.Map.Iter.{deref_pair};
 ghost use Rattle.std.specs.Option.{option_copied, option_copied_mut, option_map};
 ghost use Rattle.micromap_core.specs.Pairs.{at, pair, has, fits};
 ghost use Rattle.micromap_core.specs.Lends.{lends_at, lends_at_if};
@@ -13,10 +14,8 @@ impl<K: Eq, V, const N: usize> Map<K, V, N> {
     pub fn get(&self, key: &K) -> Option<&V>
         ensures { option_copied result ≡ at K.eq self.now key.now }
     {
-        match self.find(key) {
-            Some(pair) => Some(&pair.1),
-            None => None,
-        }
+        let (_, value) = self.find(key)?;
+        Some(value)
     }
 
     /// The value at `key`, for writing, or `None` where the key is missing, by one scan. Once the borrow ends the map
@@ -24,9 +23,9 @@ impl<K: Eq, V, const N: usize> Map<K, V, N> {
     #[inline]
     pub fn get_mut(&mut self, key: &K) -> Option<&mut V>
         ensures* writes_back { sem 𝓛 (lends_at_if K.row V.row N.row K.eq self.entry key.now result) }
-        ensures value { option_copied_mut result ≡ at K.eq self.old key.now }
+        ensures answer { option_copied_mut result ≡ at K.eq self.old key.now }
     {
-        match self.place_of(key) {
+        match self.index_of(key) {
             Some(index) => Some(self.value_at(index)),
             None => None,
         }
@@ -35,12 +34,9 @@ impl<K: Eq, V, const N: usize> Map<K, V, N> {
     /// The stored key and its value, or `None` where the key is missing, by one scan.
     #[inline]
     pub fn get_key_value(&self, key: &K) -> Option<(&K, &V)>
-        ensures { option_map (λ p. (p.0.now, p.1.now)) result ≡ pair K.eq self.now key.now }
+        ensures { option_map deref_pair result ≡ pair K.eq self.now key.now }
     {
-        match self.find(key) {
-            Some(pair) => Some((&pair.0, &pair.1)),
-            None => None,
-        }
+        self.find(key)
     }
 
     /// Whether some stored key equals `key`, by one scan.
@@ -67,7 +63,7 @@ impl<K: Eq, V, const N: usize> Map<K, V, N> {
         ensures { at K.eq self.now key.now ≡ Some result.now }
     {
         match self.find(key) {
-            Some(pair) => &pair.1,
+            Some((_, value)) => value,
             None => unreachable!(),
         }
     }
@@ -78,9 +74,9 @@ impl<K: Eq, V, const N: usize> Map<K, V, N> {
     pub fn index_mut(&mut self, key: &K) -> &mut V
         requires { IsTrue (has K.eq self.old key.now) }
         ensures* writes_back { sem 𝓛 (lends_at K.row V.row N.row K.eq self.entry key.now result) }
-        ensures value { at K.eq self.old key.now ≡ Some result.now }
+        ensures answer { at K.eq self.old key.now ≡ Some result.now }
     {
-        match self.place_of(key) {
+        match self.index_of(key) {
             Some(index) => self.value_at(index),
             None => unreachable!(),
         }

@@ -1,9 +1,10 @@
 //! The keyed calls by probe: each does what its plain form does at the one stored key that matches, or what the plain
 //! form does at a missing key.
-ghost use Rattle.std.specs.Prelude.{◌≡◌, Some, IsSome, is_some};
+ghost use Rattle.std.specs.Prelude.{◌≡◌, Some, IsTrue};
 ghost use Rattle.std.specs.Borrow.{sem};
+ghost use Rattle.std.specs.Map.Iter.{deref_pair};
 ghost use Rattle.std.specs.Option.{option_copied, option_copied_mut, option_map};
-ghost use Rattle.micromap_core.specs.Probe.{matched, at_matched, pair_matched, take_out_matched};
+ghost use Rattle.micromap_core.specs.Probe.{has_matched, at_matched, pair_matched, take_out_matched};
 ghost use Rattle.micromap_core.specs.Lends.{lends_matched, lends_matched_if};
 
 use super::Map;
@@ -15,10 +16,8 @@ impl<K: Eq, V, const N: usize> Map<K, V, N> {
     pub fn get_by<P: Probe<K>>(&self, probe: &P) -> Option<&V>
         ensures { option_copied result ≡ at_matched K.eq (P.matches probe.now) self.now }
     {
-        match self.find(probe) {
-            Some(pair) => Some(&pair.1),
-            None => None,
-        }
+        let (_, value) = self.find(probe)?;
+        Some(value)
     }
 
     /// The value at the key that matches, for writing, or `None` where none does, by one scan. Once the borrow ends the
@@ -26,9 +25,9 @@ impl<K: Eq, V, const N: usize> Map<K, V, N> {
     #[inline]
     pub fn get_mut_by<P: Probe<K>>(&mut self, probe: &P) -> Option<&mut V>
         ensures* writes_back { sem 𝓛 (lends_matched_if K.row V.row N.row K.eq self.entry (P.matches probe.now) result) }
-        ensures value { option_copied_mut result ≡ at_matched K.eq (P.matches probe.now) self.old }
+        ensures answer { option_copied_mut result ≡ at_matched K.eq (P.matches probe.now) self.old }
     {
-        match self.place_of(probe) {
+        match self.index_of(probe) {
             Some(index) => Some(self.value_at(index)),
             None => None,
         }
@@ -37,18 +36,15 @@ impl<K: Eq, V, const N: usize> Map<K, V, N> {
     /// The key that matches and its value, or `None` where none does, by one scan.
     #[inline]
     pub fn get_key_value_by<P: Probe<K>>(&self, probe: &P) -> Option<(&K, &V)>
-        ensures { option_map (λ p. (p.0.now, p.1.now)) result ≡ pair_matched K.eq (P.matches probe.now) self.now }
+        ensures { option_map deref_pair result ≡ pair_matched K.eq (P.matches probe.now) self.now }
     {
-        match self.find(probe) {
-            Some(pair) => Some((&pair.0, &pair.1)),
-            None => None,
-        }
+        self.find(probe)
     }
 
     /// Whether a stored key matches, by one scan.
     #[inline]
     pub fn contains_key_by<P: Probe<K>>(&self, probe: &P) -> bool
-        ensures { result ≡ is_some (matched (P.matches probe.now) self.now) }
+        ensures { result ≡ has_matched (P.matches probe.now) self.now }
     {
         self.find(probe).is_some()
     }
@@ -56,11 +52,11 @@ impl<K: Eq, V, const N: usize> Map<K, V, N> {
     /// The value at the key that matches, by one scan. A stored key must match: `contains_key_by` tells.
     #[inline]
     pub fn index_by<P: Probe<K>>(&self, probe: &P) -> &V
-        requires { IsSome (matched (P.matches probe.now) self.now) }
+        requires { IsTrue (has_matched (P.matches probe.now) self.now) }
         ensures { at_matched K.eq (P.matches probe.now) self.now ≡ Some result.now }
     {
         match self.find(probe) {
-            Some(pair) => &pair.1,
+            Some((_, value)) => value,
             None => unreachable!(),
         }
     }
@@ -68,11 +64,11 @@ impl<K: Eq, V, const N: usize> Map<K, V, N> {
     /// The value at the key that matches, for writing, by one scan. A stored key must match: `contains_key_by` tells.
     #[inline]
     pub fn index_mut_by<P: Probe<K>>(&mut self, probe: &P) -> &mut V
-        requires { IsSome (matched (P.matches probe.now) self.old) }
+        requires { IsTrue (has_matched (P.matches probe.now) self.old) }
         ensures* writes_back { sem 𝓛 (lends_matched K.row V.row N.row K.eq self.entry (P.matches probe.now) result) }
-        ensures value { at_matched K.eq (P.matches probe.now) self.old ≡ Some result.now }
+        ensures answer { at_matched K.eq (P.matches probe.now) self.old ≡ Some result.now }
     {
-        match self.place_of(probe) {
+        match self.index_of(probe) {
             Some(index) => self.value_at(index),
             None => unreachable!(),
         }
@@ -87,8 +83,7 @@ impl<K: Eq + Drop, V: Drop, const N: usize> Map<K, V, N> {
         ensures answer { result ≡ at_matched K.eq (P.matches probe.now) self.old }
         ensures pairs { self.new ≡ take_out_matched K.eq (P.matches probe.now) self.old }
     {
-        let index = self.place_of(probe)?;
-        let (_key, value) = self.take_at(index);
+        let (_key, value) = self.take(probe)?;
         Some(value)
     }
 
@@ -98,7 +93,6 @@ impl<K: Eq + Drop, V: Drop, const N: usize> Map<K, V, N> {
         ensures answer { result ≡ pair_matched K.eq (P.matches probe.now) self.old }
         ensures pairs { self.new ≡ take_out_matched K.eq (P.matches probe.now) self.old }
     {
-        let index = self.place_of(probe)?;
-        Some(self.take_at(index))
+        self.take(probe)
     }
 }

@@ -12,8 +12,7 @@ impl<K: Eq + Drop, V: Drop, const N: usize> Map<K, V, N> {
         ensures answer { result ≡ at K.eq self.old key.now }
         ensures pairs { self.new ≡ take_out K.eq self.old key.now }
     {
-        let index = self.place_of(key)?;
-        let (_key, value) = self.take_at(index);
+        let (_key, value) = self.take(key)?;
         Some(value)
     }
 
@@ -23,7 +22,6 @@ impl<K: Eq + Drop, V: Drop, const N: usize> Map<K, V, N> {
         ensures answer { result ≡ pair K.eq self.old key.now }
         ensures pairs { self.new ≡ take_out K.eq self.old key.now }
     {
-        let index = self.place_of(key)?;
-        Some(self.take_at(index))
+        self.take(key)
     }
 }

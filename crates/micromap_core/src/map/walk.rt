@@ -13,48 +13,48 @@ impl<K: Eq, V, const N: usize> Map<K, V, N> {
     /// The pairs from the front.
     #[inline]
     pub fn iter(&self) -> Iter<'_, K, V>
-        ensures pairs { result ≡ self.now }
+        ensures answer { result ≡ self.now }
         ensures runs { ShowsInOrder (deref_pair {K = K} {X = V}) }
     {
-        Iter::over(self.places.as_slice())
+        Iter::over(self.pairs.as_slice())
     }
 
     /// The keys from the front.
     #[inline]
     pub fn keys(&self) -> Keys<'_, K, V>
-        ensures keys { result ≡ keys_of self.now }
+        ensures answer { result ≡ keys_of self.now }
         ensures runs { ShowsInOrder (deref {X = K}) }
     {
-        Keys::over(self.places.as_slice())
+        Keys::over(self.pairs.as_slice())
     }
 
     /// The values from the front.
     #[inline]
     pub fn values(&self) -> Values<'_, K, V>
-        ensures values { result ≡ values_of self.now }
+        ensures answer { result ≡ values_of self.now }
         ensures runs { ShowsInOrder (deref {X = V}) }
     {
-        Values::over(self.places.as_slice())
+        Values::over(self.pairs.as_slice())
     }
 
     /// The keys by value, from the end. What isn't taken is dropped with the walk.
     #[inline]
     pub fn into_keys(self) -> IntoKeys<K, V, N>
-        ensures keys { result ≡ keys_of (reverse self) }
+        ensures answer { result ≡ keys_of (reverse self) }
         ensures runs { GivesInOrder K }
     {
-        let Map { places } = self;
-        IntoKeys::over(places)
+        let Map { pairs } = self;
+        IntoKeys::over(pairs.into_array_vec())
     }
 
     /// The values by value, from the end. What isn't taken is dropped with the walk.
     #[inline]
     pub fn into_values(self) -> IntoValues<K, V, N>
-        ensures values { result ≡ values_of (reverse self) }
+        ensures answer { result ≡ values_of (reverse self) }
         ensures runs { GivesInOrder V }
     {
-        let Map { places } = self;
-        IntoValues::over(places)
+        let Map { pairs } = self;
+        IntoValues::over(pairs.into_array_vec())
     }
 }
 
@@ -62,12 +62,12 @@ impl<K: Eq + Drop, V: Drop, const N: usize> Map<K, V, N> {
     /// Takes all pairs out, from the front. The map is empty at once; what isn't taken is dropped with the walk.
     #[inline]
     pub fn drain(&mut self) -> Drain<K, V, N>
-        ensures pairs { result ≡ self.old }
+        ensures answer { result ≡ self.old }
         ensures emptied { self.new ≡ [] }
         ensures runs { GivesInOrder (K × V) }
     {
-        let Map { places } = mem::take(self);
-        Drain::over(places)
+        let Map { pairs } = mem::take(self);
+        Drain::over(pairs.into_array_vec())
     }
 }
 
@@ -80,8 +80,8 @@ impl<K: Eq + Drop, V: Drop, const N: usize> IntoIterator for Map<K, V, N> {
     ghost into_iter_gives = { λ m walk. (walk ≡ reverse m) × GivesInOrder (K × V) };
 
     fn into_iter(self) -> IntoIter<K, V, N> {
-        let Map { places } = self;
-        IntoIter::over(places)
+        let Map { pairs } = self;
+        IntoIter::over(pairs.into_array_vec())
     }
 }
 

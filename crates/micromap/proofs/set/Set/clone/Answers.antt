@@ -1,8 +1,8 @@
-use Rattle.std.proofs.Common.{ℕ, ◌<◌, length, get_or, subst}
+use Rattle.std.proofs.Common.{All, subst}
 use Rattle.std.specs.Map.{keys_of}
 use Rattle.std.proofs.lemmas.Bool.{false≢true}
-use Rattle.std.proofs.lemmas.List.{length-map}
-use Rattle.micromap.proofs.ItemLemmas.{zip-keys, key_at}
+use Rattle.std.proofs.lemmas.List.{get_or-map, length-map}
+use Rattle.micromap.proofs.ItemLemmas.{zip-keys}
 use Rattle.micromap.proofs.set.Set.clone.Goals as goal
 
 pub returns-clause-clones : goal.returns-clause-clones
@@ -12,5 +12,5 @@ pub returns-in_err-map-clause-succeeds : goal.returns-in_err-map-clause-succeeds
 returns-in_err-map-clause-succeeds g c =
     λ all.
     let pairs = c.self.inside.map in
-    let every : (i : ℕ) (x : g.row.T.Denot) → i < length (keys_of pairs) → g.T.Clone.is_infallible (get_or (keys_of pairs) i x) = rw c.self.view_is all in
-    absurd (false≢true (c.in_err-map.ensures.succeeds (λ i p within. (subst g.T.Clone.is_infallible (key_at pairs i p within) (every i p.0 (rw length-map within)), tt {0}))))
+    let every : All g.T.Clone.is_infallible (keys_of pairs) = rw c.self.view_is all in
+    absurd (false≢true (c.in_err-map.ensures.succeeds (λ i p within. (subst g.T.Clone.is_infallible (get_or-map (λ e. e.0) pairs i p p.0 within) (every i p.0 (rw length-map within)), tt {0}))))

@@ -1,5 +1,6 @@
-use Rattle.std.proofs.Common.{◌≡◌, ap, sym, ◌∙◌, is_some, IsTrue, rules}
+use Rattle.std.proofs.Common.{◌≡◌, ap, sym, ◌∙◌, is_some, not, IsTrue, rules}
 use Rattle.std.specs.Map.{keys_of}
+use Rattle.std.proofs.Math.Bool.{not-not}
 use Rattle.micromap.specs.Pairs.{fits}
 use Rattle.micromap.specs.Items.{contains}
 use Rattle.micromap.proofs.ItemLemmas.{fits-keys, any-keys, add-keys}
@@ -12,8 +13,8 @@ insert-requires g c =
 
 pub returns-clause-answer : goal.returns-clause-answer
 returns-clause-answer g c =
-    let stored : is_some c.insert.result ≡ contains g.T.PartialEq.eq c.args.self.now c.args.x = rw (← c.self.view_is, any-keys) (ap is_some c.insert.ensures.answer) in
-    search rules
+    let stored : is_some c.insert.result ≡ contains g.T.PartialEq.eq c.args.self.now c.args.x = rw (← c.self.view_is, any-keys) (ap is_some c.insert.ensures.old) in
+    sym (not-not c.is_none.result) ∙ ap not (sym c.is_none.ensures ∙ stored)
 
 pub returns-clause-items : goal.returns-clause-items
 returns-clause-items g c = rw (← c.self.view_is, add-keys) (ap keys_of c.insert.ensures.pairs)

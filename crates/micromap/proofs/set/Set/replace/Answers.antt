@@ -10,14 +10,14 @@ insert_key_value-requires g c =
     let fit : IsTrue (fits g.T.PartialEq.eq g.row.N c.self.inside.map c.args.x) = sym (fits-keys g.T.PartialEq.eq g.row.N c.self.inside.map c.args.x) ∙ rw (← c.self.view_is) at c.requires in
     (search rules, fit)
 
-pub returns-in_err-old-clause-answer : goal.returns-in_err-old-clause-answer
-returns-in_err-old-clause-answer g c = rw (← c.self.view_is, find-keys) (c.from_residual.ensures ∙ ap (option_map (λ p. p.0)) c.in_err-old.ensures.answer)
+pub returns-in_err-old-clause-old : goal.returns-in_err-old-clause-old
+returns-in_err-old-clause-old g c = rw (← c.self.view_is, find-keys) (c.from_residual.ensures ∙ ap (option_map (λ p. p.0)) c.in_err-old.ensures.old)
 
 pub returns-in_err-old-clause-items : goal.returns-in_err-old-clause-items
 returns-in_err-old-clause-items g c = rw (← c.self.view_is, exchange-keys) (ap keys_of c.in_err-old.ensures.pairs)
 
-pub returns-clause-answer : goal.returns-clause-answer
-returns-clause-answer g c = rw (← c.self.view_is, find-keys) (ap (option_map (λ p. p.0)) c.in_ok-old.ensures.answer)
+pub returns-clause-old : goal.returns-clause-old
+returns-clause-old g c = rw (← c.self.view_is, find-keys) (ap (option_map (λ p. p.0)) c.in_ok-old.ensures.old)
 
 pub returns-clause-items : goal.returns-clause-items
 returns-clause-items g c = rw (← c.self.view_is, exchange-keys) (ap keys_of c.in_ok-old.ensures.pairs)

@@ -1,21 +1,18 @@
-use Rattle.std.proofs.Common.{rules}
-use Rattle.micromap_core.specs.Retain.{CallableOnQueue}
-use Rattle.micromap.specs.Items.{CalledAtItem, TakesItem}
-use Rattle.micromap.proofs.RetainItems.{units-keys, walks_inner, retains_inner}
+use Rattle.std.proofs.Common.{◌∷◌, rules}
+use Rattle.micromap.specs.Items.{VisitsItem}
+use Rattle.micromap.proofs.RetainItems.{walks_inner, ends_inner}
 use Rattle.micromap.proofs.set.Set.retain.Goals as goal
 
 pub retain-requires : goal.retain-requires
 retain-requires g c =
-    let callable : CallableOnQueue (CalledAtItem g.F.FnMut) c.args.keep c.self.inside.map (TakesItem g.F.FnMut) = rw (← c.self.view_is, units-keys) at c.requires in (
+    let may = rw (← c.self.view_is) at c.requires in (
       search rules,
       record {
-        each = λ at s queue kept p rest walk leaves key shows value is.
-            let inner = walks_inner _ (CalledAtItem g.F.FnMut) (λ f. f.0.now) (λ f k v b w t said. search rules) _ _ at s queue kept walk in
-            callable.each at s.0.now queue kept p rest inner leaves key shows;
+        each = λ s p rest kept walk key shows value is.
+            may.each s.0.now p.0 _ _ (walks_inner _ (VisitsItem g.F.FnMut) (λ f. f.0.now) (λ f x b y t said. (search rules, said.1)) _ _ s (p ∷ rest) kept walk) key shows;
       },
     )
 
 pub returns : goal.returns
 returns g c =
-    let kept = retains_inner _ (CalledAtItem g.F.FnMut) (λ f. f.0.now) (λ f k v b w t said. search rules) _ _ _ c.retain.ensures in
-    rw (← c.self.view_is, units-keys c.self.inside.map, units-keys c.retain.new.self) kept
+    rw (← c.self.view_is) (ends_inner _ (VisitsItem g.F.FnMut) (λ f. f.0.now) (λ f x b y t said. (search rules, said.1)) _ _ _ c.retain.ensures)

@@ -1,12 +1,13 @@
-use Rattle.std.specs.Prelude.{◌≡◌, ◌+◌, ◌-◌, ◌^◌, ◌≤◌, length, IsTrue}
-use Rattle.micromap.specs.Extend.{add_all, each_fits}
+use Rattle.std.specs.Prelude.{◌+◌, ◌≤◌}
+use Rattle.micromap.specs.Build.{most_items}
+use Rattle.micromap.specs.Items.{add, item_fits}
+use Rattle.micromap_core.proofs.BuildLemmas.{HasPut}
 use Rattle.micromap.proofs.set.Set.try_extend.Given as goal
 
 abbrev pub invariant-loop-x : goal.invariant-loop-x
-invariant-loop-x g l =
-    (goal.iterator-loop-x g).can_next l.x-iterator
-    × (goal.iterator-loop-x g).is_finite l.x-iterator
-    × (l.at + (goal.iterator-loop-x g).remaining l.x-iterator ≤ 2 ^ 64 - 2)
-    × (l.self ≡ add_all g.T.PartialEq.eq l.initial.self l.yielded)
-    × IsTrue (each_fits g.T.PartialEq.eq g.row.N l.initial.self l.yielded)
-    × (l.at ≡ length l.yielded)
+invariant-loop-x g l = record {
+  can : (goal.iterator-loop-x g).can_next l.x-iterator;
+  finite : (goal.iterator-loop-x g).is_finite l.x-iterator;
+  counted : l.at + (goal.iterator-loop-x g).remaining l.x-iterator ≤ most_items;
+  put : HasPut (item_fits g.T.PartialEq.eq g.row.N) (add g.T.PartialEq.eq) l.initial.self l.yielded l.at l.self;
+}

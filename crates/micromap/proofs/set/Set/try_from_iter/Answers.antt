@@ -1,4 +1,16 @@
+use Rattle.std.proofs.lemmas.Result.{err_from_is_err_and}
+use Rattle.micromap_core.proofs.CountLemmas.{builds_all, builds_up_to}
+use Rattle.micromap.proofs.ExtendLemmas.{items_keyed}
 use Rattle.micromap.proofs.set.Set.try_from_iter.Goals as goal
+
+pub returns-clause-built : goal.returns-clause-built
+returns-clause-built g c =
+    builds_all g.met.T.Eq.laws (items_keyed g.T.PartialEq.eq g.row.N) (rw (← c.new-set.ensures) c.in_ok-try_extend.ensures.extends)
+
+pub returns-in_err-try_extend-clause-misfit : goal.returns-in_err-try_extend-clause-misfit
+returns-in_err-try_extend-clause-misfit g c =
+    let same = err_from_is_err_and c.from_residual.result c.from_residual.ensures.1 in
+    rw (same.1, same.2) (builds_up_to g.met.T.Eq.laws (items_keyed g.T.PartialEq.eq g.row.N) (rw c.new-set.ensures at c.in_err-try_extend.ensures.misfit))
 
 pub returns-clause-runs : goal.returns-clause-runs
 returns-clause-runs g c = rw (← c.new-set.ensures) c.in_ok-try_extend.ensures.runs

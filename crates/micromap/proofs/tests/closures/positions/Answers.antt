@@ -1,6 +1,6 @@
-use Rattle.std.proofs.Common.{nat_eq, rules}
+use Rattle.std.proofs.Common.{rules}
 use Rattle.micromap_core.proofs.ClosureLemmas.{updated_at_keys}
 use Rattle.micromap.proofs.tests.closures.positions.Goals as goal
 
 pub returns : goal.returns
-returns g c = updated_at_keys nat_eq _ (λ position v. position) _ (λ i v r w t said. search rules) _ _ _ c.update_disjoint.ensures.pairs
+returns g c = updated_at_keys (λ position v. position) c.update_disjoint.ensures.pairs (λ i v r w t said. search rules)

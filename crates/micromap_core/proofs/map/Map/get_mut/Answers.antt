@@ -1,17 +1,12 @@
-use Rattle.std.proofs.Common.{ap, refl, sym, inl}
-use Rattle.micromap_core.proofs.PairsLemmas.{lookup_missing, lookup_value, put_written}
+use Rattle.std.proofs.Common.{ap, sym, inl, ◌∙◌}
+use Rattle.std.specs.Option.{option_map}
+use Rattle.micromap_core.proofs.PairsLemmas.{with_value_at-put}
 use Rattle.micromap_core.proofs.map.Map.get_mut.Goals as goal
 
--- the key is stored, and its value is lent
+-- the key is stored, and a write at its index puts
 pub returns-in-Some : goal.returns-in-Some
 returns-in-Some g c =
-    let eq = g.K.PartialEq.eq in
-    let value = c.value_at.ensures.value in (
-      ap (λ (after : g.row.V.Denot → _). inl (c.value_at.result.ghost_name, after)) (λ j w. put_written eq c.args.key.now c.args.self.now c.in-Some.index c.value_at.result.now w (sym c.in-Some.ensures) value j),
-      record { writes_back = tt; value = sym (lookup_value (eq c.args.key.now) c.args.self.now c.in-Some.index c.value_at.result.now (sym c.in-Some.ensures) value) },
+    let found = c.in-Some.ensures.found in (
+      ap (λ (after : g.row.V.Denot → _). inl (c.value_at.result.ghost_name, after)) (λ j w. with_value_at-put g.K.PartialEq.eq c.args.key.now c.args.self.now c.in-Some.index found w j),
+      record { writes_back = tt; answer = sym c.value_at.ensures.value ∙ ap (option_map (λ p. p.1)) found.here ∙ sym found.value },
     )
-
--- the key is missing
-pub returns-in-None : goal.returns-in-None
-returns-in-None g c =
-    (refl, record { writes_back = tt; value = sym (lookup_missing (g.K.PartialEq.eq c.args.key.now) c.args.self.now (sym c.in-None.ensures)) })

@@ -1,17 +1,12 @@
-use Rattle.std.proofs.Common.{ap, refl, sym, is_some, ◌∙◌}
-use Rattle.std.proofs.lemmas.Bool.{false≢true}
-use Rattle.micromap_core.proofs.PairsLemmas.{lookup_missing, lookup_value, put_written}
+use Rattle.std.proofs.Common.{refl, ap, sym, ◌∙◌}
+use Rattle.std.specs.Option.{option_map}
+use Rattle.micromap_core.proofs.PairsLemmas.{with_value_at-put}
 use Rattle.micromap_core.proofs.map.Map.index_mut.Goals as goal
 
-pub unreachable-requires : goal.unreachable-requires
-unreachable-requires g c =
-    false≢true (sym (ap is_some (lookup_missing (g.K.PartialEq.eq c.args.key.now) c.args.self.now (sym c.in-None.ensures))) ∙ c.requires)
-
--- the key is stored, and its value is lent
+-- a write at the key's index puts
 pub returns : goal.returns
 returns g c =
-    let eq = g.K.PartialEq.eq in
-    let value = c.value_at.ensures.value in (
-      (refl, λ w. put_written eq c.args.key.now c.args.self.now c.in-Some.index c.value_at.result.now w (sym c.in-Some.ensures) value),
-      record { writes_back = tt; value = lookup_value (eq c.args.key.now) c.args.self.now c.in-Some.index c.value_at.result.now (sym c.in-Some.ensures) value },
+    let found = c.in-Some.ensures.found in (
+      (refl, λ w. with_value_at-put g.K.PartialEq.eq c.args.key.now c.args.self.now c.in-Some.index found w),
+      record { writes_back = tt; answer = found.value ∙ sym (ap (option_map (λ p. p.1)) found.here) ∙ c.value_at.ensures.value },
     )

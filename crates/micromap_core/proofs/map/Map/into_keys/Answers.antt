@@ -3,8 +3,8 @@ use Rattle.std.specs.Map.{keys_of}
 use Rattle.micromap_walk.proofs.Runs.{gives_in_order}
 use Rattle.micromap_core.proofs.map.Map.into_keys.Goals as goal
 
-pub returns-clause-keys : goal.returns-clause-keys
-returns-clause-keys g c = c.over.ensures ∙ ap (λ l. keys_of (reverse l)) c.self.view_is
+pub returns-clause-answer : goal.returns-clause-answer
+returns-clause-answer g c = c.over.ensures ∙ ap (λ l. keys_of (reverse l)) (c.into_array_vec.ensures.items ∙ c.self.view_is)
 
 pub returns-clause-runs : goal.returns-clause-runs
 returns-clause-runs g c = gives_in_order

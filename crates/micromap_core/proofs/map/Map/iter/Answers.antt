@@ -2,8 +2,5 @@ use Rattle.std.specs.Map.Iter.{deref_pair}
 use Rattle.micromap_walk.proofs.Runs.{shows_in_order}
 use Rattle.micromap_core.proofs.map.Map.iter.Goals as goal
 
-pub over-requires : goal.over-requires
-over-requires g c = rw c.as_slice.ensures.value c.self.invariant.filled
-
 pub returns-clause-runs : goal.returns-clause-runs
 returns-clause-runs g c = shows_in_order deref_pair

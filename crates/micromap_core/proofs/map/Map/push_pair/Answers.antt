@@ -1,10 +1,19 @@
-use Rattle.micromap_core.proofs.Edits.{pushed}
+use Rattle.std.proofs.Common.{refl, ◌∙◌}
+use Rattle.micromap_core.proofs.FoundLemmas.{not_found}
+use Rattle.micromap_core.proofs.PairsLemmas.{IsUnique-push, push-put, push-put_key}
 use Rattle.micromap_core.proofs.map.Map.push_pair.Goals as goal
 
 pub invariant_of-self : goal.invariant_of-self
 invariant_of-self g c =
-    (pushed g.K.PartialEq.eq g.met.K.Eq.laws _ c.self.invariant c.args.key c.args.value _ (rw c.self.view_is c.requires.new) c.push.ensures.items).places_are
+    rw c.push.ensures (IsUnique-push g.K.PartialEq.eq g.met.K.Eq.laws c.self.inside.pairs c.self.invariant c.args.key c.args.value (rw c.self.view_is c.requires.new))
 
-pub returns : goal.returns
-returns g c =
-    rw (← c.self.view_is) (pushed g.K.PartialEq.eq g.met.K.Eq.laws _ c.self.invariant c.args.key c.args.value _ (rw c.self.view_is c.requires.new) c.push.ensures.items).pairs_are
+pub returns-clause-pairs : goal.returns-clause-pairs
+returns-clause-pairs g c = rw (c.push.ensures, c.self.view_is) refl
+
+pub returns-clause-put : goal.returns-clause-put
+returns-clause-put g c =
+    returns-clause-pairs g c ∙ push-put g.K.PartialEq.eq c.args.key c.args.self.now (not_found (g.K.PartialEq.eq c.args.key) c.args.self.now c.requires.new) c.args.value
+
+pub returns-clause-put_key : goal.returns-clause-put_key
+returns-clause-put_key g c =
+    returns-clause-pairs g c ∙ push-put_key g.K.PartialEq.eq c.args.key c.args.self.now (not_found (g.K.PartialEq.eq c.args.key) c.args.self.now c.requires.new) c.args.value

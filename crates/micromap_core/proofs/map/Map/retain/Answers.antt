@@ -1,23 +1,35 @@
-use Rattle.std.proofs.Common.{rules, subst}
-use Rattle.micromap_core.specs.Closures.{CalledAtPair, TakesPair, VisitsAt}
-use Rattle.micromap_core.proofs.RetainLemmas.{walking_begins, walking_keeps, walking_drops, walking_asks}
+use Rattle.std.proofs.Common.{◌≡◌, ◌<◌, length, ap, ◌∙◌, arith, rules}
+use Rattle.std.proofs.lemmas.List.{length-set}
+use Rattle.std.proofs.lemmas.Option.{slice_get_within}
+use Rattle.micromap_core.proofs.Lists.{length_without_at}
+use Rattle.micromap_core.specs.Retain.{begins}
+use Rattle.micromap_core.proofs.RetainLemmas.{asks_next, keeps_next, drops_next, walk_ends}
 use Rattle.micromap_core.proofs.map.Map.retain.Goals as goal
 
 pub loop-index-init : goal.loop-index-init
-loop-index-init g c = walking_begins (CalledAtPair g.F.FnMut) c.args.keep c.args.self.now
+loop-index-init g c = begins
 
 pub visit_at-requires : goal.visit_at-requires
 visit_at-requires g c =
-    let at = c.loop-index in
-    let callable = walking_asks (CalledAtPair g.F.FnMut) c.args.keep c.args.self.now (TakesPair g.F.FnMut) c.requires at.keep at.self at.index at.invariant in
+    let callable = asks_next g.F.FnMut c.args.keep c.args.self.now _ _ _ c.loop-index.invariant c.requires in
     search rules
 
 pub loop-index-preserved-then-visit_at : goal.loop-index-preserved-then-visit_at
 loop-index-preserved-then-visit_at g c =
-    let said = subst (λ b. VisitsAt (CalledAtPair g.F.FnMut) c.loop-index.keep c.loop-index.self c.loop-index.index b c.visit_at.new.visit c.visit_at.new.self) c.if-visit_at.true c.visit_at.ensures in
-    walking_keeps (CalledAtPair g.F.FnMut) c.args.keep c.args.self.now _ _ _ _ _ c.loop-index.invariant said
+    keeps_next g.F.FnMut c.args.keep c.args.self.now _ _ _ c.loop-index.invariant _ _ (rw c.if-visit_at.true at c.visit_at.ensures)
 
 pub loop-index-preserved : goal.loop-index-preserved
 loop-index-preserved g c =
-    let said = subst (λ b. VisitsAt (CalledAtPair g.F.FnMut) c.loop-index.keep c.loop-index.self c.loop-index.index b c.visit_at.new.visit c.visit_at.new.self) c.if-visit_at.false c.visit_at.ensures in
-    walking_drops (CalledAtPair g.F.FnMut) c.args.keep c.args.self.now _ _ _ _ _ _ _ c.loop-index.invariant said c.take_at.ensures.pairs
+    drops_next g.F.FnMut c.args.keep c.args.self.now _ _ _ c.loop-index.invariant _ _ _ (rw c.if-visit_at.false at c.visit_at.ensures) c.take_at.ensures.pairs
+
+pub returns : goal.returns
+returns g c = walk_ends g.F.FnMut c.args.keep c.args.self.now _ _ _ c.loop-index.invariant (rw c.len.ensures.answer at c.loop-index-test.false)
+
+-- a removal leaves one pair less
+pub loop-index-smaller : goal.loop-index-smaller
+loop-index-smaller g c =
+    let at = c.loop-index in
+    let within : at.index < length at.self = slice_get_within at.self at.index c.visit_at.ensures.pair c.visit_at.ensures.here in
+    let same : length c.visit_at.new.self ≡ length at.self = ap length c.visit_at.ensures.pairs ∙ length-set at.self at.index (c.visit_at.ensures.pair.0, c.visit_at.ensures.value) in
+    let inside : at.index < length c.visit_at.new.self = omega (arith, within, same) in
+    omega (arith, inside, same, ap length c.take_at.ensures.pairs, length_without_at c.visit_at.new.self at.index inside)

@@ -1,53 +1,41 @@
-use Rattle.std.proofs.Common.{◌≡◌, ◌∷◌, [], ap, sym, ◌∙◌, arith, rules}
-use Rattle.std.specs.Iterator.{Drains}
-use Rattle.std.proofs.iter.runs.Consumers.{total_runs}
-use Rattle.std.proofs.lemmas.List.{length-append}
-use Rattle.micromap_core.specs.Build.{build, IsMisfit}
-use Rattle.micromap_core.specs.Pairs.{fits, put}
-use Rattle.micromap_core.proofs.BuildLemmas.{build_more, all_fit_more, answered, unanswered, passed}
-use Rattle.micromap_core.proofs.CountLemmas.{fit_few, misfit_many}
+use Rattle.std.proofs.Common.{◌≡◌, true, false, [], is_some, ap, sym, ◌∙◌, rules}
+use Rattle.micromap_core.specs.Build.{pair_fits, put_pair}
+use Rattle.micromap_core.specs.Pairs.{at}
+use Rattle.micromap_core.proofs.BuildLemmas.{has_put_more, puts_up_to, puts_all, run_puts}
+use Rattle.micromap_core.proofs.CountLemmas.{pairs_keyed, builds_all, builds_up_to}
+use Rattle.micromap_core.proofs.Lists.{is_some-if}
 use Rattle.micromap_core.proofs.map.Map.try_from_iter.Goals as goal
-
-pub returns-then-is_none-clause-misfit : goal.returns-then-is_none-clause-misfit
-returns-then-is_none-clause-misfit g c =
-    let l = c.loop-key in
-    let refused = unanswered (fits g.K.PartialEq.eq g.row.N l.map c.in-Some.key) _ _ c.checked_insert.ensures.answer c.if-is_none.ensures in
-    let misfit : IsMisfit g.K.PartialEq.eq g.row.N [] l.yielded (c.in-Some.key, c.in-Some.value) = record { fit = l.invariant.4; misfit = rw (← l.invariant.3) refused } in
-    record {
-      before = l.yielded;
-      item = (c.in-Some.key, c.in-Some.value);
-      rest = c.next.new.self;
-      gave = rw (← c.into_iter-key-iterator.ensures.into_iter_gives) (l.key-iterator, l.yielded_by, c.in-Some.ensures.steps);
-      misfit = misfit;
-      many = misfit_many g.K.PartialEq.eq g.met.K.Eq.laws g.row.N l.yielded (c.in-Some.key, c.in-Some.value) misfit;
-      place_is = l.invariant.5;
-    }
 
 pub loop-key-preserved : goal.loop-key-preserved
 loop-key-preserved g c =
     let l = c.loop-key in
-    let fit = answered (fits g.K.PartialEq.eq g.row.N l.map c.in-Some.key) _ _ c.checked_insert.ensures.answer c.if-is_none.ensures in (
-      search rules,
-      search rules,
-      search rules,
-      passed _ _ _ _ c.checked_insert.ensures.pairs fit ∙ ap (λ l. put g.K.PartialEq.eq l c.in-Some.key c.in-Some.value) l.invariant.3 ∙ sym (build_more g.K.PartialEq.eq [] l.yielded (c.in-Some.key, c.in-Some.value)),
-      all_fit_more g.K.PartialEq.eq g.row.N [] l.yielded (c.in-Some.key, c.in-Some.value) l.invariant.4 (rw (← l.invariant.3) fit),
-      omega (arith, l.invariant.5, length-append l.yielded ((c.in-Some.key, c.in-Some.value) ∷ [])),
-    )
+    let eq = g.K.PartialEq.eq in
+    let p : g.row.K.Denot × g.row.V.Denot = (c.in-Some.key, c.in-Some.value) in
+    let fit : pair_fits eq g.row.N l.map p ≡ true = sym (is_some-if _ (at eq l.map p.0)) ∙ ap is_some (sym c.checked_insert.ensures.answer) ∙ c.if-is_none.ensures in
+    record {
+      can = search rules;
+      finite = search rules;
+      counted = search rules;
+      put = has_put_more (pair_fits eq g.row.N) (put_pair eq) [] l.yielded l.at l.map c.checked_insert.new.self p l.invariant.put c.checked_insert.ensures.pairs fit;
+    }
+
+pub returns-then-is_none-clause-misfit : goal.returns-then-is_none-clause-misfit
+returns-then-is_none-clause-misfit g c =
+    let l = c.loop-key in
+    let eq = g.K.PartialEq.eq in
+    let p : g.row.K.Denot × g.row.V.Denot = (c.in-Some.key, c.in-Some.value) in
+    let misfit : pair_fits eq g.row.N l.map p ≡ false = sym (is_some-if _ (at eq l.map p.0)) ∙ ap is_some (sym c.checked_insert.ensures.answer) ∙ c.if-is_none.ensures in
+    builds_up_to g.met.K.Eq.laws (pairs_keyed eq g.row.N)
+    (puts_up_to (pair_fits eq g.row.N) (put_pair eq) [] l.yielded l.at l.map c.checked_insert.new.self p l.invariant.put c.checked_insert.ensures.pairs g.I.Iterator.next_gives c.args.items c.next.new.self misfit
+    (rw (← c.into_iter-key-iterator.ensures.into_iter_gives) (l.key-iterator, l.yielded_by, c.in-Some.ensures.steps)))
 
 pub returns-clause-built : goal.returns-clause-built
 returns-clause-built g c =
     let l = c.loop-key in
-    record {
-      items = l.yielded;
-      gave = rw (← c.into_iter-key-iterator.ensures.into_iter_gives) (c.next.new.self, (l.key-iterator, l.yielded_by, c.in-None.ensures.steps));
-      fit = l.invariant.4;
-      few = fit_few g.K.PartialEq.eq g.met.K.Eq.laws g.row.N l.yielded l.invariant.4;
-      built = l.invariant.3;
-    }
+    let eq = g.K.PartialEq.eq in
+    builds_all g.met.K.Eq.laws (pairs_keyed eq g.row.N)
+    (puts_all (pair_fits eq g.row.N) (put_pair eq) g.I.Iterator.next_gives c.args.items [] l.map l.yielded l.at l.invariant.put
+    (rw (← c.into_iter-key-iterator.ensures.into_iter_gives) (c.next.new.self, (l.key-iterator, l.yielded_by, c.in-None.ensures.steps))))
 
 pub returns-clause-runs : goal.returns-clause-runs
-returns-clause-runs g c =
-    let l = c.loop-key in
-    let drained : Drains g.I.Iterator.next_gives c.args.items l.yielded = rw (← c.into_iter-key-iterator.ensures.into_iter_gives) (c.next.new.self, (l.key-iterator, l.yielded_by, c.in-None.ensures.steps)) in
-    total_runs g.I.Iterator.next_gives _ _ (λ items. l.map ≡ build g.K.PartialEq.eq [] items) (l.yielded, λ _. drained, l.invariant.3) (tt {0})
+returns-clause-runs g c = run_puts (pair_fits g.K.PartialEq.eq g.row.N) (put_pair g.K.PartialEq.eq) g.I.Iterator.next_gives c.args.items [] c.loop-key.map (returns-clause-built g c).all

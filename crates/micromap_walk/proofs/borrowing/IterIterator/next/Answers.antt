@@ -1,6 +1,5 @@
 use Rattle.micromap_walk.proofs.FilledLemmas.{first_some}
 use Rattle.micromap_walk.proofs.borrowing.IterIterator.next.Goals as goal
 
--- no place is empty
-pub unreachable-requires : goal.unreachable-requires
-unreachable-requires g c = first_some _ c.self.invariant _ _ c.in_ok-key.ensures.steps c.in-None.is
+pub item_of-requires : goal.item_of-requires
+item_of-requires g c = first_some _ c.self.invariant _ _ c.in_ok-slot.ensures.steps

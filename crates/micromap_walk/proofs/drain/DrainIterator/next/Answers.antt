@@ -1,6 +1,5 @@
 use Rattle.micromap_walk.proofs.FilledLemmas.{first_some}
 use Rattle.micromap_walk.proofs.drain.DrainIterator.next.Goals as goal
 
--- no place is empty
-pub unreachable-requires : goal.unreachable-requires
-unreachable-requires g c = first_some _ c.self.invariant _ _ c.in_ok-pair.ensures.steps c.in-None.is
+pub into_item-requires : goal.into_item-requires
+into_item-requires g c = first_some _ c.self.invariant _ _ c.in_ok-slot.ensures.steps

@@ -4,4 +4,4 @@ use Rattle.micromap.proofs.ItemLemmas.{reverse-keys}
 use Rattle.micromap.proofs.set.walk.SetIntoIterator.into_iter.Goals as goal
 
 pub returns : goal.returns
-returns g c = record { into_iter_gives = (c.into_keys.ensures.keys ∙ sym (reverse-keys c.self.inside.map) ∙ ap reverse c.self.view_is, gives_in_order) }
+returns g c = record { into_iter_gives = (c.into_keys.ensures.answer ∙ sym (reverse-keys c.self.inside.map) ∙ ap reverse c.self.view_is, gives_in_order) }

@@ -7,5 +7,5 @@ use Rattle.micromap_core.proofs.entry.methods.EntryIn+K+Map+K+V+N.or_insert_with
 pub returns-in-Vacant : goal.returns-in-Vacant
 returns-in-Vacant g c =
     let of-held : AnswersOfKey g.F.FnOnce c.args.default (Some c.in-Vacant.entry.key) c.insert.result.now =
-    rw c.insert.ensures.value (_, c.default-value.ensures, sym (same_Some _ _ c.key.ensures)) in
-    ((refl, λ w. rw c.in-Vacant.is refl), record { writes_back = tt; value = rw c.in-Vacant.is of-held })
+    rw c.insert.ensures.answer (_, c.default-value.ensures, sym (same_Some _ _ c.key.ensures)) in
+    ((refl, λ w. rw c.in-Vacant.is refl), record { writes_back = tt; answer = rw c.in-Vacant.is of-held })

@@ -1,0 +1,92 @@
+-- Pairwise unequal items that are put one after the other, or their clones: each is new, and goes last.
+use Rattle.std.proofs.Common.{◌≡◌, ℕ, ◌+◌, ◌<◌, ◌≤◌, Bool, true, false, ◌||◌, List, [], ◌∷◌, ◌++◌, length, get_or, if◌then◌else◌, IsTrue, refl, ap, sym, subst, ◌∙◌, append_assoc, arith}
+use Rattle.std.specs.Cmp.{IsEquivalence}
+use Rattle.std.specs.List.{AllByRecursion, AllZip, IsDistinct}
+use Rattle.std.specs.Set.{ClonesAreEqual}
+use Rattle.std.proofs.Math.Seq.{get_or-append_seam}
+use Rattle.std.proofs.lemmas.List.{append-nil, length-append}
+use Rattle.std.proofs.lemmas.List.Elements.{AllZip-push, length_all_zip}
+use Rattle.std.proofs.lemmas.Map.Keys.{IsDistinct-head, IsDistinct-tail}
+use Rattle.micromap.specs.Extend.{add_all}
+use Rattle.micromap.specs.Items.{add, contains, item_fits}
+use Rattle.std.proofs.Math.Bool.{or-true}
+use Rattle.std.proofs.lemmas.Bool.{lt-ltb}
+
+-- what holds of each element holds of the one behind the first ones
+at_seam : {T : Type 0} (P : T → Type 0) (ys : List T) (x : T) (xs : List T) → AllByRecursion P (ys ++ x ∷ xs) → P x
+at_seam P [] x xs all = all.0
+at_seam P (y ∷ ys) x xs all = at_seam P ys x xs all.1
+
+-- with room each item fits
+fits_room : {T : Type 0} (eq : T → T → Bool) (N : ℕ) (items : List T) (x : T) → length items < N → IsTrue (item_fits eq N items x)
+fits_room eq N items x room = ap (λ b. contains eq items x || b) (lt-ltb (length items) N room) ∙ or-true (contains eq items x)
+
+module _ {T : Type 0} (eq : T → T → Bool) where
+  pub added_new : (items : List T) (x : T) → contains eq items x ≡ false → add eq items x ≡ items ++ x ∷ []
+  unfolding add
+  added_new items x new = ap (λ b. if b then items else items ++ x ∷ []) new
+
+module _ {T : Type 0} {eq : T → T → Bool} (laws : IsEquivalence eq) where
+  -- of pairwise unequal items, the first ones have none that equals the next
+  pub new_behind : (ys : List T) (x : T) (xs : List T) → IsDistinct eq (ys ++ x ∷ xs) → contains eq ys x ≡ false
+  new_behind [] x xs distinct = refl
+  new_behind (y ∷ ys) x xs distinct =
+      let differs : eq x y ≡ false = laws.symm x y ∙ at_seam (λ z. eq y z ≡ false) ys x xs (IsDistinct-head eq y (ys ++ x ∷ xs) distinct) in
+      ap (λ b. b || contains eq ys x) differs ∙ new_behind ys x xs (IsDistinct-tail eq y (ys ++ x ∷ xs) distinct)
+
+  added_in_turn : (ys xs : List T) → IsDistinct eq (ys ++ xs) → add_all eq ys xs ≡ ys ++ xs
+  added_in_turn ys [] distinct = sym (append-nil ys)
+  added_in_turn ys (x ∷ xs) distinct =
+      ap (λ l. add_all eq l xs) (added_new eq ys x (new_behind ys x xs distinct))
+      ∙ added_in_turn (ys ++ x ∷ []) xs (subst (IsDistinct eq) (sym (append_assoc ys (x ∷ []) xs)) distinct)
+      ∙ append_assoc ys (x ∷ []) xs
+
+  -- a set that is built from pairwise unequal items has them in their order
+  pub added_all : (xs : List T) → IsDistinct eq xs → add_all eq [] xs ≡ xs
+  added_all xs distinct = added_in_turn [] xs distinct
+
+  module _ {C : T → T → Type 0} (equal : ClonesAreEqual eq C) where
+    -- an item has an equal one among the clones where an equal item has one among their sources
+    clones_alike : (xs ys : List T) (q r : T) → AllZip C xs ys → eq q r ≡ true → contains eq ys r ≡ contains eq xs q
+    clones_alike [] [] q r clones same = refl
+    clones_alike [] (y ∷ ys) q r clones same = absurd clones
+    clones_alike (x ∷ xs) [] q r clones same = absurd clones
+    clones_alike (x ∷ xs) (y ∷ ys) q r clones same =
+        let here : eq r y ≡ eq q x = laws.symm r y ∙ sym (laws.congr x y r (equal x y clones.0)) ∙ laws.symm x r ∙ sym (laws.congr q r x same) in
+        (λ i. here i || clones_alike xs ys q r clones.1 same i)
+
+-- of the members, these are left; the clones of those before them are the set
+pub record ClonesTo {T : Type 0} (C : T → T → Type 0) (members left set : List T) : Type 0 where
+  pub given : List T
+  pub split : given ++ left ≡ members
+  pub clones : AllZip C given set
+
+pub clones_start : {T : Type 0} (C : T → T → Type 0) (members : List T) → ClonesTo C members members []
+clones_start C members = record { given = []; split = refl; clones = tt }
+
+pub clones_end : {T : Type 0} {C : T → T → Type 0} {members left set : List T} → ClonesTo C members left set → left ≡ [] → AllZip C members set
+clones_end {C = C} {set = set} c none = subst (λ l. AllZip C l set) (sym (append-nil c.given) ∙ ap (λ l. c.given ++ l) (sym none) ∙ c.split) c.clones
+
+module _ {T : Type 0} {eq : T → T → Bool} (laws : IsEquivalence eq) {C : T → T → Type 0} (equal : ClonesAreEqual eq C) {members left set : List T} (c : ClonesTo C members left set) (x : T) (rest : List T) (first : left ≡ x ∷ rest) where
+  whole : c.given ++ x ∷ rest ≡ members
+  whole = ap (λ l. c.given ++ l) (sym first) ∙ c.split
+
+  -- the next member is the one behind those before it
+  pub next_member : (d : T) → (length c.given < length members) × (get_or members (length c.given) d ≡ x)
+  next_member d = (
+    omega (arith, ap length whole, length-append c.given (x ∷ rest)),
+    ap (λ l. get_or l (length c.given) d) (sym whole) ∙ get_or-append_seam c.given x rest d,
+  )
+
+  -- there is room for its clone, which is new and goes last
+  pub clone_fits : (N : ℕ) (y : T) → length members ≤ N → IsTrue (item_fits eq N set y)
+  clone_fits N y bounded = fits_room eq N set y (omega (arith, bounded, (next_member x).0, length_all_zip C c.given set c.clones))
+
+  pub clones_next : (y : T) (new : List T) → IsDistinct eq members → C x y → new ≡ add eq set y → ClonesTo C members rest new
+  clones_next y new distinct clone added =
+      let missing : contains eq set y ≡ false = clones_alike laws equal c.given set x y c.clones (equal x y clone) ∙ new_behind laws c.given x rest (subst (IsDistinct eq) (sym whole) distinct) in
+      record {
+        given = c.given ++ x ∷ [];
+        split = append_assoc c.given (x ∷ []) rest ∙ whole;
+        clones = subst (AllZip C (c.given ++ x ∷ [])) (sym (added ∙ added_new eq set y missing)) (AllZip-push C c.given set x y c.clones clone);
+      }

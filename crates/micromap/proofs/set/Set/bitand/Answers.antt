@@ -1,0 +1,23 @@
+use Rattle.std.proofs.Common.{◌≤◌, length, subst, arith, rules}
+use Rattle.std.proofs.lemmas.List.Elements.{same_from_all_zip}
+use Rattle.micromap.specs.Operations.{intersection, intersection_left}
+use Rattle.micromap.proofs.AddedItems.{clone_fits, clones_end, clones_next, next_member}
+use Rattle.micromap.proofs.OperationSteps.{length-parts}
+use Rattle.micromap.proofs.set.Set.bitand.Goals as goal
+
+pub returns-in_err-clone-clause-succeeds : goal.returns-in_err-clone-clause-succeeds
+returns-in_err-clone-clause-succeeds g c =
+    λ all.
+    let next = next_member g.met.T.Eq.laws c.requires c.loop-x.invariant c.in-Some.x.now (intersection_left g.T.PartialEq.eq c.next.new.self) c.in-Some.ensures.steps.member c.in-Some.x.now in
+    absurd (c.in_err-clone.ensures.cases (subst g.T.Clone.is_infallible next.1 (all (length c.loop-x.invariant.given) c.in-Some.x.now next.0)))
+
+pub insert-requires : goal.insert-requires
+insert-requires g c =
+    let short : length (intersection g.T.PartialEq.eq c.args.self.now c.args.other.now) ≤ g.row.N = omega (arith, c.len-content.ensures.content.bounded, length-parts g.T.PartialEq.eq c.args.self.now c.args.other.now) in
+    (search rules, clone_fits g.met.T.Eq.laws c.requires c.loop-x.invariant c.in-Some.x.now (intersection_left g.T.PartialEq.eq c.next.new.self) c.in-Some.ensures.steps.member g.row.N c.in_ok-clone.field-0 short)
+
+pub loop-x-preserved : goal.loop-x-preserved
+loop-x-preserved g c = clones_next g.met.T.Eq.laws c.requires c.loop-x.invariant c.in-Some.x.now (intersection_left g.T.PartialEq.eq c.next.new.self) c.in-Some.ensures.steps.member c.in_ok-clone.field-0 c.insert.new.self c.intersection-x-items.ensures.unique c.in_ok-clone.ensures.cases c.insert.ensures.items
+
+pub returns-clause-same : goal.returns-clause-same
+returns-clause-same g c = λ identical. same_from_all_zip g.T.Clone.is_clone (intersection g.T.PartialEq.eq c.args.self.now c.args.other.now) c.loop-x.set (clones_end c.loop-x.invariant c.in-None.ensures.steps.member.0) identical

@@ -1,0 +1,15 @@
+use Rattle.std.specs.Prelude.{◌≡◌, length, not}
+use Rattle.std.specs.List.{IsDistinct}
+use Rattle.micromap.specs.Items.{contains}
+use Rattle.micromap.proofs.OperationSteps.{MeetsNone}
+use Rattle.micromap.proofs.set.operations.difference.DifferenceInSetIterator.next.Given as goal
+
+-- no member is met yet
+abbrev pub invariant-loop-x : goal.invariant-loop-x
+invariant-loop-x g l =
+    MeetsNone (λ x. not (contains g.T.PartialEq.eq l.self-inside.other.now x)) l.initial.self-inside.rest l.self-inside.rest
+    × (l.self-inside.other ≡ l.initial.self-inside.other)
+    × IsDistinct g.T.PartialEq.eq l.self-inside.rest
+
+abbrev pub decreases-loop-x : goal.decreases-loop-x
+decreases-loop-x g l = length l.self-inside.rest

@@ -1,0 +1,105 @@
+-- The operations on two sets as lists of items, what an iterator over one has left from call to call, and its hints.
+-- Items are compared by eq; each list says which of two equal items it has.
+use Rattle.std.specs.Prelude.{◌≡◌, ℕ, ◌+◌, ◌-◌, ◌^◌, min, Bool, not, List, [], ◌∷◌, ◌++◌, length, drop, filter, Option, Some, None, if◌then◌else◌, nat_lt}
+use Rattle.std.specs.Iterator.{YieldsFirstBy}
+use Rattle.std.specs.List.{after_first}
+use Rattle.micromap.specs.Items.{contains}
+
+module _ {T : Type 0} (eq : T → T → Bool) where
+  -- the items of xs without an equal one in ys
+  abbrev pub difference : List T → List T → List T
+  difference xs ys = filter (λ x. not (contains eq ys x)) xs
+
+  -- the items of xs with an equal one in ys
+  abbrev pub intersection : List T → List T → List T
+  intersection xs ys = filter (contains eq ys) xs
+
+  -- the items of ys, then those of xs without an equal one there
+  unfoldable pub union : List T → List T → List T
+  union xs ys = ys ++ difference xs ys
+
+  -- the items of xs without an equal one in ys, then the other way round
+  unfoldable pub symmetric_difference : List T → List T → List T
+  symmetric_difference xs ys = difference xs ys ++ difference ys xs
+
+  -- each item has an equal one in xs where it has one in ys, and the other way round
+  abbrev pub HaveEquals : List T → List T → Type 0
+  HaveEquals xs ys = (x : T) → contains eq xs x ≡ contains eq ys x
+
+-- where an iterator stands. Of a difference or an intersection: the items not walked yet, and the other set, which is
+-- seen as the list of its items
+pub record Walk (T O : Type 0) : Type 0 where
+  pub rest : List T
+  pub other : O
+
+-- of a union: the other set's items not given yet, and the difference that follows
+pub record UnionWalk (T O : Type 0) : Type 0 where
+  pub others : List T
+  pub beyond : Walk T O
+
+-- of a symmetric difference: the two differences
+pub record TwoWalks (T O P : Type 0) : Type 0 where
+  pub first : Walk T O
+  pub second : Walk T P
+
+-- x where there is nothing in the list, else y
+abbrev pub if_empty : {T X : Type 0} → List T → X → X → X
+if_empty [] x y = x
+if_empty (_ ∷ _) x y = y
+
+module _ {T : Type 0} (eq : T → T → Bool) where
+  -- the members that are left
+  unfoldable pub difference_left : Walk T (List T) → List T
+  difference_left w = difference eq w.rest w.other
+
+  unfoldable pub intersection_left : Walk T (List T) → List T
+  intersection_left w = intersection eq w.rest w.other
+
+  unfoldable pub union_left : UnionWalk T (List T) → List T
+  union_left w = w.others ++ difference_left w.beyond
+
+  unfoldable pub symmetric_left : TwoWalks T (List T) (List T) → List T
+  symmetric_left w = difference_left w.first ++ difference_left w.second
+
+  -- where a call of `next` leads: past the next member, or to the end where there is none
+  unfoldable pub difference_on : Walk T (List T) → Walk T (List T)
+  difference_on w = record w { rest = after_first (λ x. not (contains eq w.other x)) w.rest }
+
+  unfoldable pub intersection_on : Walk T (List T) → Walk T (List T)
+  intersection_on w = record w { rest = after_first (contains eq w.other) w.rest }
+
+  unfoldable pub union_on : UnionWalk T (List T) → UnionWalk T (List T)
+  union_on w = record { others = drop 1 w.others; beyond = if_empty w.others (difference_on w.beyond) w.beyond }
+
+  unfoldable pub symmetric_on : TwoWalks T (List T) (List T) → TwoWalks T (List T) (List T)
+  symmetric_on w = record { first = difference_on w.first; second = if_empty (difference_left w.first) (difference_on w.second) w.second }
+
+-- a call of `next` at s gave the first of what is left, or nothing where nothing is, and led to t; shows is what a
+-- contract sees of what is given
+pub record GivesNext {S A T : Type 0} (shows : A → T) (left : S → List T) (on : S → S) (s : S) (r : Option A) (t : S) : Type 0 where
+  pub member : YieldsFirstBy shows left s r t
+  pub led : t ≡ on s
+
+-- the sum of two numbers, either of which may be missing, where it is a `usize`
+abbrev pub sum_of : Option ℕ → Option ℕ → Option ℕ
+sum_of None n = None
+sum_of (Some m) None = None
+sum_of (Some m) (Some n) = if nat_lt (m + n) (2 ^ 64) then Some (m + n) else None
+
+-- the hint of two iterators one after the other
+abbrev pub both_hints : ℕ × Option ℕ → ℕ × Option ℕ → ℕ × Option ℕ
+both_hints a b = (min (a.0 + b.0) (2 ^ 64 - 1), sum_of a.1 b.1)
+
+-- the hints: a lower bound of the number of members left, and an upper one
+module _ {T : Type 0} where
+  abbrev pub difference_hint : Walk T (List T) → ℕ × Option ℕ
+  difference_hint w = (length w.rest - length w.other, Some (length w.rest))
+
+  abbrev pub intersection_hint : Walk T (List T) → ℕ × Option ℕ
+  intersection_hint w = (0, Some (min (length w.rest) (length w.other)))
+
+  abbrev pub union_hint : UnionWalk T (List T) → ℕ × Option ℕ
+  union_hint w = both_hints (length w.others, Some (length w.others)) (difference_hint w.beyond)
+
+  abbrev pub symmetric_hint : TwoWalks T (List T) (List T) → ℕ × Option ℕ
+  symmetric_hint w = both_hints (difference_hint w.first) (difference_hint w.second)

@@ -1,0 +1,32 @@
+//! Comparing two sets, whose capacities may differ.
+ghost use Rattle.std.specs.Prelude.{◌≡◌};
+ghost use Rattle.std.specs.Cmp.{partial_equiv_from_equiv};
+ghost use Rattle.micromap.specs.Same.{have_equal_items};
+ghost use Rattle.micromap.specs.SameLaws.{have_equal_items_equiv};
+
+use super::Set;
+
+impl<T: Eq, const N: usize> Set<T, N> {
+    /// Whether each item of either set has an equal one in the other: whether each set is a subset of the other. Neither
+    /// order nor capacity matters.
+    pub fn eq_with<const M: usize>(&self, other: &Set<T, M>) -> bool
+        ensures { result ≡ have_equal_items T.eq self.now other.now }
+    {
+        self.is_subset(other) && other.is_subset(self)
+    }
+}
+
+/// `eq_with` within one type.
+impl<T: Eq, const N: usize> PartialEq for Set<T, N> {
+    ghost eq = { have_equal_items T.eq };
+
+    ghost laws = { partial_equiv_from_equiv (have_equal_items_equiv T.Eq.laws) };
+
+    fn eq(&self, other: &Set<T, N>) -> bool {
+        self.eq_with(other)
+    }
+}
+
+impl<T: Eq, const N: usize> Eq for Set<T, N> {
+    ghost laws = { have_equal_items_equiv T.Eq.laws };
+}

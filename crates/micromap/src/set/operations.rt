@@ -1,0 +1,31 @@
+//! The operations on two sets, which may have different capacities. Each answers an iterator that lends the members:
+//! making it compares nothing, and each call of `next` goes up to and including the next member.
+ghost use Rattle.std.specs.Prelude.{◌≡◌};
+ghost use Rattle.micromap.specs.Operations.{both_hints};
+
+mod cloned;
+mod difference;
+mod difference_ref;
+mod intersection;
+mod symmetric_difference;
+mod union;
+
+pub use difference::Difference;
+pub use difference_ref::DifferenceRef;
+pub use intersection::Intersection;
+pub use symmetric_difference::SymmetricDifference;
+pub use union::Union;
+
+// The hint of two iterators, one after the other.
+fn hint_of_both(
+    first: (usize, Option<usize>),
+    second: (usize, Option<usize>),
+) -> (usize, Option<usize>)
+    ensures { result ≡ both_hints first second }
+{
+    let upper = match (first.1, second.1) {
+        (Some(m), Some(n)) => m.checked_add(n),
+        _ => None,
+    };
+    (first.0.saturating_add(second.0), upper)
+}

@@ -1,0 +1,49 @@
+//! The set of the clones of a difference or an intersection.
+ghost use Rattle.std.specs.Prelude.{◌≡◌, All, IsOk, IfOk};
+ghost use Rattle.std.specs.List.{AllZip};
+ghost use Rattle.std.specs.Set.{ClonesAreEqual};
+ghost use Rattle.micromap.specs.Clones.{AreIdentical};
+ghost use Rattle.micromap.specs.Operations.{difference, intersection};
+
+use crate::Set;
+use std::alloc::AllocError;
+
+impl<T: Eq + Clone + Drop, const N: usize> Set<T, N> {
+    /// A set of the clones of the items with an equal one in `other`, in their order. An item's clone must be equal to
+    /// the item.
+    ///
+    /// It takes no memory of its own, so the answer is `Err` only where a clone of a member is. Then what was cloned is
+    /// dropped. It costs what `intersection` costs, and for each member one scan of those before it.
+    pub fn bitand<const M: usize>(&self, other: &Set<T, M>) -> Result<Self, AllocError>
+        requires { ClonesAreEqual T.eq T.is_clone }
+        ensures clones { IfOk result (AllZip T.is_clone (intersection T.eq self.now other.now)) }
+        ensures same { AreIdentical T.is_clone → IfOk result (λ new. new ≡ intersection T.eq self.now other.now) }
+        ensures succeeds { All T.is_infallible (intersection T.eq self.now other.now) → IsOk result }
+    {
+        let _content = self.len();
+        let mut set = Set::new();
+        for x in self.intersection(other) {
+            set.insert(x.clone()?);
+        }
+        Ok(set)
+    }
+
+    /// A set of the clones of the items without an equal one in `other`, in their order. An item's clone must be equal
+    /// to the item.
+    ///
+    /// It takes no memory of its own, so the answer is `Err` only where a clone of a member is. Then what was cloned is
+    /// dropped. It costs what `difference` costs, and for each member one scan of those before it.
+    pub fn sub<const M: usize>(&self, other: &Set<T, M>) -> Result<Self, AllocError>
+        requires { ClonesAreEqual T.eq T.is_clone }
+        ensures clones { IfOk result (AllZip T.is_clone (difference T.eq self.now other.now)) }
+        ensures same { AreIdentical T.is_clone → IfOk result (λ new. new ≡ difference T.eq self.now other.now) }
+        ensures succeeds { All T.is_infallible (difference T.eq self.now other.now) → IsOk result }
+    {
+        let _content = self.len();
+        let mut set = Set::new();
+        for x in self.difference(other) {
+            set.insert(x.clone()?);
+        }
+        Ok(set)
+    }
+}

@@ -1,0 +1,123 @@
+//! The items of one set without an equal one in another.
+ghost use Rattle.std.specs.Prelude.{◌≡◌, ◌≤◌, [], Ok, IfSome, length};
+ghost use Rattle.std.specs.Iterator.{UpTo, item_count};
+ghost use Rattle.std.specs.Iterator.Runs.{YieldsRefsInOrder};
+ghost use Rattle.std.specs.Iterator.SizeHint.{IsWithinCount};
+ghost use Rattle.std.specs.List.{IsDistinct};
+ghost use Rattle.std.specs.Map.Iter.{deref};
+ghost use Rattle.micromap.specs.Extend.{add_all};
+ghost use Rattle.micromap.specs.Operations.{difference, difference_hint, difference_left, difference_on, GivesNext};
+
+use crate::Set;
+use crate::set::Iter;
+use std::alloc::AllocError;
+use std::fmt;
+use std::iter::FusedIterator;
+use std::marker::Model;
+
+/// The items of one set without an equal one in another, by `Set::difference`.
+///
+/// A call of `next` walks the set up to and including the next member, or to its end. For each item that it walks it
+/// scans the other set once, for a member all of it.
+pub type Difference<'a, 'b, T, const M: usize> = DifferenceIn<'a, 'b, T, Set<T, M>>;
+
+/// A `Difference` from the set `O`.
+#[derive(Drop)]
+pub struct DifferenceIn<'a, 'b, T: Eq, O> {
+    rest: Iter<'a, T>,
+    other: &'b O,
+}
+
+impl<'a, 'b, T: Eq, O> Model for DifferenceIn<'a, 'b, T, O> {
+    ghost use Rattle.std.specs.List.{IsDistinct};
+    ghost use Rattle.micromap.specs.Operations.{Walk};
+
+    ghost Value = { Walk T O };
+
+    ghost view = { λ d. record { rest = d.rest; other = d.other.now } };
+
+    ghost invariant = { λ d. IsDistinct T.eq d.rest };
+}
+
+impl<'a, 'b, T: Eq, const M: usize> DifferenceIn<'a, 'b, T, Set<T, M>> {
+    // The same.
+    #[inline]
+    pub(super) fn left(&self) -> Self
+        ensures { result ≡ self.now }
+    {
+        match self.rest.clone() {
+            Ok(rest) => DifferenceIn {
+                rest,
+                other: self.other,
+            },
+            Err(_) => unreachable!(),
+        }
+    }
+
+    /// An iterator that goes on where this one stands. It never lacks memory.
+    #[inline]
+    pub fn clone(&self) -> Result<Self, AllocError>
+        ensures { result ≡ Ok self.now }
+    {
+        Ok(self.left())
+    }
+}
+
+impl<'a, 'b, T: Eq, const M: usize> Iterator for DifferenceIn<'a, 'b, T, Set<T, M>> {
+    type Item = &'a T;
+
+    ghost next_gives = { GivesNext deref (difference_left T.eq) (difference_on T.eq) };
+
+    ghost remaining = { item_count (difference_left T.eq) };
+
+    fn next(&mut self) -> Option<&'a T> {
+        while let Some(x) = self.rest.next() {
+            if !self.other.contains(x) {
+                return Some(x);
+            }
+        }
+        None
+    }
+
+    fn size_hint(&self) -> (usize, Option<usize>)
+        ensures lower { IsWithinCount result.0 (item_count (difference_left T.eq) self.now) }
+        ensures upper { IfSome result.1 (UpTo (item_count (difference_left T.eq) self.now)) }
+        ensures exact { result ≡ difference_hint self.now }
+    {
+        let rest = self.rest.len();
+        (rest.saturating_sub(self.other.len()), Some(rest))
+    }
+}
+
+impl<'a, 'b, T: Eq, const M: usize> FusedIterator for DifferenceIn<'a, 'b, T, Set<T, M>> {}
+
+/// As the list of what is left.
+impl<'a, 'b, T: Eq + fmt::Debug, const M: usize> fmt::Debug for DifferenceIn<'a, 'b, T, Set<T, M>> {
+    fn fmt<W: fmt::Write>(&self, f: &mut fmt::Formatter<W>) -> fmt::Result {
+        f.debug_list().entries(self.left()).finish()
+    }
+}
+
+impl<T: Eq, const N: usize> Set<T, N> {
+    /// The items of this set without an equal one in `other`, in their order.
+    ///
+    /// Making it compares nothing. All calls of `next` together scan `other` once for each item of this set.
+    #[tactic(auto, unfolding(crate::specs::Operations::difference_left))]
+    pub fn difference<'a, 'b, const M: usize>(
+        &'a self,
+        other: &'b Set<T, M>,
+    ) -> Difference<'a, 'b, T, M>
+        ensures walk { result ≡ record { rest = self.now; other = other.now } }
+        ensures items { difference_left T.eq result ≡ difference T.eq self.now other.now }
+        ensures bounded { length (difference_left T.eq result) ≤ N }
+        ensures unique { IsDistinct T.eq (difference T.eq self.now other.now) }
+        ensures builds { add_all T.eq [] (difference T.eq self.now other.now) ≡ difference T.eq self.now other.now }
+        ensures runs { YieldsRefsInOrder (GivesNext (deref {X = T}) (difference_left T.eq) (difference_on T.eq)) (difference_left T.eq) }
+    {
+        let _content = self.len();
+        DifferenceIn {
+            rest: self.iter(),
+            other,
+        }
+    }
+}

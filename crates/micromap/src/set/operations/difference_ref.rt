@@ -1,0 +1,108 @@
+//! The difference of two sets of references, by what they point to.
+ghost use Rattle.std.specs.Prelude.{◌≡◌, ◌≤◌, Ok, IfSome, length};
+ghost use Rattle.std.specs.Borrow.{Bor};
+ghost use Rattle.std.specs.Iterator.{UpTo, item_count};
+ghost use Rattle.std.specs.Iterator.Runs.{YieldsInOrder};
+ghost use Rattle.std.specs.Iterator.SizeHint.{IsWithinCount};
+ghost use Rattle.std.specs.List.{IsDistinct};
+ghost use Rattle.std.specs.Map.Iter.{deref};
+ghost use Rattle.std.specs.Ordering.{on};
+ghost use Rattle.micromap.specs.Operations.{difference, difference_hint, difference_left, difference_on, GivesNext};
+
+use super::difference::DifferenceIn;
+use crate::Set;
+use std::alloc::AllocError;
+use std::fmt;
+use std::iter::FusedIterator;
+use std::marker::Model;
+
+/// The references of one set to items without an equal one in another, by `Set::difference_ref`.
+///
+/// It costs what a `Difference` costs.
+pub type DifferenceRef<'a, 's, T, const M: usize> = DifferenceRefIn<'s, &'a T, Set<&'a T, M>>;
+
+/// A `DifferenceRef` from the set `O`, of references `R`.
+#[derive(Drop)]
+pub struct DifferenceRefIn<'s, R: Eq, O> {
+    items: DifferenceIn<'s, 's, R, O>,
+}
+
+impl<'s, R: Eq, O> Model for DifferenceRefIn<'s, R, O> {
+    ghost use Rattle.micromap.specs.Operations.{Walk};
+
+    ghost Value = { Walk R O };
+
+    ghost view = { λ d. d.items };
+}
+
+impl<'a, 's, T: Eq, const M: usize> DifferenceRefIn<'s, &'a T, Set<&'a T, M>> {
+    // The same.
+    #[inline]
+    fn left(&self) -> Self
+        ensures { result ≡ self.now }
+    {
+        DifferenceRefIn {
+            items: self.items.left(),
+        }
+    }
+
+    /// An iterator that goes on where this one stands. It never lacks memory.
+    #[inline]
+    pub fn clone(&self) -> Result<Self, AllocError>
+        ensures { result ≡ Ok self.now }
+    {
+        Ok(self.left())
+    }
+}
+
+impl<'a, 's, T: Eq, const M: usize> Iterator for DifferenceRefIn<'s, &'a T, Set<&'a T, M>> {
+    type Item = &'a T;
+
+    ghost next_gives = { GivesNext (λ r. r) (difference_left (on deref T.eq)) (difference_on (on deref T.eq)) };
+
+    ghost remaining = { item_count (difference_left (on deref T.eq)) };
+
+    fn next(&mut self) -> Option<&'a T> {
+        let item = self.items.next()?;
+        Some(*item)
+    }
+
+    fn size_hint(&self) -> (usize, Option<usize>)
+        ensures lower { IsWithinCount result.0 (item_count (difference_left (on deref T.eq)) self.now) }
+        ensures upper { IfSome result.1 (UpTo (item_count (difference_left (on deref T.eq)) self.now)) }
+        ensures exact { result ≡ difference_hint self.now }
+    {
+        self.items.size_hint()
+    }
+}
+
+impl<'a, 's, T: Eq, const M: usize> FusedIterator for DifferenceRefIn<'s, &'a T, Set<&'a T, M>> {}
+
+/// As the list of what is left.
+impl<'a, 's, T: Eq + fmt::Debug, const M: usize> fmt::Debug
+    for DifferenceRefIn<'s, &'a T, Set<&'a T, M>> {
+    fn fmt<W: fmt::Write>(&self, f: &mut fmt::Formatter<W>) -> fmt::Result {
+        f.debug_list().entries(self.left()).finish()
+    }
+}
+
+impl<'a, T: Eq, const N: usize> Set<&'a T, N> {
+    /// The references of this set to items without an equal one behind a reference of `other`, in their order. They
+    /// live as long as the items, and may outlive both sets.
+    ///
+    /// Making it compares nothing. All calls of `next` together scan `other` once for each reference of this set.
+    pub fn difference_ref<'s, const M: usize>(
+        &'s self,
+        other: &'s Set<&'a T, M>,
+    ) -> DifferenceRef<'a, 's, T, M>
+        ensures walk { result ≡ record { rest = self.now; other = other.now } }
+        ensures items { difference_left (on deref T.eq) result ≡ difference (on deref T.eq) self.now other.now }
+        ensures bounded { length (difference_left (on deref T.eq) result) ≤ N }
+        ensures unique { IsDistinct (on deref T.eq) (difference (on deref T.eq) self.now other.now) }
+        ensures runs { YieldsInOrder (GivesNext (λ (r : Bor T). r) (difference_left (on deref T.eq)) (difference_on (on deref T.eq))) (difference_left (on deref T.eq)) }
+    {
+        DifferenceRefIn {
+            items: self.difference(other),
+        }
+    }
+}

@@ -1,0 +1,123 @@
+//! The items of one set with an equal one in another.
+ghost use Rattle.std.specs.Prelude.{◌≡◌, ◌≤◌, [], Ok, IfSome, length};
+ghost use Rattle.std.specs.Iterator.{UpTo, item_count};
+ghost use Rattle.std.specs.Iterator.Runs.{YieldsRefsInOrder};
+ghost use Rattle.std.specs.Iterator.SizeHint.{IsWithinCount};
+ghost use Rattle.std.specs.List.{IsDistinct};
+ghost use Rattle.std.specs.Map.Iter.{deref};
+ghost use Rattle.micromap.specs.Extend.{add_all};
+ghost use Rattle.micromap.specs.Operations.{intersection, intersection_hint, intersection_left, intersection_on, GivesNext, HaveEquals};
+
+use crate::Set;
+use crate::set::Iter;
+use std::alloc::AllocError;
+use std::fmt;
+use std::iter::FusedIterator;
+use std::marker::Model;
+
+/// The items of one set with an equal one in another, by `Set::intersection`.
+///
+/// A call of `next` walks the set up to and including the next member, or to its end. For each item that it walks it
+/// scans the other set once, for a member up to the equal item.
+pub type Intersection<'a, T, const M: usize> = IntersectionIn<'a, T, Set<T, M>>;
+
+/// An `Intersection` with the set `O`.
+#[derive(Drop)]
+pub struct IntersectionIn<'a, T: Eq, O> {
+    rest: Iter<'a, T>,
+    other: &'a O,
+}
+
+impl<'a, T: Eq, O> Model for IntersectionIn<'a, T, O> {
+    ghost use Rattle.std.specs.List.{IsDistinct};
+    ghost use Rattle.micromap.specs.Operations.{Walk};
+
+    ghost Value = { Walk T O };
+
+    ghost view = { λ i. record { rest = i.rest; other = i.other.now } };
+
+    ghost invariant = { λ i. IsDistinct T.eq i.rest };
+}
+
+impl<'a, T: Eq, const M: usize> IntersectionIn<'a, T, Set<T, M>> {
+    // The same.
+    #[inline]
+    fn left(&self) -> Self
+        ensures { result ≡ self.now }
+    {
+        match self.rest.clone() {
+            Ok(rest) => IntersectionIn {
+                rest,
+                other: self.other,
+            },
+            Err(_) => unreachable!(),
+        }
+    }
+
+    /// An iterator that goes on where this one stands. It never lacks memory.
+    #[inline]
+    pub fn clone(&self) -> Result<Self, AllocError>
+        ensures { result ≡ Ok self.now }
+    {
+        Ok(self.left())
+    }
+}
+
+impl<'a, T: Eq, const M: usize> Iterator for IntersectionIn<'a, T, Set<T, M>> {
+    type Item = &'a T;
+
+    ghost next_gives = { GivesNext deref (intersection_left T.eq) (intersection_on T.eq) };
+
+    ghost remaining = { item_count (intersection_left T.eq) };
+
+    fn next(&mut self) -> Option<&'a T> {
+        while let Some(x) = self.rest.next() {
+            if self.other.contains(x) {
+                return Some(x);
+            }
+        }
+        None
+    }
+
+    fn size_hint(&self) -> (usize, Option<usize>)
+        ensures lower { IsWithinCount result.0 (item_count (intersection_left T.eq) self.now) }
+        ensures upper { IfSome result.1 (UpTo (item_count (intersection_left T.eq) self.now)) }
+        ensures exact { result ≡ intersection_hint self.now }
+    {
+        (0, Some(self.rest.len().min(self.other.len())))
+    }
+}
+
+impl<'a, T: Eq, const M: usize> FusedIterator for IntersectionIn<'a, T, Set<T, M>> {}
+
+/// As the list of what is left.
+impl<'a, T: Eq + fmt::Debug, const M: usize> fmt::Debug for IntersectionIn<'a, T, Set<T, M>> {
+    fn fmt<W: fmt::Write>(&self, f: &mut fmt::Formatter<W>) -> fmt::Result {
+        f.debug_list().entries(self.left()).finish()
+    }
+}
+
+impl<T: Eq, const N: usize> Set<T, N> {
+    /// The items of this set with an equal one in `other`, in their order.
+    ///
+    /// Making it compares nothing. All calls of `next` together scan `other` once for each item of this set.
+    #[tactic(auto, unfolding(crate::specs::Operations::intersection_left))]
+    pub fn intersection<'a, const M: usize>(
+        &'a self,
+        other: &'a Set<T, M>,
+    ) -> Intersection<'a, T, M>
+        ensures walk { result ≡ record { rest = self.now; other = other.now } }
+        ensures items { intersection_left T.eq result ≡ intersection T.eq self.now other.now }
+        ensures bounded { length (intersection_left T.eq result) ≤ N }
+        ensures unique { IsDistinct T.eq (intersection T.eq self.now other.now) }
+        ensures builds { add_all T.eq [] (intersection T.eq self.now other.now) ≡ intersection T.eq self.now other.now }
+        ensures turned { HaveEquals T.eq (intersection T.eq self.now other.now) (intersection T.eq other.now self.now) }
+        ensures runs { YieldsRefsInOrder (GivesNext (deref {X = T}) (intersection_left T.eq) (intersection_on T.eq)) (intersection_left T.eq) }
+    {
+        let _content = self.len();
+        IntersectionIn {
+            rest: self.iter(),
+            other,
+        }
+    }
+}

@@ -1,0 +1,124 @@
+//! The items of either of two sets without an equal one in the other.
+ghost use Rattle.std.specs.Prelude.{◌≡◌, ◌+◌, ◌≤◌, [], Ok, IfSome, length};
+ghost use Rattle.std.specs.Iterator.{UpTo, item_count};
+ghost use Rattle.std.specs.Iterator.Runs.{YieldsRefsInOrder};
+ghost use Rattle.std.specs.Iterator.SizeHint.{IsWithinCount};
+ghost use Rattle.std.specs.List.{IsDistinct};
+ghost use Rattle.std.specs.Map.Iter.{deref};
+ghost use Rattle.micromap.specs.Extend.{add_all};
+ghost use Rattle.micromap.specs.Operations.{symmetric_difference, symmetric_hint, symmetric_left, symmetric_on, GivesNext, HaveEquals};
+
+use super::difference::DifferenceIn;
+use super::hint_of_both;
+use crate::Set;
+use std::alloc::AllocError;
+use std::fmt;
+use std::iter::FusedIterator;
+use std::marker::Model;
+
+/// The items of either of two sets without an equal one in the other, by `Set::symmetric_difference`.
+///
+/// It is one `Difference` and then the other, and costs what they cost.
+pub type SymmetricDifference<'a, T, const N: usize, const M: usize> = SymmetricDifferenceIn<
+    'a,
+    T,
+    Set<T, M>,
+    Set<T, N>,
+>;
+
+/// A `SymmetricDifference` of the sets `P` and `O`.
+#[derive(Drop)]
+pub struct SymmetricDifferenceIn<'a, T: Eq, O, P> {
+    first: DifferenceIn<'a, 'a, T, O>,
+    second: DifferenceIn<'a, 'a, T, P>,
+}
+
+impl<'a, T: Eq, O, P> Model for SymmetricDifferenceIn<'a, T, O, P> {
+    ghost use Rattle.micromap.specs.Operations.{TwoWalks};
+
+    ghost Value = { TwoWalks T O P };
+
+    ghost view = { λ s. record { first = s.first; second = s.second } };
+}
+
+impl<'a, T: Eq, const N: usize, const M: usize> SymmetricDifferenceIn<'a, T, Set<T, M>, Set<T, N>> {
+    // The same.
+    #[inline]
+    fn left(&self) -> Self
+        ensures { result ≡ self.now }
+    {
+        SymmetricDifferenceIn {
+            first: self.first.left(),
+            second: self.second.left(),
+        }
+    }
+
+    /// An iterator that goes on where this one stands. It never lacks memory.
+    #[inline]
+    pub fn clone(&self) -> Result<Self, AllocError>
+        ensures { result ≡ Ok self.now }
+    {
+        Ok(self.left())
+    }
+}
+
+impl<'a, T: Eq, const N: usize, const M: usize> Iterator
+    for SymmetricDifferenceIn<'a, T, Set<T, M>, Set<T, N>> {
+    type Item = &'a T;
+
+    ghost next_gives = { GivesNext deref (symmetric_left T.eq) (symmetric_on T.eq) };
+
+    ghost remaining = { item_count (symmetric_left T.eq) };
+
+    #[tactic(auto, unfolding(crate::specs::Operations::symmetric_left, crate::specs::Operations::symmetric_on))]
+    fn next(&mut self) -> Option<&'a T> {
+        match self.first.next() {
+            Some(x) => Some(x),
+            None => self.second.next(),
+        }
+    }
+
+    #[tactic(auto, unfolding(crate::specs::Operations::symmetric_left))]
+    fn size_hint(&self) -> (usize, Option<usize>)
+        ensures lower { IsWithinCount result.0 (item_count (symmetric_left T.eq) self.now) }
+        ensures upper { IfSome result.1 (UpTo (item_count (symmetric_left T.eq) self.now)) }
+        ensures exact { result ≡ symmetric_hint self.now }
+    {
+        hint_of_both(self.first.size_hint(), self.second.size_hint())
+    }
+}
+
+impl<'a, T: Eq, const N: usize, const M: usize> FusedIterator
+    for SymmetricDifferenceIn<'a, T, Set<T, M>, Set<T, N>> {}
+
+/// As the list of what is left.
+impl<'a, T: Eq + fmt::Debug, const N: usize, const M: usize> fmt::Debug
+    for SymmetricDifferenceIn<'a, T, Set<T, M>, Set<T, N>> {
+    fn fmt<W: fmt::Write>(&self, f: &mut fmt::Formatter<W>) -> fmt::Result {
+        f.debug_list().entries(self.left()).finish()
+    }
+}
+
+impl<T: Eq, const N: usize> Set<T, N> {
+    /// The items of this set without an equal one in `other`, then the other way round, each in their order.
+    ///
+    /// Making it compares nothing. All calls of `next` together scan each set once for each item of the other.
+    #[tactic(auto, unfolding(crate::specs::Operations::symmetric_difference, crate::specs::Operations::symmetric_left))]
+    pub fn symmetric_difference<'a, const M: usize>(
+        &'a self,
+        other: &'a Set<T, M>,
+    ) -> SymmetricDifference<'a, T, N, M>
+        ensures walk { result ≡ record { first = record { rest = self.now; other = other.now }; second = record { rest = other.now; other = self.now } } }
+        ensures items { symmetric_left T.eq result ≡ symmetric_difference T.eq self.now other.now }
+        ensures bounded { length (symmetric_left T.eq result) ≤ N + M }
+        ensures unique { IsDistinct T.eq (symmetric_difference T.eq self.now other.now) }
+        ensures builds { add_all T.eq [] (symmetric_difference T.eq self.now other.now) ≡ symmetric_difference T.eq self.now other.now }
+        ensures turned { HaveEquals T.eq (symmetric_difference T.eq self.now other.now) (symmetric_difference T.eq other.now self.now) }
+        ensures runs { YieldsRefsInOrder (GivesNext (deref {X = T}) (symmetric_left T.eq) (symmetric_on T.eq)) (symmetric_left T.eq) }
+    {
+        SymmetricDifferenceIn {
+            first: self.difference(other),
+            second: other.difference(self),
+        }
+    }
+}

@@ -1,0 +1,120 @@
+//! The items of either of two sets.
+ghost use Rattle.std.specs.Prelude.{◌≡◌, ◌+◌, ◌≤◌, [], Ok, IfSome, length};
+ghost use Rattle.std.specs.Iterator.{UpTo, item_count};
+ghost use Rattle.std.specs.Iterator.Runs.{YieldsRefsInOrder};
+ghost use Rattle.std.specs.Iterator.SizeHint.{IsWithinCount};
+ghost use Rattle.std.specs.List.{IsDistinct};
+ghost use Rattle.std.specs.Map.Iter.{deref};
+ghost use Rattle.micromap.specs.Extend.{add_all};
+ghost use Rattle.micromap.specs.Operations.{intersection, union, union_hint, union_left, union_on, GivesNext, HaveEquals};
+
+use super::difference::DifferenceIn;
+use super::hint_of_both;
+use crate::Set;
+use crate::set::Iter;
+use std::alloc::AllocError;
+use std::fmt;
+use std::iter::FusedIterator;
+use std::marker::Model;
+
+/// The items of either of two sets, by `Set::union`.
+///
+/// The other set's items come first, and cost no comparison; then those that the set has beyond them, which cost what
+/// they cost in a `Difference`.
+pub type Union<'a, T, const M: usize> = UnionIn<'a, T, Set<T, M>>;
+
+/// A `Union` with the set `O`.
+#[derive(Drop)]
+pub struct UnionIn<'a, T: Eq, O> {
+    others: Iter<'a, T>,
+    beyond: DifferenceIn<'a, 'a, T, O>,
+}
+
+impl<'a, T: Eq, O> Model for UnionIn<'a, T, O> {
+    ghost use Rattle.micromap.specs.Operations.{UnionWalk};
+
+    ghost Value = { UnionWalk T O };
+
+    ghost view = { λ u. record { others = u.others; beyond = u.beyond } };
+}
+
+impl<'a, T: Eq, const M: usize> UnionIn<'a, T, Set<T, M>> {
+    // The same.
+    #[inline]
+    fn left(&self) -> Self
+        ensures { result ≡ self.now }
+    {
+        match self.others.clone() {
+            Ok(others) => UnionIn {
+                others,
+                beyond: self.beyond.left(),
+            },
+            Err(_) => unreachable!(),
+        }
+    }
+
+    /// An iterator that goes on where this one stands. It never lacks memory.
+    #[inline]
+    pub fn clone(&self) -> Result<Self, AllocError>
+        ensures { result ≡ Ok self.now }
+    {
+        Ok(self.left())
+    }
+}
+
+impl<'a, T: Eq, const M: usize> Iterator for UnionIn<'a, T, Set<T, M>> {
+    type Item = &'a T;
+
+    ghost next_gives = { GivesNext deref (union_left T.eq) (union_on T.eq) };
+
+    ghost remaining = { item_count (union_left T.eq) };
+
+    #[tactic(auto, unfolding(crate::specs::Operations::union_left, crate::specs::Operations::union_on))]
+    fn next(&mut self) -> Option<&'a T> {
+        match self.others.next() {
+            Some(x) => Some(x),
+            None => self.beyond.next(),
+        }
+    }
+
+    #[tactic(auto, unfolding(crate::specs::Operations::union_left))]
+    fn size_hint(&self) -> (usize, Option<usize>)
+        ensures lower { IsWithinCount result.0 (item_count (union_left T.eq) self.now) }
+        ensures upper { IfSome result.1 (UpTo (item_count (union_left T.eq) self.now)) }
+        ensures exact { result ≡ union_hint self.now }
+    {
+        hint_of_both(self.others.size_hint(), self.beyond.size_hint())
+    }
+}
+
+impl<'a, T: Eq, const M: usize> FusedIterator for UnionIn<'a, T, Set<T, M>> {}
+
+/// As the list of what is left.
+impl<'a, T: Eq + fmt::Debug, const M: usize> fmt::Debug for UnionIn<'a, T, Set<T, M>> {
+    fn fmt<W: fmt::Write>(&self, f: &mut fmt::Formatter<W>) -> fmt::Result {
+        f.debug_list().entries(self.left()).finish()
+    }
+}
+
+impl<T: Eq, const N: usize> Set<T, N> {
+    /// The items of `other`, then those of this set without an equal one in `other`, each in their order.
+    ///
+    /// Making it compares nothing. All calls of `next` together scan `other` once for each item of this set.
+    #[tactic(auto, unfolding(crate::specs::Operations::union, crate::specs::Operations::union_left))]
+    pub fn union<'a, const M: usize>(&'a self, other: &'a Set<T, M>) -> Union<'a, T, M>
+        ensures walk { result ≡ record { others = other.now; beyond = record { rest = self.now; other = other.now } } }
+        ensures items { union_left T.eq result ≡ union T.eq self.now other.now }
+        ensures bounded { length (union_left T.eq result) ≤ N + M }
+        ensures unique { IsDistinct T.eq (union T.eq self.now other.now) }
+        ensures builds { add_all T.eq [] (union T.eq self.now other.now) ≡ union T.eq self.now other.now }
+        ensures turned { HaveEquals T.eq (union T.eq self.now other.now) (union T.eq other.now self.now) }
+        ensures lengths { length (union T.eq self.now other.now) + length (intersection T.eq self.now other.now) ≡ length self.now + length other.now }
+        ensures runs { YieldsRefsInOrder (GivesNext (deref {X = T}) (union_left T.eq) (union_on T.eq)) (union_left T.eq) }
+    {
+        let _content = other.len();
+        UnionIn {
+            others: other.iter(),
+            beyond: self.difference(other),
+        }
+    }
+}

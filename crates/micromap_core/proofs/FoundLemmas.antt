@@ -1,0 +1,86 @@
+-- What follows of the index of the first key that passes a test, and of there being none: one induction for all words.
+use Rattle.std.proofs.Common.{◌≡◌, ℕ, zero, suc, ◌+◌, ◌<◌, ◌≤◌, Bool, true, false, not, cond, List, [], ◌∷◌, length, Option, Some, None, IfSome, IfNone, refl, ap, sym, arith}
+use Rattle.std.specs.List.{position_or_len}
+use Rattle.std.specs.Map.{keys_of}
+use Rattle.std.proofs.lemmas.Bool.Decides.{nat_tests}
+use Rattle.std.proofs.lemmas.List.{length-map}
+use Rattle.micromap_core.specs.Found.{FoundAt, NotFound}
+use Rattle.micromap_core.specs.Pairs.{index_by, take_out_by, without_at}
+
+module _ {K V : Type 0} (test : K → Bool) where
+  -- the first index whose key passes, or the length
+  abbrev first : List (K × V) → ℕ
+  first pairs = position_or_len test (keys_of pairs)
+
+  found_step : (e : K × V) (es : List (K × V)) → ((i : ℕ) → first es ≡ i → i < length es → FoundAt test es i) → (b : Bool) → test e.0 ≡ b → (i : ℕ) → cond (not b) (1 + first es) 0 ≡ i → i < length (e ∷ es) → FoundAt test (e ∷ es) i
+  unfolding take_out_by without_at
+  found_step e es rest true h zero at within = record {
+    pair = e;
+    within = within;
+    here = refl;
+    passes = h;
+    entry = rw h refl;
+    key = rw h refl;
+    value = rw h refl;
+    written = λ v. rw h refl;
+    replaced = λ k v. simp h;
+    taken = rw h refl;
+  }
+  found_step e es rest true h (suc i) at within = absurd (cc)
+  found_step e es rest false h zero at within = absurd (omega (arith, at))
+  found_step e es rest false h (suc i) at within =
+      let f = rest i (omega (arith, at)) (omega arith) in record {
+        pair = f.pair;
+        within = within;
+        here = f.here;
+        passes = f.passes;
+        entry = rw h f.entry;
+        key = rw h f.key;
+        value = rw h f.value;
+        written = λ v. rw h (ap (λ l. e ∷ l) (f.written v));
+        replaced = λ k v. simp h (ap (λ l. e ∷ l) (f.replaced k v));
+        taken = rw h (ap (λ l. e ∷ l) f.taken);
+      }
+
+  found_from : (pairs : List (K × V)) (i : ℕ) → first pairs ≡ i → i < length pairs → FoundAt test pairs i
+  found_from [] i at within = absurd (omega arith)
+  found_from (e ∷ es) i at within = found_step e es (found_from es) (test e.0) refl i at within
+
+  missing_step : (e : K × V) (es : List (K × V)) → (length es ≤ first es → NotFound test es) → (b : Bool) → test e.0 ≡ b → length (e ∷ es) ≤ cond (not b) (1 + first es) 0 → NotFound test (e ∷ es)
+  unfolding take_out_by
+  missing_step e es rest true h past = absurd (omega (arith, past))
+  missing_step e es rest false h past =
+      let n = rest (omega (arith, past)) in record {
+        entry = rw h n.entry;
+        key = rw h n.key;
+        value = rw h n.value;
+        written = λ v. rw h (ap (λ l. e ∷ l) (n.written v));
+        taken = rw h (ap (λ l. e ∷ l) n.taken);
+        none = rw h n.none;
+      }
+
+  missing_from : (pairs : List (K × V)) → length pairs ≤ first pairs → NotFound test pairs
+  unfolding take_out_by
+  missing_from [] past = record { entry = refl; key = refl; value = refl; written = λ v. refl; taken = refl; none = refl }
+  missing_from (e ∷ es) past = missing_step e es (missing_from es) (test e.0) refl past
+
+  module _ (pairs : List (K × V)) where
+    -- the index of a key
+    pub found_at : (i : ℕ) → index_by test pairs ≡ Some i → FoundAt test pairs i
+    found_at i found =
+        let n = length-map pairs (λ (e : K × V). e.0) in
+        found_from pairs i (grind (arith, nat_tests)) (grind (arith, nat_tests))
+
+    pub not_found : index_by test pairs ≡ None → NotFound test pairs
+    not_found missing =
+        let n = length-map pairs (λ (e : K × V). e.0) in
+        missing_from pairs (grind (arith, nat_tests))
+
+    -- both at once, of what a scan answers
+    pub if_found : (o : Option ℕ) → o ≡ index_by test pairs → IfSome o (FoundAt test pairs)
+    if_found None is = tt
+    if_found (Some i) is = found_at i (sym is)
+
+    pub if_not_found : (o : Option ℕ) → o ≡ index_by test pairs → IfNone o (NotFound test pairs)
+    if_not_found None is = not_found (sym is)
+    if_not_found (Some i) is = tt

@@ -1,0 +1,33 @@
+-- Facts about filled slots and the items in them.
+use Rattle.std.proofs.Common.{◌≡◌, ℕ, ◌<◌, List, [], ◌∷◌, ◌++◌, length, get_or, set, map, Option, Some, None, is_some, slice_get, ap, sym, ◌∙◌}
+use Rattle.std.proofs.lemmas.Bool.{false≢true}
+use Rattle.std.proofs.lemmas.Option.{slice_get-get_or}
+use Rattle.std.proofs.lemmas.List.{get_or-map, map-set, map-append}
+use Rattle.std.specs.List.{swap_remove}
+use Rattle.micromap_walk.specs.Filled.{items_of, AreFilled}
+pub use Rattle.micromap_walk.proofs.FilledLemmas.{items_of-map, AreFilled-from, length_filled, some_at}
+use Rattle.micromap_core.specs.Pairs.{without_at}
+use Rattle.micromap_core.proofs.Lists.{map-swap_remove, swap_remove-without_at}
+
+module _ {X : Type 0} (slots : List (Option X)) (filled : AreFilled slots) where
+  -- a slot within has the item at its index
+  pub item_at : (i : ℕ) (slot : Option X) → i < length slots → slot ≡ get_or slots i slot → slice_get (items_of slots) i ≡ slot
+  item_at i None within stands = absurd (false≢true (ap is_some stands ∙ some_at slots filled i None within))
+  item_at i (Some x) within stands =
+      slice_get-get_or (items_of slots) i x (rw (length_filled slots filled) within)
+      ∙ sym (ap (λ s. get_or s i (Some x)) filled ∙ get_or-map Some (items_of slots) i x (Some x) (rw (length_filled slots filled) within)) ∙ sym stands
+
+  -- another item at an index
+  pub set_filled : (i : ℕ) (x : X) → set slots i (Some x) ≡ map Some (set (items_of slots) i x)
+  set_filled i x = ap (λ s. set s i (Some x)) filled ∙ sym (map-set Some (items_of slots) i x)
+
+  -- one more item at the end
+  pub push_filled : (x : X) → slots ++ Some x ∷ [] ≡ map Some (items_of slots ++ x ∷ [])
+  push_filled x = ap (λ s. s ++ Some x ∷ []) filled ∙ sym (map-append Some (items_of slots) (x ∷ []))
+
+  -- without the item at an index, whose slot the last one takes
+  pub swap_removed : (i : ℕ) (x : X) → i < length slots → swap_remove slots i (Some x) ≡ map Some (without_at (items_of slots) i)
+  swap_removed i x within =
+      let inside : i < length (items_of slots) = rw (length_filled slots filled) within in
+      ap (λ s. swap_remove s i (Some x)) filled ∙ map-swap_remove Some (items_of slots) i x inside
+      ∙ ap (map Some) (swap_remove-without_at (items_of slots) i x inside)

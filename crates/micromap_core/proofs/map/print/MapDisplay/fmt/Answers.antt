@@ -1,0 +1,38 @@
+use Rattle.std.proofs.Common.{Some, Ok, rules}
+use Rattle.std.specs.Fmt.{◌++?◌}
+use Rattle.std.proofs.Padding.{displays_at_plain}
+use Rattle.micromap_core.specs.Print.{pair_text, map_text}
+use Rattle.micromap_core.proofs.PrintLemmas.{WritesAs, styled_append, with_options, styled_from, unstyled_writes, printing_begins, printing_more, printing_ends}
+use Rattle.micromap_core.proofs.map.print.MapDisplay.fmt.Goals as goal
+
+pub loop-key-init : goal.loop-key-init
+loop-key-init g c =
+    let took = g.W.Write.write_str_gives in
+    let e = c.args.f.now in
+    let begins = printing_begins (WritesAs took e) (pair_text g.K.Display.output g.V.Display.output) (styled_append took e) e c.write_str.new.self c.args.self.now (λ same. c.in_ok-write_str.ensures.styled) in
+    record { can = search rules; finite = search rules; utf8 = search rules; printing = rw c.into_iter-key-iterator.ensures.into_iter_gives.0 begins }
+
+pub loop-key-preserved : goal.loop-key-preserved
+loop-key-preserved g c =
+    let took = g.W.Write.write_str_gives in
+    let l = c.loop-key in
+    let e = c.args.f.now in
+    let text = Some l.lead.now ++? pair_text g.K.Display.output g.V.Display.output (c.in-Some.key.now, c.in-Some.value.now) in
+    record {
+      can = search rules;
+      finite = search rules;
+      utf8 = search rules;
+      printing = printing_more (WritesAs took e) (pair_text g.K.Display.output g.V.Display.output) (styled_append took e) _ _ _ _ _ _ _ _ l.invariant.printing c.in-Some.ensures.steps
+          (with_options took e l.f _ (Ok tt) (λ options. text) (unstyled_writes took _ _ _ text (λ same. search rules) c.in_ok-write.ensures.writes));
+    }
+
+pub returns-clause-styled : goal.returns-clause-styled
+returns-clause-styled g c =
+    let took = g.W.Write.write_str_gives in
+    let e = c.args.f.now in
+    styled_from took e _ _ _
+    (printing_ends (WritesAs took e) (pair_text g.K.Display.output g.V.Display.output) _ _ _ _ _ _ _ c.loop-key.invariant.printing (search rules) (λ same. c.write_str-2.ensures.styled))
+
+pub returns-clause-writes : goal.returns-clause-writes
+returns-clause-writes g c =
+    displays_at_plain g.W.Write.write_str_gives _ _ _ (map_text g.K.Display.output g.V.Display.output c.args.self.now) (returns-clause-styled g c)

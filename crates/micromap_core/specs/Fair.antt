@@ -1,0 +1,41 @@
+-- Two lists of pairs, with capacities N and M, under one list of keyed calls: when the calls are fair to both, and when
+-- they tell the two apart.
+use Rattle.std.specs.Prelude.{◌≡◌, ℕ, Bool, List, [], ◌∷◌, Option, Some, None, IsFalse, IfSome, ⊤}
+use Rattle.micromap_core.specs.Calls.{Call, insert, insert_key_value, after, run, Agree}
+use Rattle.micromap_core.specs.Pairs.{has, has_room}
+use Rattle.micromap_core.specs.Same.{Same}
+
+-- the key that a call inserts
+abbrev pub inserted : {K V : Type 0} → Call K V → Option K
+inserted (insert k v) = Some k
+inserted (insert_key_value k v) = Some k
+inserted call = None
+
+module _ {K V : Type 0} (eq : K → K → Bool) (N M : ℕ) where
+  -- where the call inserts a key that neither list has, both have room or neither has
+  abbrev pub IsFairCall : List (K × V) → List (K × V) → Call K V → Type 0
+  IsFairCall first second call = IfSome (inserted call) (λ k. IsFalse (has eq first k) → IsFalse (has eq second k) → has_room N first ≡ has_room M second)
+
+  -- each call is fair to the two lists at its moment
+  abbrev pub IsFair : List (K × V) → List (K × V) → List (Call K V) → Type 0
+  IsFair first second [] = ⊤
+  IsFair first second (call ∷ calls) = IsFairCall first second call × IsFair (after eq N first call) (after eq M second call) calls
+
+module _ {K V : Type 0} (eq : K → K → Bool) (same : V → V → Bool) (N M : ℕ) (first second : List (K × V)) where
+  -- the answers that the calls get from the two agree
+  abbrev pub AnswersAgree : List (Call K V) → Type 0
+  AnswersAgree calls = Agree eq same (run eq N first calls).0 (run eq M second calls).0
+
+  -- the two are the same once the calls have run
+  abbrev pub SameAfter : List (Call K V) → Type 0
+  SameAfter calls = Same eq same (run eq N first calls).1 (run eq M second calls).1
+
+  -- some fair list of calls gets answers that don't agree
+  pub record ToldApart : Type 0 where
+    pub calls : List (Call K V)
+    pub fair : IsFair eq N M first second calls
+    pub differ : ¬ AnswersAgree calls
+
+  -- every fair list of calls gets answers that agree, and leaves the two the same
+  abbrev pub SameForGood : Type 0
+  SameForGood = (calls : List (Call K V)) → IsFair eq N M first second calls → AnswersAgree calls × SameAfter calls

@@ -1,0 +1,40 @@
+-- When two lists of pairs are the same, whatever the order of their pairs, and where they first differ. It is said of any
+-- two lists, also with repeated keys: a list has a pair where some pair of it is so.
+use Rattle.std.specs.Prelude.{Bool, ◌&&◌, List, Option, Some, not, IsTrue, IsFalse}
+use Rattle.std.specs.List.{find, list_all, list_any}
+use Rattle.std.specs.Map.{keys_of}
+use Rattle.std.specs.Option.{option_eq, option_map, option_or}
+use Rattle.micromap_core.specs.Pairs.{at, has}
+
+-- whether each item of either list has an equal one in the other
+abbrev pub have_equal_items : {X : Type 0} → (X → X → Bool) → List X → List X → Bool
+have_equal_items eq first second = list_all (λ x. list_any (eq x) second) first && list_all (λ y. list_any (eq y) first) second
+
+module _ {K V : Type 0} (eq : K → K → Bool) (same : V → V → Bool) where
+  -- whether the keys are equal and the values are
+  abbrev pub pair_eq : K × V → K × V → Bool
+  pair_eq p q = eq p.0 q.0 && same p.1 q.1
+
+  -- whether each pair of either list has an equal key with an equal value in the other
+  abbrev pub is_same : List (K × V) → List (K × V) → Bool
+  is_same = have_equal_items pair_eq
+
+  abbrev pub Same : List (K × V) → List (K × V) → Type 0
+  Same first second = IsTrue (is_same first second)
+
+  -- what the two lists have at the key doesn't agree
+  abbrev pub DiffersAt : List (K × V) → List (K × V) → K → Type 0
+  DiffersAt first second k = IsFalse (option_eq same (at eq first k) (at eq second k))
+
+  -- the first key of one list that the other lacks or has with an unequal value
+  abbrev pub first_unequal : List (K × V) → List (K × V) → Option K
+  first_unequal one other = option_map (λ p. p.0) (find (λ p. not (option_eq same (at eq other p.0) (Some p.1))) one)
+
+  -- the first key of one list that the other lacks
+  abbrev pub first_missing : List (K × V) → List (K × V) → Option K
+  first_missing one other = find (λ k. not (has eq other k)) (keys_of one)
+
+  -- the first key of this list that the other lacks or has with an unequal value, else the first of the other that this
+  -- one lacks
+  abbrev pub first_difference : List (K × V) → List (K × V) → Option K
+  first_difference this other = option_or (first_unequal this other) (first_missing other this)

@@ -1,0 +1,70 @@
+//! Building a map from items, which are put one after the other by the rule of `insert`: each distinct key is stored
+//! as it came first, in that order, with the value of its last item.
+ghost use Rattle.std.specs.Prelude.{◌≡◌, IsTrue, IfOk, IfErr};
+ghost use Rattle.std.specs.Iterator.{UpTo};
+ghost use Rattle.std.specs.Iterator.Runs.{WholeRun};
+ghost use Rattle.micromap_core.specs.Build.{all_fit, build, BuiltFrom, MisfitAt, most_items};
+
+use super::Map;
+use std::error::Error;
+use std::fmt;
+
+/// The items have more distinct keys than there is room for.
+#[derive(Debug, Clone, Copy, PartialEq, Eq)]
+pub struct Overfull {
+    /// The position of the first item that didn't fit, counted from 0 over all items.
+    pub at: usize,
+}
+
+impl fmt::Display for Overfull {
+    ghost use Rattle.std.specs.Prelude.{Some, codes, ◌++◌};
+    ghost use Rattle.std.specs.Fmt.{decimal};
+
+    ghost output = { λ e. Some (codes "item " ++ decimal e.at ++ codes " has a new key, and there is no room for it") };
+
+    fn fmt<W: fmt::Write>(&self, f: &mut fmt::Formatter<W>) -> fmt::Result {
+        let at = self.at;
+        write!(f, "item {at} has a new key, and there is no room for it")
+    }
+}
+
+impl Error for Overfull {}
+
+impl<K: Eq + Copy, V: Copy, const N: usize> From<[(K, V); N]> for Map<K, V, N> {
+    ghost from_gives = { λ items map. (map ≡ build K.eq items) × IsTrue (all_fit K.eq N items) };
+
+    /// The map of these items: each distinct key as it came first, with the value of its last item. Each item fits,
+    /// and costs one scan.
+    fn from(items: [(K, V); N]) -> Self {
+        let mut map = Map::new();
+        for index in 0..N {
+            let item = items[index];
+            map.insert(item.0, item.1);
+        }
+        map
+    }
+}
+
+impl<K: Eq + Drop, V: Drop, const N: usize> Map<K, V, N> {
+    /// The map of these items, or the position of the first that doesn't fit; then no map is made, and what was put and
+    /// what is left is dropped. Each item costs one scan.
+    ///
+    /// The answer is `Err` exactly where the items have more than `N` distinct keys.
+    pub fn try_from_iter<I: Iterator<Item = (K, V)>>(items: I) -> Result<Self, Overfull>
+        requires can { I.can_next items }
+        requires ends { UpTo (I.remaining items) most_items }
+        ensures built { IfOk result (BuiltFrom K.eq I.next_gives N items) }
+        ensures misfit { IfErr result (λ e. MisfitAt K.eq I.next_gives N items e.at) }
+        ensures runs { IfOk result (λ map. WholeRun I.next_gives items (λ p. map ≡ build K.eq p.items)) }
+    {
+        let mut map = Map::new();
+        let mut at = 0;
+        for (key, value) in items {
+            if map.checked_insert(key, value).is_none() {
+                return Err(Overfull { at });
+            }
+            at += 1;
+        }
+        Ok(map)
+    }
+}

@@ -1,0 +1,71 @@
+//! The calls that hand each value to a closure for writing.
+//!
+//! A contract says what the closure was called on, in which order, and that each value is what its call left. What the
+//! closure's own captures hold afterwards isn't said.
+ghost use Rattle.std.specs.Prelude.{◌≡◌, map};
+ghost use Rattle.std.specs.Set.{distinct_count};
+ghost use Rattle.micromap_core.specs.Closures.{MayUpdateAll, MayUpdateDisjoint, UpdatesAll, UpdatesDisjoint};
+ghost use Rattle.micromap_core.specs.Pairs.{has};
+ghost use Rattle.micromap_core.specs.Retain.{MayRetain, Retains};
+
+use super::Map;
+
+impl<K: Eq + Drop, V: Drop, const N: usize> Map<K, V, N> {
+    /// Keeps the pairs for which `keep` answers `true`, with the values that it left, and drops the others.
+    ///
+    /// The first pair is visited first. After a yes the next is the front-most pair not yet visited, after a no the
+    /// last one. Each pair is visited once, and the kept ones stand in the order of their visits. It compares no key.
+    pub fn retain<F: FnMut(&K, &mut V) -> bool>(&mut self, mut keep: F)
+        requires { MayRetain F.FnMut keep self.old }
+        ensures { Retains F.FnMut keep self.old self.new }
+    {
+        let mut index = 0;
+        while index < self.len() {
+            if self.visit_at(index, &mut keep) {
+                index += 1;
+            } else {
+                self.take_at(index);
+            }
+        }
+    }
+}
+
+impl<K: Eq, V, const N: usize> Map<K, V, N> {
+    /// Calls `update` at each pair from the front. Keys, order and length stay. It compares no key.
+    pub fn update_all<F: FnMut(&K, &mut V)>(&mut self, mut update: F)
+        requires { MayUpdateAll F.FnMut update self.old }
+        ensures { UpdatesAll F.FnMut update self.old self.new }
+    {
+        for index in 0..self.len() {
+            self.visit_at(index, &mut update);
+        }
+    }
+
+    /// Calls `update` with the position in `keys` and the value of each key that is stored, in the order of `keys`, and
+    /// answers which are. No other value changes.
+    ///
+    /// The keys must be pairwise unequal: `==` of them tells. Each is looked up by one scan.
+    pub fn update_disjoint<const J: usize, F: FnMut(usize, &mut V)>(
+        &mut self,
+        keys: &[K; J],
+        mut update: F,
+    ) -> [bool; J]
+        // The number of distinct keys is computed where the keys are written out, so that such a call needs no proof.
+        requires distinct { distinct_count K.eq keys.now ≡ J }
+        requires callable { MayUpdateDisjoint K.eq F.FnMut update self.old keys.now }
+        ensures answer { result ≡ map (has K.eq self.old) keys.now }
+        ensures pairs { UpdatesDisjoint K.eq F.FnMut update self.old keys.now self.new }
+    {
+        let mut found = [false; J];
+        for (position, key) in keys.iter().enumerate() {
+            found[position] = match self.get_mut(key) {
+                Some(value) => {
+                    update(position, value);
+                    true
+                }
+                None => false,
+            };
+        }
+        found
+    }
+}

@@ -1,0 +1,84 @@
+//! Comparing two maps, whose capacities may differ.
+ghost use Rattle.std.specs.Prelude.{◌≡◌, ◌↔◌, IsTrue, IsFalse, IsNone, IfSome};
+ghost use Rattle.std.specs.Bool.{OnTrue};
+ghost use Rattle.std.specs.Cmp.{partial_equiv_from_equiv};
+ghost use Rattle.std.specs.Option.{option_copied};
+ghost use Rattle.micromap_core.specs.Fair.{SameForGood, ToldApart};
+ghost use Rattle.micromap_core.specs.Same.{is_same, Same, DiffersAt, first_unequal, first_missing, first_difference};
+ghost use Rattle.micromap_core.specs.SameLaws.{is_same_equiv};
+
+use super::Map;
+
+impl<K: Eq, V: Eq, const N: usize> Map<K, V, N> {
+    /// Whether the two maps are the same: each pair of either has an equal key with an equal value in the other. Neither
+    /// order nor capacity matters. It costs what `differs_at` does.
+    ///
+    /// The answer is yes exactly where no fair list of keyed calls tells the two apart, and a yes outlasts every such
+    /// list: all answers agree, and the two are the same afterwards. A list of calls is fair where, at each insertion of
+    /// a key that neither map has at that moment, both have room or neither has.
+    pub fn eq_with<const M: usize>(&self, other: &Map<K, V, M>) -> bool
+        ensures answer { IsTrue result ↔ Same K.eq V.eq self.now other.now }
+        ensures told_apart { IsFalse result ↔ ToldApart K.eq V.eq N M self.now other.now }
+        ensures outlasts { OnTrue result (SameForGood K.eq V.eq N M self.now other.now) }
+    {
+        // What holds of each map's content is learnt from `len`.
+        let _held = (self.len(), other.len());
+        self.differs_at(other).is_none()
+    }
+
+    /// A stored key at which `get` on the two maps doesn't agree, or `None` where the maps are the same: the first key
+    /// of this map that `other` lacks or has with an unequal value, else the first key of `other` that this map lacks.
+    ///
+    /// Each key that is tried costs one scan of the map that it isn't from.
+    pub fn differs_at<'a, const M: usize>(&'a self, other: &'a Map<K, V, M>) -> Option<&'a K>
+        ensures answer { option_copied result ≡ first_difference K.eq V.eq self.now other.now }
+        ensures none { IsNone result ↔ Same K.eq V.eq self.now other.now }
+        ensures differs { IfSome result (λ k. DiffersAt K.eq V.eq self.now other.now k.now) }
+    {
+        // What holds of each map's content is learnt from `len`.
+        let _held = (self.len(), other.len());
+        match self.first_unequal(other) {
+            Some(key) => Some(key),
+            None => other.first_missing(self),
+        }
+    }
+
+    // The first key that `other` lacks or has with an unequal value.
+    fn first_unequal<const M: usize>(&self, other: &Map<K, V, M>) -> Option<&K>
+        ensures { option_copied result ≡ first_unequal K.eq V.eq self.now other.now }
+    {
+        for (key, value) in self {
+            if other.get(key) != Some(value) {
+                return Some(key);
+            }
+        }
+        None
+    }
+
+    // The first key that `other` lacks.
+    fn first_missing<const M: usize>(&self, other: &Map<K, V, M>) -> Option<&K>
+        ensures { option_copied result ≡ first_missing K.eq V.eq self.now other.now }
+    {
+        for key in self.keys() {
+            if !other.contains_key(key) {
+                return Some(key);
+            }
+        }
+        None
+    }
+}
+
+/// `eq_with` within one type.
+impl<K: Eq, V: Eq, const N: usize> PartialEq for Map<K, V, N> {
+    ghost eq = { is_same K.eq V.eq };
+
+    ghost laws = { partial_equiv_from_equiv (is_same_equiv K.Eq.laws V.Eq.laws) };
+
+    fn eq(&self, other: &Map<K, V, N>) -> bool {
+        self.eq_with(other)
+    }
+}
+
+impl<K: Eq, V: Eq, const N: usize> Eq for Map<K, V, N> {
+    ghost laws = { is_same_equiv K.Eq.laws V.Eq.laws };
+}

@@ -1,0 +1,52 @@
+//! Printing a map.
+ghost use Rattle.micromap_core.specs.Print.{map_text};
+
+use super::Map;
+use std::fmt;
+use std::fmt::Write;
+
+/// `{k: v, k: v}`, from the front. Width and other flags are ignored; an error of the writer ends it with that error.
+impl<K: Eq + fmt::Display, V: fmt::Display, const N: usize> fmt::Display for Map<K, V, N> {
+    ghost output = { map_text K.output V.output };
+
+    ghost styled_output = { λ pairs _. map_text K.output V.output pairs };
+
+    fn fmt<W: fmt::Write>(&self, f: &mut fmt::Formatter<W>) -> fmt::Result {
+        let mut lead = "";
+        f.write_str("{")?;
+        for (key, value) in self {
+            let mut out = Unstyled { f: &mut *f };
+            write!(out, "{lead}{key}: {value}")?;
+            lead = ", ";
+        }
+        f.write_str("}")
+    }
+}
+
+// A formatter as a mere writer, whose options no text sees.
+#[derive(Drop)]
+struct Unstyled<'a, W: fmt::Write> {
+    f: &'a mut fmt::Formatter<W>,
+}
+
+impl<'a, W: fmt::Write> fmt::Write for Unstyled<'a, W> {
+    ghost use Rattle.std.specs.Prelude.{◌≡◌, Ok};
+    ghost use Rattle.std.specs.Fmt.{WritesStyledOnOk};
+
+    ghost write_str_gives = { λ old text new. WritesStyledOnOk W.write_str_gives old.f.now (Ok tt) text new.f.now × (new.f.ghost_name ≡ old.f.ghost_name) };
+
+    fn write_str(&mut self, text: &str) -> fmt::Result {
+        self.f.write_str(text)
+    }
+}
+
+/// As Rust prints a map, from the front.
+impl<K: Eq + fmt::Debug, V: fmt::Debug, const N: usize> fmt::Debug for Map<K, V, N> {
+    fn fmt<W: fmt::Write>(&self, f: &mut fmt::Formatter<W>) -> fmt::Result {
+        let mut out = f.debug_map();
+        for (key, value) in self {
+            out.entry(key, value);
+        }
+        out.finish()
+    }
+}

@@ -1,0 +1,53 @@
+//! What stands in a filled slot.
+ghost use Rattle.std.specs.Prelude.{◌≡◌, Some, IsSome};
+ghost use Rattle.std.specs.Borrow.{sem};
+ghost use Rattle.micromap_walk.specs.Lends.{lends_item};
+
+// A list with nothing at index 1.
+const ONE: [usize; 1] = [0];
+
+// Stands where nothing comes. `unreachable!()` alone is compiled to a test and a stop, in every turn of every loop; a
+// loop up to what lies past the end of a list tells the compiler that it can leave the test out.
+macro_rules! nowhere {
+    () => {{
+        for _ in 0..ONE[1] {}
+        unreachable!()
+    }};
+}
+
+/// The item in a filled slot.
+#[inline]
+pub fn item_of<X>(slot: &Option<X>) -> &X
+    requires { IsSome slot.now }
+    ensures { slot.now ≡ Some result.now }
+{
+    match slot {
+        Some(item) => item,
+        None => nowhere!(),
+    }
+}
+
+/// The item in a filled slot, for writing.
+#[inline]
+pub fn item_of_mut<X>(slot: &mut Option<X>) -> &mut X
+    requires { IsSome slot.old }
+    ensures* writes_back { sem 𝓛 (lends_item X.row slot.entry result) }
+    ensures answer { slot.old ≡ Some result.now }
+{
+    match slot {
+        Some(item) => item,
+        None => nowhere!(),
+    }
+}
+
+/// Takes the item out of a filled slot.
+#[inline]
+pub fn into_item<X>(slot: Option<X>) -> X
+    requires { IsSome slot }
+    ensures { slot ≡ Some result }
+{
+    match slot {
+        Some(item) => item,
+        None => nowhere!(),
+    }
+}
