@@ -1,21 +1,16 @@
 -- Pairwise unequal items that are put one after the other, or their clones: each is new, and goes last.
-use Rattle.std.proofs.Common.{◌≡◌, ℕ, ◌+◌, ◌<◌, ◌≤◌, Bool, true, false, ◌||◌, List, [], ◌∷◌, ◌++◌, length, get_or, if◌then◌else◌, IsTrue, refl, ap, sym, subst, ◌∙◌, append_assoc, arith}
+use Rattle.std.proofs.Common.{◌≡◌, ℕ, ◌<◌, ◌≤◌, Bool, true, false, ◌||◌, List, [], ◌∷◌, ◌++◌, length, get_or, if◌then◌else◌, IsTrue, refl, ap, sym, subst, ◌∙◌, append_assoc, arith}
 use Rattle.std.specs.Cmp.{IsEquivalence}
-use Rattle.std.specs.List.{AllByRecursion, AllZip, IsDistinct}
+use Rattle.std.specs.List.{AllZip, IsDistinct}
 use Rattle.std.specs.Set.{ClonesAreEqual}
 use Rattle.std.proofs.Math.Seq.{get_or-append_seam}
 use Rattle.std.proofs.lemmas.List.{append-nil, length-append}
 use Rattle.std.proofs.lemmas.List.Elements.{AllZip-push, length_all_zip}
-use Rattle.std.proofs.lemmas.Map.Keys.{IsDistinct-head, IsDistinct-tail}
+use Rattle.micromap_core.proofs.DistinctLemmas.{new_behind}
 use Rattle.micromap.specs.Extend.{add_all}
 use Rattle.micromap.specs.Items.{add, contains, item_fits}
 use Rattle.std.proofs.Math.Bool.{or-true}
 use Rattle.std.proofs.lemmas.Bool.{lt-ltb}
-
--- what holds of each element holds of the one behind the first ones
-at_seam : {T : Type 0} (P : T → Type 0) (ys : List T) (x : T) (xs : List T) → AllByRecursion P (ys ++ x ∷ xs) → P x
-at_seam P [] x xs all = all.0
-at_seam P (y ∷ ys) x xs all = at_seam P ys x xs all.1
 
 -- with room each item fits
 fits_room : {T : Type 0} (eq : T → T → Bool) (N : ℕ) (items : List T) (x : T) → length items < N → IsTrue (item_fits eq N items x)
@@ -27,17 +22,10 @@ module _ {T : Type 0} (eq : T → T → Bool) where
   added_new items x new = ap (λ b. if b then items else items ++ x ∷ []) new
 
 module _ {T : Type 0} {eq : T → T → Bool} (laws : IsEquivalence eq) where
-  -- of pairwise unequal items, the first ones have none that equals the next
-  pub new_behind : (ys : List T) (x : T) (xs : List T) → IsDistinct eq (ys ++ x ∷ xs) → contains eq ys x ≡ false
-  new_behind [] x xs distinct = refl
-  new_behind (y ∷ ys) x xs distinct =
-      let differs : eq x y ≡ false = laws.symm x y ∙ at_seam (λ z. eq y z ≡ false) ys x xs (IsDistinct-head eq y (ys ++ x ∷ xs) distinct) in
-      ap (λ b. b || contains eq ys x) differs ∙ new_behind ys x xs (IsDistinct-tail eq y (ys ++ x ∷ xs) distinct)
-
   added_in_turn : (ys xs : List T) → IsDistinct eq (ys ++ xs) → add_all eq ys xs ≡ ys ++ xs
   added_in_turn ys [] distinct = sym (append-nil ys)
   added_in_turn ys (x ∷ xs) distinct =
-      ap (λ l. add_all eq l xs) (added_new eq ys x (new_behind ys x xs distinct))
+      ap (λ l. add_all eq l xs) (added_new eq ys x (new_behind laws ys x xs distinct))
       ∙ added_in_turn (ys ++ x ∷ []) xs (subst (IsDistinct eq) (sym (append_assoc ys (x ∷ []) xs)) distinct)
       ∙ append_assoc ys (x ∷ []) xs
 

@@ -1,26 +1,20 @@
 -- A set's items are the keys of its map's pairs: what each word on pairs says of the keys.
-use Rattle.std.proofs.Common.{◌≡◌, ℕ, ◌-◌, ◌<◌, ◌||◌, nat_lt, Bool, true, false, List, [], ◌∷◌, ◌++◌, length, map, get_or, reverse, take, drop, Option, Some, None, is_some, if◌then◌else◌, refl, ap, sym, ◌∙◌, arith}
+use Rattle.std.proofs.Common.{◌≡◌, ℕ, ◌||◌, nat_lt, Bool, true, false, List, [], ◌∷◌, ◌++◌, length, reverse, Option, Some, None, is_some, if◌then◌else◌, refl, ap, sym, ◌∙◌, arith}
 use Rattle.std.specs.List.{AllZip, find, list_any}
 use Rattle.std.specs.Map.{keys_of, lookup, lookup_entry, lookup_key, set_value, set_key}
 use Rattle.std.specs.Option.{option_map, option_map_or}
 use Rattle.std.proofs.lemmas.Bool.{false≢true}
-use Rattle.std.specs.List.{take-map}
-use Rattle.std.proofs.lemmas.List.{get_or-map, map-append, map_push, reverse-append, length-map, drop-map}
+use Rattle.std.proofs.lemmas.List.{map_push, reverse-append, length-map}
 use Rattle.micromap_core.specs.Clones.{IsPairClone}
 use Rattle.micromap_core.specs.Pairs.{fits, has, pair, put, put_key, take_out, take_out_by, close_gap}
 use Rattle.micromap_core.specs.Probe.{pair_matched, take_out_matched}
+use Rattle.micromap_core.proofs.Lists.{map-close_gap}
 use Rattle.micromap_core.proofs.PairsLemmas.{keys_of-put_stored, keys_of-put_new}
 use Rattle.micromap.specs.Items.{add, contains, exchange, item, item_fits, item_matched, take_item, take_item_by, take_item_matched}
 
 module _ {T V : Type 0} where
   pub close_gap-keys : (pairs : List (T × V)) → close_gap (keys_of pairs) ≡ keys_of (close_gap pairs)
-  close_gap-keys pairs =
-      let key : T × V → T = λ p. p.0 in
-      let n = length pairs - 1 in
-      let same : length (keys_of pairs) - 1 ≡ n = ap (λ l. l - 1) (length-map pairs key) in
-      ap (λ m. drop m (keys_of pairs) ++ take m (keys_of pairs)) same
-      ∙ ap (λ l. l ++ take n (keys_of pairs)) (drop-map key n pairs) ∙ ap (λ l. map key (drop n pairs) ++ l) (take-map key n pairs)
-      ∙ sym (map-append key (drop n pairs) (take n pairs))
+  close_gap-keys pairs = sym (map-close_gap (λ p. p.0) pairs)
 
   pub reverse-keys : (pairs : List (T × V)) → reverse (keys_of pairs) ≡ keys_of (reverse pairs)
   reverse-keys [] = refl
@@ -49,6 +43,10 @@ module _ {T V : Type 0} where
     unfolding take_item_by take_out_by
     take-keys [] = refl
     take-keys (e ∷ es) = grind (arith, take-keys es, close_gap-keys es)
+
+  pub take_item-keys : (eq : T → T → Bool) (pairs : List (T × V)) (k : T) → take_item eq (keys_of pairs) k ≡ keys_of (take_out eq pairs k)
+  unfolding take_item take_out
+  take_item-keys eq pairs k = take-keys (eq k) pairs
 
   pub fits-keys : (eq : T → T → Bool) (N : ℕ) (pairs : List (T × V)) (k : T) → item_fits eq N (keys_of pairs) k ≡ fits eq N pairs k
   fits-keys eq N pairs k = ap (λ b. b || nat_lt (length (keys_of pairs)) N) (any-keys (eq k) pairs) ∙ ap (λ n. has eq pairs k || nat_lt n N) (length-map pairs (λ (e : T × V). e.0))
@@ -102,13 +100,15 @@ module _ {T V : Type 0} (eq : T → T → Bool) (test : T → Bool) (pairs : Lis
 
   take-at : (found : Option T) → option_map_or (take_item eq (keys_of pairs)) found (keys_of pairs) ≡ keys_of (option_map_or (take_out eq pairs) found pairs)
   take-at None = refl
-  take-at (Some k) = take-keys (eq k) pairs
+  take-at (Some k) = take_item-keys eq pairs k
 
   -- the calls by probe
   pub item_matched-keys : item_matched eq test (keys_of pairs) ≡ option_map (λ p. p.0) (pair_matched eq test pairs)
+  unfolding item_matched pair_matched
   item_matched-keys = ap (λ found. option_map_or (item eq (keys_of pairs)) found None) (matched-keys test pairs) ∙ item-at (lookup_key test pairs)
 
   pub take_item_matched-keys : take_item_matched eq test (keys_of pairs) ≡ keys_of (take_out_matched eq test pairs)
+  unfolding take_item_matched take_out_matched
   take_item_matched-keys = ap (λ found. option_map_or (take_item eq (keys_of pairs)) found (keys_of pairs)) (matched-keys test pairs) ∙ take-at (lookup_key test pairs)
 
 module _ {T V : Type 0} where

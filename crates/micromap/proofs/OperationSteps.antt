@@ -1,5 +1,5 @@
 -- Where a call of `next` leads an iterator over an operation, and what its hint bounds.
-use Rattle.std.proofs.Common.{◌≡◌, ℕ, suc, ◌+◌, ◌-◌, ◌^◌, ◌≤◌, min, Bool, true, false, not, nat_lt, List, [], ◌∷◌, ◌++◌, length, drop, filter, Option, Some, None, if◌then◌else◌, IfSome, refl, ap, sym, ◌∙◌, arith}
+use Rattle.std.proofs.Common.{◌≡◌, ℕ, suc, ◌+◌, ◌-◌, ◌^◌, ◌≤◌, min, Bool, true, false, not, nat_lt, List, [], ◌∷◌, length, drop, filter, Option, Some, None, if◌then◌else◌, IfSome, refl, ap, sym, ◌∙◌, arith}
 use Rattle.std.specs.Borrow.{Bor}
 use Rattle.std.specs.Cmp.{IsEquivalence}
 use Rattle.std.specs.Iterator.{MakesProgress, UpTo, at_most, item_count}
@@ -7,12 +7,10 @@ use Rattle.std.specs.Iterator.Runs.{ItemsMapTo, EveryRun, YieldsInOrder}
 use Rattle.std.specs.List.{IsDistinct, after_first, position_or_len}
 use Rattle.std.specs.Map.Iter.{deref}
 use Rattle.std.proofs.iter.runs.Sources.{as_is, from_front}
-use Rattle.std.proofs.lemmas.Bool.{ltb-true}
-use Rattle.std.proofs.lemmas.List.{length-append}
 use Rattle.std.proofs.lemmas.List.Filters.{length-filter_both}
 use Rattle.micromap_core.proofs.DistinctLemmas.{length-filter_members}
 use Rattle.micromap.specs.Items.{contains}
-use Rattle.micromap.specs.Operations.{both_hints, difference, difference_left, difference_on, if_empty, intersection, intersection_left, intersection_on, sum_of, symmetric_left, symmetric_on, union_left, union_on, GivesNext, Walk}
+use Rattle.micromap.specs.Operations.{difference, difference_left, difference_on, intersection, intersection_left, intersection_on, sum_of, GivesNext, Walk}
 
 module _ {S A X : Type 0} (shows : A → X) (left : S → List X) (on : S → S) where
   -- each run of such an iterator gives what was left, in order

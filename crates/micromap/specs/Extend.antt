@@ -2,7 +2,7 @@
 use Rattle.std.specs.Prelude.{ℕ, Bool, List, [], Option}
 use Rattle.std.specs.List.{fold}
 use Rattle.std.specs.Set.{distinct_count}
-use Rattle.micromap_core.specs.Build.{each_fits, PutsAll, PutsUpTo, BuildsAll, BuildsUpTo}
+use Rattle.micromap_core.specs.Build.{each_fits, StopsAt, PutsAll, PutsUpTo, BuildsAll, BuildsUpTo}
 use Rattle.micromap.specs.Items.{add, item_fits}
 
 module _ {T : Type 0} (eq : T → T → Bool) where
@@ -17,6 +17,10 @@ module _ {T : Type 0} (eq : T → T → Bool) where
   -- whether each item fits a new set of capacity N when it is put
   abbrev pub all_items_fit : ℕ → List T → Bool
   all_items_fit N = each_fits (item_fits eq N) (add eq) []
+
+  -- the first of the items that doesn't fit stands at the position
+  abbrev pub ItemMisfitIn : ℕ → List T → List T → ℕ → Type 0
+  ItemMisfitIn N = StopsAt (item_fits eq N) (add eq)
 
   module _ {S : Type 0} (steps : S → Option T → S → Type 0) (N : ℕ) where
     -- the set has all that the iterator gave

@@ -5,6 +5,7 @@ use Rattle.std.specs.Borrow.{Bor}
 use Rattle.std.specs.Fn.{Mut, CalledAt, TakesAt}
 use Rattle.std.specs.Option.{option_map_or}
 use Rattle.std.specs.List.{IsDistinct, find, list_any}
+use Rattle.micromap_core.specs.Equalities.{Lawful}
 use Rattle.micromap_core.specs.Pairs.{close_gap}
 use Rattle.micromap_core.specs.Retain.{AtEachVisit, WalkKeeps}
 
@@ -19,6 +20,7 @@ module _ {T : Type 0} where
     pub record IsItems (N : ℕ) (items : List T) : Type 0 where
       pub unique : IsDistinct eq items
       pub bounded : length items ≤ N
+      pub lawful : Lawful eq
 
     -- the stored item that equals x
     abbrev pub item : List T → T → Option T
@@ -42,7 +44,7 @@ module _ {T : Type 0} where
     exchange (y ∷ ys) x = if eq x y then x ∷ ys else y ∷ exchange ys x
 
     -- without the item that equals x
-    abbrev pub take_item : List T → T → List T
+    unfoldable pub take_item : List T → T → List T
     take_item items x = take_item_by (eq x) items
 
   -- what a call by probe finds, where a probe is seen as the test of the items that it matches: each call does what
@@ -53,11 +55,11 @@ module _ {T : Type 0} where
 
   module _ (eq : T → T → Bool) (test : T → Bool) where
     -- the stored item
-    abbrev pub item_matched : List T → Option T
+    unfoldable pub item_matched : List T → Option T
     item_matched items = option_map_or (item eq items) (find test items) None
 
     -- without it
-    abbrev pub take_item_matched : List T → List T
+    unfoldable pub take_item_matched : List T → List T
     take_item_matched items = option_map_or (take_item eq items) (find test items) items
 
 module _ {F T : Type 0} (g : Mut F (Bor T × Unit {0}) Bool) where

@@ -1,11 +1,14 @@
 pub mod Extend
+pub mod ItemEntries
 pub mod Items
+pub mod Json
 pub mod Operations
 pub use Rattle.micromap_core.specs.Build
 pub use Rattle.micromap_core.specs.Calls
 pub use Rattle.micromap_core.specs.Clones
 pub use Rattle.micromap_core.specs.Closures
 pub use Rattle.micromap_core.specs.Entry
+pub use Rattle.micromap_core.specs.Equalities
 pub use Rattle.micromap_core.specs.Fair
 pub use Rattle.micromap_core.specs.Lends
 pub use Rattle.micromap_core.specs.Pairs
@@ -15,4 +18,6 @@ pub use Rattle.micromap_core.specs.ProbeLaws
 pub use Rattle.micromap_core.specs.Retain
 pub use Rattle.micromap_core.specs.Same
 pub use Rattle.micromap_core.specs.SameLaws
-pub mod tests
+pub use Rattle.micromap_core.specs.Steps
+pub use Rattle.micromap_core.specs.Stream
+pub use Rattle.micromap_core.specs.Texts

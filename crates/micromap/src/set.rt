@@ -12,6 +12,7 @@ mod print;
 mod probed;
 mod relation;
 mod retain;
+mod stream;
 mod walk;
 
 use crate::Map;

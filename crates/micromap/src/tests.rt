@@ -1,12 +1,10 @@
 //! What no contract says: values from outside, and that each call can be made as a user makes it.
 
-mod attributes;
 mod building;
 mod cloning;
 mod closures;
 mod comparison;
 mod entries;
-mod graph;
 mod keyed;
 mod map;
 mod marked;

@@ -4,17 +4,21 @@ ghost use Rattle.std.specs.List.{list_any};
 
 mod built;
 mod compared;
+mod counted;
+mod json;
 mod keyed;
 pub mod marked;
 mod operations;
 mod sets;
+mod streamed;
 mod walked;
 
 use std::alloc::Global;
 
 /// The numbers of the rows.
-pub const NUMBERS: [u8; 26] = [
-    1, 2, 3, 4, 5, 6, 7, 8, 9, 10, 11, 12, 13, 14, 15, 16, 17, 20, 21, 22, 23, 24, 28, 29, 30, 31,
+pub const NUMBERS: [u8; 32] = [
+    1, 2, 3, 4, 5, 6, 7, 8, 9, 10, 11, 12, 13, 14, 15, 16, 17, 18, 19, 20, 21, 22, 23, 24, 25, 26,
+    27, 28, 29, 30, 31, 32,
 ];
 
 /// Whether the values of the row came out, or `None` where there is no such row. A row that finds no memory is wrong.
@@ -39,15 +43,21 @@ pub fn row(alloc: Global, number: u8) -> Option<bool>
         15 => Some(operations::row_15()),
         16 => Some(sets::row_16()),
         17 => Some(sets::row_17(alloc).unwrap_or(false)),
+        18 => Some(json::row_18(alloc).unwrap_or(false)),
+        19 => Some(counted::row_19()),
         20 => Some(compared::row_20()),
         21 => Some(operations::row_21()),
         22 => Some(operations::row_22(alloc).unwrap_or(false)),
         23 => Some(operations::row_23().unwrap_or(false)),
         24 => Some(keyed::row_24(alloc).unwrap_or(false)),
+        25 => Some(streamed::row_25()),
+        26 => Some(streamed::row_26()),
+        27 => Some(json::row_27(alloc).unwrap_or(false)),
         28 => Some(built::row_28()),
         29 => Some(walked::row_29()),
         30 => Some(walked::row_30()),
         31 => Some(compared::row_31()),
+        32 => Some(counted::row_32()),
         _ => None,
     }
 }

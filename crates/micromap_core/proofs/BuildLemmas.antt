@@ -1,15 +1,20 @@
 -- Items that are put one after the other: one more, and all of them.
-use Rattle.std.proofs.Common.{◌≡◌, ℕ, zero, suc, ◌+◌, ◌<◌, Bool, true, false, ◌&&◌, not, List, [], ◌∷◌, ◌++◌, length, get_or, take, Option, Some, if◌then◌else◌, IsTrue, ap, sym, subst, ◌∙◌, arith}
+use Rattle.std.proofs.Common.{◌≡◌, ℕ, zero, suc, ◌+◌, ◌<◌, Bool, true, false, ◌&&◌, not, List, [], ◌∷◌, ◌++◌, length, get_or, take, Option, Some, if◌then◌else◌, IsTrue, refl, ap, sym, subst, ◌∙◌, arith}
 use Rattle.std.specs.Cmp.{first_so, second_so}
 use Rattle.std.specs.Cmp.Derive.{both_true}
 use Rattle.std.specs.Iterator.{Drains, YieldsThen}
-use Rattle.std.specs.Iterator.Runs.{WholeRun}
+use Rattle.std.specs.Iterator.Runs.{SomeRun, WholeRun}
 use Rattle.std.specs.List.{fold}
 use Rattle.std.proofs.Math.Bool.{and-true, and_assoc}
 use Rattle.std.proofs.iter.runs.Consumers.{total_runs}
-use Rattle.std.proofs.lemmas.List.{length_push, take_more}
+use Rattle.std.proofs.iter.runs.Made.{run_of_turn}
+use Rattle.std.proofs.lemmas.List.{length_push, take_all, take_at, take_more}
 use Rattle.std.proofs.lemmas.List.Sums.{fold_push}
-use Rattle.micromap_core.specs.Build.{each_fits, PutsAll, PutsUpTo}
+use Rattle.micromap_core.specs.Build.{each_fits, PutsAll, PutsUpTo, StopsAt}
+
+not_both : (a b : Bool) → IsTrue (not b) → IsTrue (not (a && b))
+not_both false b not_b = refl
+not_both true b not_b = not_b
 
 module _ {C X : Type 0} (fits : C → X → Bool) (put : C → X → C) where
   fits_within : (old : C) (items : List X) (index : ℕ) (d : X) → index < length items → IsTrue (each_fits fits put old items) → fits (fold put old (take index items)) (get_or items index d) ≡ true
@@ -58,6 +63,17 @@ module _ {C X : Type 0} (fits : C → X → Bool) (put : C → X → C) where
     -- read as a run of the iterator
     pub run_puts : PutsAll fits put steps old it now → WholeRun steps it (λ p. now ≡ fold put old p.items)
     run_puts all = total_runs steps it _ (λ items. now ≡ fold put old items) (all.items, λ _. all.gave, all.made) (tt {0})
+
+    -- the same up to an item that doesn't fit
+    pub run_stops : (position : ℕ) → PutsUpTo fits put steps old it position now → SomeRun steps it (λ p. (p.len ≡ position + 1) × StopsAt fits put old p.items position)
+    run_stops position puts =
+        let turn = run_of_turn steps it puts.before puts.gave.0 puts.gave.1 puts.item puts.rest puts.gave.2 in
+        let all : List X = puts.before ++ puts.item ∷ [] in
+        let front : take position turn.0.items ≡ puts.before = ap (take position) turn.2.0 ∙ take_at puts.before (puts.item ∷ []) position (sym puts.position_is) in
+        let whole : take (position + 1) turn.0.items ≡ all = ap (take (position + 1)) turn.2.0 ∙ take_all (position + 1) all (omega (arith, length_push puts.before puts.item, puts.position_is)) in
+        let last : IsTrue (not (fits (fold put old puts.before) puts.item)) = ap (λ c. not (fits c puts.item)) (sym puts.made) ∙ puts.misfit in
+        let stops : IsTrue (not (each_fits fits put old all)) = ap not (each_fits-push old puts.before puts.item) ∙ not_both (each_fits fits put old puts.before) _ last in
+        (turn.0, turn.1, (turn.2.1 ∙ ap (λ n. n + 1) (sym puts.position_is), (ap (each_fits fits put old) front ∙ puts.fit, ap (λ items. not (each_fits fits put old items)) whole ∙ stops)))
 
   -- the item of a list at an index
   module _ (old : C) (items : List X) (index : ℕ) (d : X) (now : C) (within : index < length items) (made : now ≡ fold put old (take index items)) where

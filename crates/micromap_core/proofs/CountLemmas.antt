@@ -1,5 +1,5 @@
 -- A content that is built has one key for each distinct key of its items, so they all fit where there are few of those.
-use Rattle.std.proofs.Common.{◌≡◌, ℕ, ◌<◌, ◌≤◌, nat_lt, nat_le, Bool, true, false, ◌&&◌, ◌||◌, ◌⊎◌, inl, inr, List, [], ◌∷◌, ◌++◌, length, get_or, map, take, Option, IsTrue, refl, ap, sym, subst, ◌∙◌, add-one, arith}
+use Rattle.std.proofs.Common.{◌≡◌, ℕ, ◌<◌, ◌≤◌, nat_lt, nat_le, Bool, true, false, ◌&&◌, not, ◌||◌, ◌⊎◌, inl, inr, List, [], ◌∷◌, ◌++◌, length, get_or, map, take, Option, IsTrue, refl, ap, sym, subst, ◌∙◌, add-one, arith}
 use Rattle.std.specs.Cmp.{IsEquivalence}
 use Rattle.std.specs.List.{fold, list_any, IsDistinct}
 use Rattle.std.specs.Map.{keys_of}
@@ -64,22 +64,35 @@ module _ {C X K : Type 0} {eq : K → K → Bool} (laws : IsEquivalence eq) {N :
         | inr many ↦ ap (λ b. b && each_fits fits put (put c x) items) many.0 ∙ sym (lt-leb _ N (omega (arith, many.1, longer)))
       ]
 
+  -- what is built has the distinct keys of its items
+  pub keys-built : (items : List X) → IsDistinct eq (keys (fold put empty items)) × ((q : K) → is_member eq (keys (fold put empty items)) q ≡ is_member eq (map key items) q)
+  keys-built items =
+      let built = keys-fold empty items (subst (IsDistinct eq) (sym keyed.none) (IsDistinct-nil eq)) in
+      (built.0, λ q. built.1 q ∙ ap (λ ks. is_member eq ks q || is_member eq (map key items) q) keyed.none)
+
+  pub length-built : (items : List X) → length (keys (fold put empty items)) ≡ count items
+  length-built items = let built = keys-built items in length-from_keys laws _ (map key items) built.0 built.1 ∙ sym (keyed.counts items)
+
   all_fit-count : (items : List X) → each_fits fits put empty items ≡ nat_le (count items) N
   all_fit-count items =
-      let distinct : IsDistinct eq (keys empty) = subst (IsDistinct eq) (sym keyed.none) (IsDistinct-nil eq) in
-      let built = keys-fold empty items distinct in
-      each_fits-count empty items distinct (rw (keyed.none) (omega arith))
-      ∙ ap (λ n. nat_le n N) (length-from_keys laws _ (map key items) built.0 (λ q. built.1 q ∙ ap (λ ks. is_member eq ks q || is_member eq (map key items) q) keyed.none) ∙ sym (keyed.counts items))
+      each_fits-count empty items (subst (IsDistinct eq) (sym keyed.none) (IsDistinct-nil eq)) (rw (keyed.none) (omega arith))
+      ∙ ap (λ n. nat_le n N) (length-built items)
+
+  -- items that all fit have few distinct keys, and with one more that doesn't they have too many
+  pub few_distinct : (items : List X) → IsTrue (each_fits fits put empty items) → count items ≤ N
+  few_distinct items fit = leb-true _ N (sym (all_fit-count items) ∙ fit)
+
+  pub many_distinct : (items : List X) (x : X) → IsTrue (not (fits (fold put empty items) x)) → N < count (items ++ x ∷ [])
+  many_distinct items x misfit =
+      let many : each_fits fits put empty (items ++ x ∷ []) ≡ false = each_fits-push fits put empty items x ∙ ap (λ b. each_fits fits put empty items && b) (not-true _ misfit) ∙ and-false _ in
+      leb-false _ N (sym (all_fit-count (items ++ x ∷ [])) ∙ many)
 
   module _ {S : Type 0} {steps : S → Option X → S → Type 0} {it : S} {now : C} where
     pub builds_all : PutsAll fits put steps empty it now → BuildsAll fits put steps count N empty it now
-    builds_all all = record { all = all; few = leb-true _ N (sym (all_fit-count all.items) ∙ all.fit) }
+    builds_all all = record { all = all; few = few_distinct all.items all.fit }
 
     pub builds_up_to : {position : ℕ} → PutsUpTo fits put steps empty it position now → BuildsUpTo fits put steps count N empty it position
-    builds_up_to first =
-        let refused : fits (fold put empty first.before) first.item ≡ false = ap (λ c. fits c first.item) (sym first.made) ∙ not-true _ first.misfit in
-        let many : each_fits fits put empty (first.before ++ first.item ∷ []) ≡ false = each_fits-push fits put empty first.before first.item ∙ ap (λ b. each_fits fits put empty first.before && b) refused ∙ and-false _ in
-        record { built = now; first = first; many = leb-false _ N (sym (all_fit-count (first.before ++ first.item ∷ [])) ∙ many) }
+    builds_up_to first = record { built = now; first = first; many = many_distinct first.before first.item (ap (λ c. not (fits c first.item)) (sym first.made) ∙ first.misfit) }
 
   -- as many items as there is room for
   module _ (items : List X) (long : length items ≡ N) where

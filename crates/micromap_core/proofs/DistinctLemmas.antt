@@ -1,13 +1,15 @@
 -- Pairwise unequal items: parts of their list and lists put together, and how many of them another list has.
-use Rattle.std.proofs.Common.{◌≡◌, ◌≤◌, Bool, true, false, ◌||◌, List, [], ◌∷◌, ◌++◌, filter, length, if◌then◌else◌, refl, ap, sym, ◌∙◌}
-use Rattle.std.specs.Cmp.{IsEquivalence, second_so}
-use Rattle.std.specs.List.{AllByRecursion, IsDistinct, list_any}
+use Rattle.std.proofs.Common.{◌≡◌, ◌≢◌, ◌<◌, ◌≤◌, Bool, true, false, ◌&&◌, ◌||◌, List, [], ◌∷◌, ◌++◌, filter, get_or, length, if◌then◌else◌, refl, ap, sym, subst, ◌∙◌, arith}
+use Rattle.std.specs.Cmp.{IsEquivalence, first_so, second_so}
+use Rattle.std.specs.Cmp.Derive.{both_true}
+use Rattle.std.specs.List.{AllByRecursion, IsDistinct, list_all, list_any}
 use Rattle.std.specs.Set.{is_member}
 use Rattle.std.proofs.Math.Bool.{or-true}
 use Rattle.std.proofs.lemmas.Bool.{false≢true}
 use Rattle.std.proofs.lemmas.List.Elements.{All-append, All-filter, All-from_recursion, recursion_from_All}
+use Rattle.std.proofs.lemmas.List.Sums.{AllPass-from_list_all, count_by-le-length, length-filter, list_all-from_AllPass}
 use Rattle.std.proofs.lemmas.Map.Keys.{IsDistinct-cons, IsDistinct-head, IsDistinct-tail}
-use Rattle.std.proofs.lemmas.Map.Made.{is_member-filter, length-le_from_is_member}
+use Rattle.std.proofs.lemmas.Map.Made.{All-is_member, is_member-filter, length-le_from_is_member}
 use Rattle.std.proofs.lemmas.Map.Steps.{list_any_congr}
 
 module _ {T : Type 0} (eq : T → T → Bool) where
@@ -47,3 +49,71 @@ module _ {T : Type 0} {eq : T → T → Bool} (laws : IsEquivalence eq) where
   length-filter_members xs ys distinct =
       length-le_from_is_member laws (filter (is_member eq ys) xs) ys (IsDistinct-filter eq (is_member eq ys) xs distinct)
       (λ q found. second_so _ _ (sym (is_member-filter laws (is_member eq ys) q (λ x same. list_any_congr laws q x ys same) xs) ∙ found))
+
+-- a test that each item passes keeps them all, and one that keeps as many as there are is passed by each
+filter_all : {T : Type 0} (test : T → Bool) (xs : List T) → list_all test xs ≡ true → filter test xs ≡ xs
+filter_all test [] all = refl
+filter_all test (x ∷ xs) all =
+    let passes : test x ≡ true = first_so (test x) (list_all test xs) all in
+    rw passes (ap (λ l. x ∷ l) (filter_all test xs (second_so (test x) (list_all test xs) all)))
+
+all_kept : {T : Type 0} (test : T → Bool) (xs : List T) → length xs ≤ length (filter test xs) → list_all test xs ≡ true
+all_kept test [] many = refl
+all_kept test (x ∷ xs) many = by (test x) (all_kept test xs) many
+  where
+    by : (b : Bool) → (length xs ≤ length (filter test xs) → list_all test xs ≡ true) → length (x ∷ xs) ≤ length (if b then x ∷ filter test xs else filter test xs) → (b && list_all test xs) ≡ true
+    by true rest many = rest (omega (arith, many))
+    by false rest many = absurd (omega (arith, many, length-filter test xs, count_by-le-length test xs))
+
+module _ {T : Type 0} {eq : T → T → Bool} (laws : IsEquivalence eq) (xs ys : List T) (distinct : IsDistinct eq xs) where
+  module _ (all : list_all (is_member eq ys) xs ≡ true) where
+    -- items that each have an equal one in ys are at most as many
+    pub length-le_from_members : length xs ≤ length ys
+    length-le_from_members = subst (λ l. length l ≤ length ys) (filter_all (is_member eq ys) xs all) (length-filter_members laws xs ys distinct)
+
+    -- and where they aren't fewer, each of ys has an equal one among them
+    pub members_turned : length ys ≤ length xs → list_all (is_member eq xs) ys ≡ true
+    members_turned few =
+        let shared : List T = filter (is_member eq xs) ys in
+        let each : list_all (is_member eq shared) xs ≡ true = list_all-from_AllPass (is_member eq shared) xs (λ i d within.
+        is_member-filter laws (is_member eq xs) (get_or xs i d) (λ x same. list_any_congr laws (get_or xs i d) x xs same) ys
+        ∙ both_true (AllPass-from_list_all (is_member eq ys) xs all i d within) (All-is_member laws xs i d within)) in
+        let many : length xs ≤ length shared = subst (λ l. length l ≤ length shared) (filter_all (is_member eq shared) xs each) (length-filter_members laws xs shared distinct) in
+        all_kept (is_member eq xs) ys (omega (arith, few, many))
+
+  -- of more items than ys has, some has no equal one there
+  pub missing_in_shorter : length ys < length xs → list_all (is_member eq ys) xs ≡ false
+  missing_in_shorter short = by (list_all (is_member eq ys) xs) refl
+    where
+      by : (b : Bool) → list_all (is_member eq ys) xs ≡ b → list_all (is_member eq ys) xs ≡ false
+      by true all = absurd (omega (arith, short, length-le_from_members all))
+      by false some = some
+
+-- of two lists that are equally long, one side tells of both; of two that aren't, one side fails
+module _ {T : Type 0} {eq : T → T → Bool} (laws : IsEquivalence eq) (xs ys : List T) (first : IsDistinct eq xs) (second : IsDistinct eq ys) where
+  pub both_sides : length xs ≡ length ys → list_all (is_member eq ys) xs ≡ (list_all (is_member eq ys) xs && list_all (is_member eq xs) ys)
+  both_sides long = by (list_all (is_member eq ys) xs) refl
+    where
+      by : (b : Bool) → list_all (is_member eq ys) xs ≡ b → b ≡ (b && list_all (is_member eq xs) ys)
+      by true all = sym (members_turned laws xs ys first all (omega (arith, long)))
+      by false some = refl
+
+  pub not_both_sides : length xs ≢ length ys → (list_all (is_member eq ys) xs && list_all (is_member eq xs) ys) ≡ false
+  not_both_sides apart = by (list_all (is_member eq ys) xs) (list_all (is_member eq xs) ys) refl refl
+    where
+      by : (a b : Bool) → list_all (is_member eq ys) xs ≡ a → list_all (is_member eq xs) ys ≡ b → (a && b) ≡ false
+      by true true one two = absurd (omega (arith, apart, length-le_from_members laws xs ys first one, length-le_from_members laws ys xs second two))
+      by true false one two = refl
+      by false b one two = refl
+
+-- what holds of each element holds of the one behind the first ones
+at_seam : {T : Type 0} (P : T → Type 0) (ys : List T) (x : T) (xs : List T) → AllByRecursion P (ys ++ x ∷ xs) → P x
+at_seam P [] x xs all = all.0
+at_seam P (y ∷ ys) x xs all = at_seam P ys x xs all.1
+
+-- of pairwise unequal items, the first ones have none that equals the next
+pub new_behind : {T : Type 0} {eq : T → T → Bool} (laws : IsEquivalence eq) (ys : List T) (x : T) (xs : List T) → IsDistinct eq (ys ++ x ∷ xs) → is_member eq ys x ≡ false
+new_behind laws [] x xs distinct = refl
+new_behind {eq = eq} laws (y ∷ ys) x xs distinct =
+    let differs : eq x y ≡ false = laws.symm x y ∙ at_seam (λ z. eq y z ≡ false) ys x xs (IsDistinct-head eq y (ys ++ x ∷ xs) distinct) in
+    ap (λ b. b || is_member eq ys x) differs ∙ new_behind laws ys x xs (IsDistinct-tail eq y (ys ++ x ∷ xs) distinct)

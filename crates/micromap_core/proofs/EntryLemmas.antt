@@ -5,7 +5,7 @@ use Rattle.std.proofs.lemmas.List.{set-set, append-nil}
 use Rattle.std.proofs.lemmas.Option.{slice_get_within}
 use Rattle.std.proofs.Math.Seq.{set-append_seam}
 use Rattle.micromap_core.specs.Found.{FoundAt, NotFound}
-use Rattle.micromap_core.specs.Pairs.{index_of, with_value_at, without_at}
+use Rattle.micromap_core.specs.Pairs.{index_of, take_out, with_value_at, without_at}
 use Rattle.micromap_core.specs.Entry.{Occupied, Vacant, entry_map_ref, entry_key, entry_put, entry_taken, IsEntryOf, IsWritten}
 use Rattle.micromap_core.specs.declared.entry.EntryIn.{EntryIn}
 use Rattle.micromap_core.specs.declared.entry.OccupiedIn.{OccupiedIn}
@@ -16,6 +16,7 @@ use Rattle.micromap_core.proofs.PairsLemmas.{with_value_at-put, push-put}
 module _ {K V : Type 0} (eq : K → K → Bool) (map : MutBor (List (K × V))) (k : K) where
   -- the key is stored at the index
   pub entry_at : (i : ℕ) → FoundAt (eq k) map.now i → IsEntryOf eq map k (Occupied (record { map = map; index = i }))
+  unfolding take_out
   entry_at i f = record {
     same_map = refl;
     pairs = refl;
@@ -29,6 +30,7 @@ module _ {K V : Type 0} (eq : K → K → Bool) (map : MutBor (List (K × V))) (
 
   -- the key is new
   pub new_entry : NotFound (eq k) map.now → index_of eq map.now k ≡ None → IsEntryOf eq map k (Vacant (record { map = map; key = k }))
+  unfolding take_out
   new_entry n missing = record {
     same_map = refl;
     pairs = refl;

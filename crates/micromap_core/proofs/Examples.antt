@@ -22,15 +22,15 @@ three = (1, 10) ∷ (2, 20) ∷ (3, 30) ∷ []
 
 -- the last pair moves into the gap, also where it goes itself
 taken : (take_out nat_eq three 1 ≡ (3, 30) ∷ (2, 20) ∷ []) × (take_out nat_eq three 2 ≡ (1, 10) ∷ (3, 30) ∷ []) × (take_out nat_eq three 3 ≡ (1, 10) ∷ (2, 20) ∷ [])
-unfolding take_out_by
+unfolding take_out take_out_by
 taken = (refl, refl, refl)
 
 taken_of_four : take_out nat_eq (put nat_eq three 4 40) 2 ≡ (1, 10) ∷ (4, 40) ∷ (3, 30) ∷ []
-unfolding put take_out_by
+unfolding put take_out take_out_by
 taken_of_four = refl
 
 taken_missing : take_out nat_eq three 9 ≡ three
-unfolding take_out_by
+unfolding take_out take_out_by
 taken_missing = refl
 
 -- an equal key is found by its index
@@ -48,12 +48,12 @@ putting = (refl, refl)
 
 -- four calls at capacity 1, of which the insertion of a new key into the full map is refused
 refusing : run nat_eq 1 one (insert 2 20 ∷ len ∷ remove 1 ∷ insert 3 30 ∷ []) ≡ (refused ∷ number 1 ∷ value (Some 10) ∷ value None ∷ [], (3, 30) ∷ [])
-unfolding put take_out_by
+unfolding put take_out take_out_by
 refusing = refl
 
 -- each of the other calls
 answering : run nat_eq 4 three (remove 1 ∷ insert_key_value 4 40 ∷ get_key_value 2 ∷ contains 1 ∷ remove_entry 3 ∷ is_empty ∷ get 9 ∷ clear ∷ is_empty ∷ []) ≡ (value (Some 10) ∷ entry None ∷ entry (Some (2, 20)) ∷ truth false ∷ entry (Some (3, 30)) ∷ truth false ∷ value None ∷ done ∷ truth true ∷ [], [])
-unfolding put put_key take_out_by
+unfolding put put_key take_out take_out_by
 answering = refl
 
 -- what an even number passes: after a no the last of the others comes first

@@ -14,8 +14,8 @@ use Rattle.micromap_core.specs.Calls.{Call, Answer, insert, insert_key_value, ge
 use Rattle.micromap_core.specs.Fair.{IsFairCall, IsFair, AnswersAgree, ToldApart, SameForGood}
 use Rattle.micromap_core.specs.Pairs.{at, pair, has, has_room, fits, put, put_key, take_out, IsUnique}
 use Rattle.micromap_core.specs.Same.{pair_eq, is_same, Same, DiffersAt}
-use Rattle.micromap_core.proofs.LookupLaws.{at_put_key, IsUnique-put, IsUnique-put_key, IsUnique-take_out}
-use Rattle.micromap_core.proofs.LookupLemmas.{at_put, at_take_out}
+use Rattle.micromap_core.proofs.Equalities.{lawful}
+use Rattle.micromap_core.proofs.MapLaws.{at_put, at_put_key, at_take_out, unique_put, unique_put_key, unique_take_out}
 use Rattle.micromap_core.proofs.SameLemmas.{FindAlike, alike_from_same, same_from_alike, differs_where_unlike}
 
 -- the insertion of a key that fits both lists, or neither, is fair
@@ -82,23 +82,23 @@ module _ {K V : Type 0} (eq : K → K → Bool) (same : V → V → Bool) (keys 
     -- putting and taking out
     put_same : (k : K) (v : V) → AreSame (put eq first k v) (put eq second k v)
     put_same k v = record {
-      unique_first = IsUnique-put eq keys first are.unique_first k v;
-      unique_second = IsUnique-put eq keys second are.unique_second k v;
-      alike = record { each = λ q. (λ i. option_eq same (at_put eq keys first k v q i) (at_put eq keys second k v q i)) ∙ if_alike (eq k q) (Some v) (at eq first q) (at eq second q) (values.refl v) (are.alike.each q) };
+      unique_first = unique_put eq first k v (lawful eq keys) are.unique_first;
+      unique_second = unique_put eq second k v (lawful eq keys) are.unique_second;
+      alike = record { each = λ q. (λ i. option_eq same (at_put eq first k v q (lawful eq keys) i) (at_put eq second k v q (lawful eq keys) i)) ∙ if_alike (eq k q) (Some v) (at eq first q) (at eq second q) (values.refl v) (are.alike.each q) };
     }
 
     put_key_same : (k : K) (v : V) → AreSame (put_key eq first k v) (put_key eq second k v)
     put_key_same k v = record {
-      unique_first = IsUnique-put_key eq keys first are.unique_first k v;
-      unique_second = IsUnique-put_key eq keys second are.unique_second k v;
-      alike = record { each = λ q. (λ i. option_eq same (at_put_key eq keys first k v q i) (at_put_key eq keys second k v q i)) ∙ if_alike (eq k q) (Some v) (at eq first q) (at eq second q) (values.refl v) (are.alike.each q) };
+      unique_first = unique_put_key eq first k v (lawful eq keys) are.unique_first;
+      unique_second = unique_put_key eq second k v (lawful eq keys) are.unique_second;
+      alike = record { each = λ q. (λ i. option_eq same (at_put_key eq first k v q (lawful eq keys) i) (at_put_key eq second k v q (lawful eq keys) i)) ∙ if_alike (eq k q) (Some v) (at eq first q) (at eq second q) (values.refl v) (are.alike.each q) };
     }
 
     take_out_same : (k : K) → AreSame (take_out eq first k) (take_out eq second k)
     take_out_same k = record {
-      unique_first = IsUnique-take_out eq keys first are.unique_first k;
-      unique_second = IsUnique-take_out eq keys second are.unique_second k;
-      alike = record { each = λ q. (λ i. option_eq same (at_take_out eq keys first k q are.unique_first i) (at_take_out eq keys second k q are.unique_second i)) ∙ if_alike (eq k q) None (at eq first q) (at eq second q) refl (are.alike.each q) };
+      unique_first = unique_take_out eq first k (lawful eq keys) are.unique_first;
+      unique_second = unique_take_out eq second k (lawful eq keys) are.unique_second;
+      alike = record { each = λ q. (λ i. option_eq same (at_take_out eq first k q (lawful eq keys) are.unique_first i) (at_take_out eq second k q (lawful eq keys) are.unique_second i)) ∙ if_alike (eq k q) None (at eq first q) (at eq second q) refl (are.alike.each q) };
     }
 
     module _ (N M : ℕ) where

@@ -1,8 +1,9 @@
 -- Facts about lists and options alone.
-use Rattle.std.proofs.Common.{Bool, true, false, if◌then◌else◌, Option, Some, None, is_some, slice_get, ◌++◌, ◌≡◌, ℕ, suc, zero, ◌+◌, ◌-◌, ◌<◌, List, [], ◌∷◌, length, get_or, set, take, drop, map, refl, ap, ◌∙◌, arith, sub-one}
+use Rattle.std.proofs.Common.{Bool, true, false, if◌then◌else◌, Option, Some, None, is_some, slice_get, ◌++◌, ◌≡◌, ℕ, suc, zero, ◌+◌, ◌-◌, ◌<◌, List, [], ◌∷◌, length, get_or, set, take, drop, map, refl, ap, sym, ◌∙◌, arith, sub-one}
 use Rattle.std.specs.Option.{ForSome, IfSome, option_map}
 use Rattle.std.specs.List.{swap_remove, refill}
-use Rattle.std.proofs.lemmas.List.{get_or-set_same, get_or-map, map-set, take-map, length-map, length-append, length-drop, length-set, length-take, drop_more, drop_all, take_at}
+use Rattle.std.proofs.lemmas.Bool.{false≢true}
+use Rattle.std.proofs.lemmas.List.{get_or-set_same, get_or-map, drop-map, map-append, map-set, take-map, length-map, length-append, length-drop, length-set, length-take, drop_more, drop_all, take_at}
 use Rattle.std.proofs.lemmas.Option.{get_or_from_slice_get, slice_get-get_or, slice_get_within}
 use Rattle.std.proofs.Math.Seq.{drop-append_seam, drop-cons, take-append_seam}
 use Rattle.micromap_core.specs.Pairs.{close_gap, without_at}
@@ -37,6 +38,11 @@ swap_remove-suc x (y ∷ ys) i d within = simp sub-one
 pub is_some-option_map : {X Y : Type 0} (f : X → Y) (o : Option X) → is_some (option_map f o) ≡ is_some o
 is_some-option_map f None = refl
 is_some-option_map f (Some x) = refl
+
+-- where there is no value
+pub none_is : {X : Type 0} (o : Option X) → is_some o ≡ false → o ≡ None
+none_is None so = refl
+none_is (Some x) so = absurd (false≢true (sym so))
 
 -- a function after a function
 pub option_map-option_map : {X Y Z : Type 0} (f : Y → Z) (h : X → Y) (o : Option X) → option_map f (option_map h o) ≡ option_map (λ x. f (h x)) o
@@ -118,3 +124,10 @@ slice_get-drop (x ∷ xs) (suc i) = slice_get-drop xs i
 pub is_some-if : {X : Type 0} (b : Bool) (x : X) → is_some (if b then Some x else None) ≡ b
 is_some-if true x = refl
 is_some-if false x = refl
+
+-- a function of each element leaves which one comes first
+pub map-close_gap : {X Y : Type 0} (f : X → Y) (xs : List X) → map f (close_gap xs) ≡ close_gap (map f xs)
+map-close_gap f xs =
+    let n = length xs - 1 in
+    let whole : length (map f xs) - 1 ≡ n = ap (λ l. l - 1) (length-map xs f) in
+    map-append f (drop n xs) (take n xs) ∙ sym ((λ i. drop (whole i) (map f xs) ++ take (whole i) (map f xs)) ∙ (λ i. drop-map f n xs i ++ take-map f n xs i))

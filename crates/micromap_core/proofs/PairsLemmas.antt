@@ -64,6 +64,11 @@ module _ {K V : Type 0} (eq : K → K → Bool) (k : K) (pairs : List (K × V)) 
   unfolding put
   put_stored stored v = rw stored refl
 
+  -- and one of a new key appends the pair
+  pub put_new : has eq pairs k ≡ false → (v : V) → put eq pairs k v ≡ pairs ++ (k, v) ∷ []
+  unfolding put
+  put_new missing v = rw missing refl
+
 -- another value at the index of a pair leaves the keys
 pub keys_of-set : {K V : Type 0} (pairs : List (K × V)) (i : ℕ) (p : K × V) (v : V) → slice_get pairs i ≡ Some p → keys_of (set pairs i (p.0, v)) ≡ keys_of pairs
 keys_of-set {K} {V} pairs i p v here =
@@ -89,11 +94,6 @@ IsDistinct-set_equal eq laws ks i k old distinct within read same =
         | inr b_other ↦ rw (get_or-set_other ks i a k d a_other, get_or-set_other ks i b k d b_other) (apart_from_distinct eq ks a b d distinct lt b_within)
       ]
     ])
-
--- no pair at all
-pub IsUnique-nil : {K : Type 0} (V : Type 0) (eq : K → K → Bool) → IsUnique {V = V} eq []
-unfolding IsDistinct
-IsUnique-nil V eq = tt
 
 module _ {K V : Type 0} (eq : K → K → Bool) (laws : IsEquivalence eq) (pairs : List (K × V)) (unique : IsUnique eq pairs) where
   -- another value at the index of a pair

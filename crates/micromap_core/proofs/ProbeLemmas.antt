@@ -5,7 +5,7 @@ use Rattle.std.specs.Option.{option_map_or}
 use Rattle.std.specs.Map.{lookup, lookup_entry, lookup_key, set_value}
 use Rattle.std.proofs.lemmas.Map.Made.{lookup_key_passes}
 use Rattle.micromap_core.specs.Found.{NotFound}
-use Rattle.micromap_core.specs.Pairs.{has, index_by, put, take_out_by}
+use Rattle.micromap_core.specs.Pairs.{has, index_by, put, take_out, take_out_by}
 use Rattle.micromap_core.specs.Probe.{at_matched, pair_matched, put_matched, take_out_matched}
 use Rattle.micromap_core.proofs.FoundLemmas.{found_at, not_found}
 use Rattle.micromap_core.proofs.PairsLemmas.{put_stored}
@@ -26,7 +26,7 @@ some_key test pairs k some = by (index_by test pairs) refl
     by (Some i) is = ap is_some (found_at test pairs i is).value
 
 -- the probe tests as a key that it matches does
-same_test : {K : Type 0} (eq : K → K → Bool) (test : K → Bool) (alike : (x y : K) → eq x y ≡ true → test x ≡ test y) (single : (x y : K) → test x ≡ true → test y ≡ true → eq x y ≡ true) (k : K) → test k ≡ true → test ≡ eq k
+pub same_test : {K : Type 0} (eq : K → K → Bool) (test : K → Bool) (alike : (x y : K) → eq x y ≡ true → test x ≡ test y) (single : (x y : K) → test x ≡ true → test y ≡ true → eq x y ≡ true) (k : K) → test k ≡ true → test ≡ eq k
 same_test eq test alike single k passes =
     λ i y. both_ways (test y) (eq k y) (single k y passes) (λ e. sym (alike k y e) ∙ passes) i
 
@@ -40,15 +40,19 @@ module _ {K V : Type 0} (eq : K → K → Bool) (test : K → Bool) (alike : (x 
       ] refl
 
   pub at_matched_is : at_matched eq test pairs ≡ lookup test pairs
+  unfolding at_matched
   at_matched_is = matched_is (λ t. lookup t pairs) None (λ e. (no_key test pairs e).value)
 
   pub pair_matched_is : pair_matched eq test pairs ≡ lookup_entry test pairs
+  unfolding pair_matched
   pair_matched_is = matched_is (λ t. lookup_entry t pairs) None (λ e. (no_key test pairs e).entry)
 
   pub take_out_matched_is : take_out_matched eq test pairs ≡ take_out_by test pairs
+  unfolding take_out_matched take_out
   take_out_matched_is = matched_is (λ t. take_out_by t pairs) pairs (λ e. (no_key test pairs e).taken)
 
   pub put_matched_is : (v : V) → put_matched eq test pairs v ≡ set_value test pairs v
+  unfolding put_matched
   put_matched_is v =
       elim (lookup_key test pairs) as (λ o. lookup_key test pairs ≡ o → option_map_or (λ k. put eq pairs k v) o pairs ≡ set_value test pairs v) [
         | None ↦ λ e. sym ((no_key test pairs e).written v)

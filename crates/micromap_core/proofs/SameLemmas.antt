@@ -17,9 +17,10 @@ use Rattle.std.proofs.lemmas.Map.Made.{All-is_member, is_some-lookup}
 use Rattle.std.proofs.lemmas.Option.{get_or_from_slice_get, slice_get-get_or, slice_get_within}
 use Rattle.std.specs.Cmp.Lexicographic.{options_equiv}
 use Rattle.micromap_core.specs.Pairs.{at, has, IsUnique}
-use Rattle.micromap_core.specs.Same.{pair_eq, is_same, Same, DiffersAt, first_missing, first_difference}
+use Rattle.micromap_core.specs.Same.{pair_eq, is_same, Same, DiffersAt, has_value, first_missing, first_difference}
 use Rattle.micromap_core.proofs.Lists.{is_some-option_map}
-use Rattle.micromap_core.proofs.LookupLemmas.{at_alike}
+use Rattle.micromap_core.proofs.Equalities.{lawful}
+use Rattle.micromap_core.proofs.MapLaws.{at_alike}
 
 module _ {K V : Type 0} (eq : K → K → Bool) (same : V → V → Bool) (keys : IsEquivalence eq) (values : IsEquivalence same) where
   -- what the two lists have at each key agrees
@@ -53,7 +54,7 @@ module _ {K V : Type 0} (eq : K → K → Bool) (same : V → V → Bool) (keys 
   at_within : (first second : List (K × V)) → IsUnique eq second → list_all (λ p. list_any (pair_eq eq same p) second) first ≡ true → (k : K) (v : V) → at eq first k ≡ Some v → option_eq same (Some v) (at eq second k) ≡ true
   at_within first second unique all k v found =
       let there = test_at (λ p. list_any (pair_eq eq same p) second) first k v all found in
-      ap (option_eq same (Some v)) (at_alike eq keys k there.0 there.1 second) ∙ sym (any_by_at second (there.0, v) unique) ∙ there.2
+      ap (option_eq same (Some v)) (at_alike eq k there.0 second (lawful eq keys) there.1) ∙ sym (any_by_at second (there.0, v) unique) ∙ there.2
 
   pub alike_from_same : (first second : List (K × V)) → IsUnique eq first → IsUnique eq second → Same eq same first second → FindAlike first second
   alike_from_same first second unique_first unique_second are = record { each = λ k. by k (at eq first k) (at eq second k) refl refl }
@@ -64,7 +65,7 @@ module _ {K V : Type 0} (eq : K → K → Bool) (same : V → V → Bool) (keys 
       by k (Some v) r one two = sym (ap (option_eq same (Some v)) two) ∙ at_within first second unique_second (first_so _ _ are) k v one
 
   -- a pair of a list is what its key finds there
-  own_at : (pairs : List (K × V)) → IsUnique eq pairs → All (λ p. at eq pairs p.0 ≡ Some p.1) pairs
+  pub own_at : (pairs : List (K × V)) → IsUnique eq pairs → All (λ p. at eq pairs p.0 ≡ Some p.1) pairs
   own_at pairs unique i d within = lookup_from_place keys pairs i (get_or pairs i d).0 (get_or pairs i d).1 unique (slice_get-get_or pairs i d within)
 
   within_from_alike : (first second : List (K × V)) → IsUnique eq first → IsUnique eq second → FindAlike first second → list_all (λ p. list_any (pair_eq eq same p) second) first ≡ true
@@ -100,13 +101,9 @@ module _ {K V : Type 0} (eq : K → K → Bool) (same : V → V → Bool) (keys 
   none_some None (Some w) one two = refl
   none_some (Some v) r one two = absurd (false≢true (sym one))
 
-  -- whether the second list has an equal value at the pair's key
-  abbrev has_value : K × V → Bool
-  has_value p = option_eq same (at eq second p.0) (Some p.1)
-
-  differs_unequal : (p : K × V) → find (λ p. not (has_value p)) first ≡ Some p → DiffersAt eq same first second p.0
+  differs_unequal : (p : K × V) → find (λ p. not (has_value eq same second p)) first ≡ Some p → DiffersAt eq same first second p.0
   differs_unequal p found =
-      let told = find_some (λ p. not (has_value p)) first p found in
+      let told = find_some (λ p. not (has_value eq same second p)) first p found in
       ap (λ o. option_eq same o (at eq second p.0)) (told.1 (λ p. at eq first p.0 ≡ Some p.1) (own_at eq same keys values first unique_first))
       ∙ (options_equiv values).symm (Some p.1) (at eq second p.0) ∙ not-true _ told.0
 
@@ -115,19 +112,20 @@ module _ {K V : Type 0} (eq : K → K → Bool) (same : V → V → Bool) (keys 
       let told = find_some (λ k. not (has eq first k)) (keys_of second) k found in
       none_some (at eq first k) (at eq second k) (not-true _ told.0) (is_some-lookup (eq k) second ∙ told.1 (λ k. is_member eq (keys_of second) k ≡ true) (All-is_member keys (keys_of second)))
 
-  alike_none : find (λ p. not (has_value p)) first ≡ None → first_missing eq same second first ≡ None → FindAlike eq same keys values first second
-  alike_none unequal missing = record { each = λ k. by k (at eq first k) (at eq second k) refl refl }
+  -- they are alike where the second has an equal value at each key of the first, and the first each key of the second
+  pub alike_within : list_all (has_value eq same second) first ≡ true → list_all (has eq first) (keys_of second) ≡ true → FindAlike eq same keys values first second
+  alike_within all_equal all_stored = record { each = λ k. by k (at eq first k) (at eq second k) refl refl }
     where
       stored : (k : K) (w : V) → at eq second k ≡ Some w → has eq first k ≡ true
       stored k w found =
-          let all = sym (list_all-map (has eq first) (λ (p : K × V). p.0) second) ∙ find_none (has eq first) (keys_of second) missing in
+          let all = sym (list_all-map (has eq first) (λ (p : K × V). p.0) second) ∙ all_stored in
           let there = test_at eq same keys values (λ p. has eq first p.0) second k w all found in
-          ap is_some (at_alike eq keys k there.0 there.1 first) ∙ there.2
+          ap is_some (at_alike eq k there.0 first (lawful eq keys) there.1) ∙ there.2
 
       equal : (k : K) (v : V) → at eq first k ≡ Some v → option_eq same (at eq second k) (Some v) ≡ true
       equal k v found =
-          let there = test_at eq same keys values has_value first k v (find_none has_value first unequal) found in
-          ap (λ o. option_eq same o (Some v)) (at_alike eq keys k there.0 there.1 second) ∙ there.2
+          let there = test_at eq same keys values (has_value eq same second) first k v all_equal found in
+          ap (λ o. option_eq same o (Some v)) (at_alike eq k there.0 second (lawful eq keys) there.1) ∙ there.2
 
       by : (k : K) (o r : Option V) → at eq first k ≡ o → at eq second k ≡ r → option_eq same o r ≡ true
       by k None None one two = refl
@@ -136,12 +134,12 @@ module _ {K V : Type 0} (eq : K → K → Bool) (same : V → V → Bool) (keys 
 
   -- the first difference is a key at which the two differ, and where there is none they are alike
   difference : MatchOption (first_difference eq same first second) (FindAlike eq same keys values first second) (DiffersAt eq same first second)
-  difference = by (find (λ p. not (has_value p)) first) refl (first_missing eq same second first) refl
+  difference = by (find (λ p. not (has_value eq same second p)) first) refl (first_missing eq same second first) refl
     where
-      by : (o : Option (K × V)) → find (λ p. not (has_value p)) first ≡ o → (r : Option K) → first_missing eq same second first ≡ r → MatchOption (option_or (option_map (λ p. p.0) o) r) (FindAlike eq same keys values first second) (DiffersAt eq same first second)
+      by : (o : Option (K × V)) → find (λ p. not (has_value eq same second p)) first ≡ o → (r : Option K) → first_missing eq same second first ≡ r → MatchOption (option_or (option_map (λ p. p.0) o) r) (FindAlike eq same keys values first second) (DiffersAt eq same first second)
       by (Some p) unequal r missing = differs_unequal p unequal
       by None unequal (Some k) missing = differs_missing k missing
-      by None unequal None missing = alike_none unequal missing
+      by None unequal None missing = alike_within (find_none (has_value eq same second) first unequal) (find_none (has eq first) (keys_of second) missing)
 
   alike_from_none : (d : Option K) → MatchOption d (FindAlike eq same keys values first second) (DiffersAt eq same first second) → is_some d ≡ false → FindAlike eq same keys values first second
   alike_from_none None alike none = alike

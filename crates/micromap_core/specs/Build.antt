@@ -1,5 +1,5 @@
 -- What becomes of a content as items are put into it one after the other: of a map by pairs, of a set by its items.
-use Rattle.std.specs.Prelude.{◌≡◌, ℕ, ◌-◌, ◌^◌, ◌<◌, ◌≤◌, Bool, true, not, ◌&&◌, List, [], ◌∷◌, ◌++◌, length, Option, Some, IsTrue}
+use Rattle.std.specs.Prelude.{◌≡◌, ℕ, ◌+◌, ◌-◌, ◌^◌, ◌<◌, ◌≤◌, Bool, true, not, ◌&&◌, List, [], ◌∷◌, ◌++◌, length, take, Option, Some, IsTrue}
 use Rattle.std.specs.Iterator.{Drains, YieldsThen}
 use Rattle.std.specs.List.{fold}
 use Rattle.std.specs.Map.{keys_of}
@@ -15,6 +15,10 @@ module _ {C X : Type 0} (fits : C → X → Bool) (put : C → X → C) where
   abbrev pub each_fits : C → List X → Bool
   each_fits content [] = true
   each_fits content (x ∷ items) = fits content x && each_fits (put content x) items
+
+  -- the first of the items that doesn't fit stands at the position
+  abbrev pub StopsAt : C → List X → ℕ → Type 0
+  StopsAt content items position = IsTrue (each_fits content (take position items)) × IsTrue (not (each_fits content (take (position + 1) items)))
 
   module _ {S : Type 0} (steps : S → Option X → S → Type 0) where
     module _ (old : C) (it : S) where
@@ -65,6 +69,10 @@ module _ {K V : Type 0} (eq : K → K → Bool) where
   -- whether each item fits a new map of capacity N when it is put
   abbrev pub all_fit : ℕ → List (K × V) → Bool
   all_fit N = each_fits (pair_fits N) put_pair []
+
+  -- the first item that doesn't fit a new map of capacity N stands at the position
+  abbrev pub MisfitIn : ℕ → List (K × V) → ℕ → Type 0
+  MisfitIn N = StopsAt (pair_fits N) put_pair []
 
   module _ {S : Type 0} (steps : S → Option (K × V) → S → Type 0) (N : ℕ) where
     -- the pairs are built from all that the iterator gave

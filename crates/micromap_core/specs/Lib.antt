@@ -1,5 +1,6 @@
 pub mod Build
 pub mod Entry
+pub mod Equalities
 pub mod Fair
 pub mod Lends
 pub mod Pairs
@@ -13,4 +14,7 @@ pub mod Retain
 pub mod Same
 pub mod SameLaws
 pub mod Slots
+pub mod Stream
+pub mod Texts
 pub mod Found
+pub mod Steps

@@ -4,6 +4,7 @@ use Rattle.std.specs.Prelude.{ℕ, suc, ◌-◌, ◌≤◌, Bool, ◌||◌, List
 use Rattle.std.specs.Option.{option_map_or}
 use Rattle.std.specs.List.{IsDistinct, position}
 use Rattle.std.specs.Map.{keys_of, lookup, lookup_entry, set_value, set_key}
+use Rattle.micromap_core.specs.Equalities.{Lawful}
 
 -- what stands behind a gap once it is closed: the last comes first
 abbrev pub close_gap : {X : Type 0} → List X → List X
@@ -40,6 +41,7 @@ module _ {K V : Type 0} where
     pub record IsContent (N : ℕ) (pairs : List (K × V)) : Type 0 where
       pub unique : IsUnique pairs
       pub bounded : length pairs ≤ N
+      pub lawful : Lawful eq
 
     -- the value of the pair whose key equals k
     abbrev pub at : List (K × V) → K → Option V
@@ -70,5 +72,5 @@ module _ {K V : Type 0} where
     put_key pairs k v = if has pairs k then set_key (eq k) (set_value (eq k) pairs v) k else pairs ++ (k, v) ∷ []
 
     -- without the pair whose key equals k
-    abbrev pub take_out : List (K × V) → K → List (K × V)
+    unfoldable pub take_out : List (K × V) → K → List (K × V)
     take_out pairs k = take_out_by (eq k) pairs

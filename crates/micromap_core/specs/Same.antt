@@ -26,9 +26,13 @@ module _ {K V : Type 0} (eq : K → K → Bool) (same : V → V → Bool) where
   abbrev pub DiffersAt : List (K × V) → List (K × V) → K → Type 0
   DiffersAt first second k = IsFalse (option_eq same (at eq first k) (at eq second k))
 
+  -- whether a list has an equal value at the pair's key
+  abbrev pub has_value : List (K × V) → K × V → Bool
+  has_value pairs p = option_eq same (at eq pairs p.0) (Some p.1)
+
   -- the first key of one list that the other lacks or has with an unequal value
   abbrev pub first_unequal : List (K × V) → List (K × V) → Option K
-  first_unequal one other = option_map (λ p. p.0) (find (λ p. not (option_eq same (at eq other p.0) (Some p.1))) one)
+  first_unequal one other = option_map (λ p. p.0) (find (λ p. not (has_value other p)) one)
 
   -- the first key of one list that the other lacks
   abbrev pub first_missing : List (K × V) → List (K × V) → Option K

@@ -6,7 +6,10 @@ pub mod laws;
 pub mod map;
 pub mod probe;
 mod slots;
+pub mod steps;
+pub mod stream;
 
 pub use map::Map;
 pub use map::build::Overfull;
 pub use probe::{Probe, Text};
+pub use steps::Steps;

@@ -6,12 +6,14 @@ pub(crate) mod build;
 mod clone;
 mod closures;
 mod compare;
+mod counted;
 mod indexed;
 mod insert;
 mod lookup;
 mod print;
 mod probed;
 mod remove;
+mod stream;
 mod walk;
 
 pub use crate::entry::{Entry, OccupiedEntry, VacantEntry};
@@ -89,8 +91,10 @@ impl<K: Eq, V, const N: usize> Map<K, V, N> {
 impl<K: Eq + Drop, V: Drop, const N: usize> Map<K, V, N> {
     /// Drops every pair.
     pub fn clear(&mut self)
-        ensures { self.new ≡ [] }
+        ensures emptied { self.new ≡ [] }
+        ensures content { IsContent K.eq N self.old }
     {
+        let _content = self.len();
         self.pairs.clear();
     }
 }

@@ -2,7 +2,7 @@
 ghost use Rattle.std.specs.Prelude.{◌≡◌, Bool, true};
 ghost use Rattle.std.specs.String.{string_bytes};
 ghost use Rattle.std.proofs.lemmas.Cmp.{nat_list_eq_equiv};
-ghost use Rattle.micromap_core.specs.Probe.{is_text};
+ghost use Rattle.micromap_core.specs.Probe.{is_str, is_text};
 ghost use Rattle.micromap_core.specs.ProbeLaws.{alike, equal};
 
 /// What a stored key can be found by.
@@ -35,7 +35,7 @@ impl<K: Eq> Probe<K> for K {
     }
 }
 
-/// A probe for `String`: it matches the key with the same text.
+/// A probe for keys that are texts, `String` or `&str`: it matches the key with the same text.
 #[derive(Debug, Clone, Copy)]
 pub struct Text<'a>(pub &'a str);
 
@@ -48,5 +48,17 @@ impl<'a> Probe<String> for Text<'a> {
 
     fn matches(&self, key: &String) -> bool {
         *self.0 == *key.as_str()
+    }
+}
+
+impl<'a> Probe<&'a str> for Text<'_> {
+    ghost matches = { λ p. is_str p.0.now };
+
+    ghost equal_keys_match_alike = { λ p x y. alike nat_list_eq_equiv p.0.now x.now y.now };
+
+    ghost matching_keys_are_equal = { λ p x y. equal nat_list_eq_equiv p.0.now x.now y.now };
+
+    fn matches(&self, key: &&'a str) -> bool {
+        *self.0 == **key
     }
 }

@@ -1,13 +1,14 @@
 //! Putting items and taking them out.
 ghost use Rattle.std.specs.Prelude.{◌≡◌, [], Some, None, IsTrue, not, if◌then◌else◌};
-ghost use Rattle.micromap.specs.Items.{add, contains, exchange, item, item_fits, take_item};
+ghost use Rattle.micromap.specs.Items.{IsItems, add, contains, exchange, item, item_fits, take_item};
 
 use super::Set;
 
 impl<T: Eq + Drop, const N: usize> Set<T, N> {
     /// Drops every item.
     pub fn clear(&mut self)
-        ensures { self.new ≡ [] }
+        ensures emptied { self.new ≡ [] }
+        ensures content { IsItems T.eq N self.old }
     {
         self.map.clear();
     }
@@ -20,6 +21,7 @@ impl<T: Eq + Drop, const N: usize> Set<T, N> {
         requires { IsTrue (item_fits T.eq N self.old x) }
         ensures answer { result ≡ not (contains T.eq self.old x) }
         ensures items { self.new ≡ add T.eq self.old x }
+        ensures content { IsItems T.eq N self.old }
     {
         self.map.insert(x, ()).is_none()
     }
@@ -30,6 +32,7 @@ impl<T: Eq + Drop, const N: usize> Set<T, N> {
         requires { IsTrue (item_fits T.eq N self.old x) }
         ensures answer { result ≡ not (contains T.eq self.old x) }
         ensures items { self.new ≡ add T.eq self.old x }
+        ensures content { IsItems T.eq N self.old }
     {
         self.insert(x)
     }
@@ -42,6 +45,7 @@ impl<T: Eq + Drop, const N: usize> Set<T, N> {
         requires { IsTrue (item_fits T.eq N self.old x) }
         ensures old { result ≡ item T.eq self.old x }
         ensures items { self.new ≡ exchange T.eq self.old x }
+        ensures content { IsItems T.eq N self.old }
     {
         let (old, _) = self.map.insert_key_value(x, ())?;
         Some(old)
@@ -55,7 +59,9 @@ impl<T: Eq + Drop, const N: usize> Set<T, N> {
     pub fn checked_insert(&mut self, x: T) -> Option<T>
         ensures answer { result ≡ (if contains T.eq self.old x then Some x else None) }
         ensures items { self.new ≡ (if item_fits T.eq N self.old x then add T.eq self.old x else self.old) }
+        ensures content { IsItems T.eq N self.old }
     {
+        let _content = self.len();
         if self.map.contains_key(&x) {
             return Some(x);
         }
@@ -69,6 +75,7 @@ impl<T: Eq + Drop, const N: usize> Set<T, N> {
     pub fn take(&mut self, x: &T) -> Option<T>
         ensures answer { result ≡ item T.eq self.old x.now }
         ensures items { self.new ≡ take_item T.eq self.old x.now }
+        ensures content { IsItems T.eq N self.old }
     {
         let (stored, _) = self.map.remove_entry(x)?;
         Some(stored)
@@ -79,6 +86,7 @@ impl<T: Eq + Drop, const N: usize> Set<T, N> {
     pub fn remove(&mut self, x: &T) -> bool
         ensures answer { result ≡ contains T.eq self.old x.now }
         ensures items { self.new ≡ take_item T.eq self.old x.now }
+        ensures content { IsItems T.eq N self.old }
     {
         self.map.remove(x).is_some()
     }

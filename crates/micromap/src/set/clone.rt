@@ -3,6 +3,7 @@ ghost use Rattle.std.specs.Prelude.{◌≡◌, All, IsOk, IfOk};
 ghost use Rattle.std.specs.List.{AllZip};
 ghost use Rattle.std.specs.Set.{ClonesAreEqual};
 ghost use Rattle.micromap.specs.Clones.{AreIdentical};
+ghost use Rattle.micromap.specs.Items.{IsItems};
 
 use super::Set;
 use std::alloc::AllocError;
@@ -16,6 +17,7 @@ impl<T: Eq + Clone + Drop, const N: usize> Set<T, N> {
         requires { ClonesAreEqual T.eq T.is_clone }
         ensures clones { IfOk result (AllZip T.is_clone self.now) }
         ensures same { AreIdentical T.is_clone → IfOk result (λ new. new ≡ self.now) }
+        ensures content { IfOk result (IsItems T.eq N) }
         ensures succeeds { All T.is_infallible self.now → IsOk result }
     {
         let map = self.map.clone()?;

@@ -8,11 +8,12 @@ use super::Set;
 
 impl<T: Eq, const N: usize> Set<T, N> {
     /// Whether each item of either set has an equal one in the other: whether each set is a subset of the other. Neither
-    /// order nor capacity matters.
+    /// order nor capacity matters. It compares no item where the lengths differ; else it costs what `is_subset` does.
     pub fn eq_with<const M: usize>(&self, other: &Set<T, M>) -> bool
         ensures { result ≡ have_equal_items T.eq self.now other.now }
     {
-        self.is_subset(other) && other.is_subset(self)
+        // Equally many items, each of which `other` has too: so `other` has no other item.
+        self.len() == other.len() && self.is_subset(other)
     }
 }
 

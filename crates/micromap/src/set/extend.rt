@@ -1,11 +1,11 @@
 //! Putting the items of an iterator, one after the other by the rule of `insert`: each distinct item is stored as it
 //! came first, in that order.
-ghost use Rattle.std.specs.Prelude.{◌≡◌, IfOk, IfErr, IsTrue, if◌then◌else◌};
+ghost use Rattle.std.specs.Prelude.{◌≡◌, ◌+◌, [], IfOk, IfErr, IsTrue, if◌then◌else◌};
 ghost use Rattle.std.specs.Iterator.{UpTo};
-ghost use Rattle.std.specs.Iterator.Runs.{WholeRun};
+ghost use Rattle.std.specs.Iterator.Runs.{SomeRun, WholeRun};
 ghost use Rattle.micromap.specs.Build.{most_items};
-ghost use Rattle.micromap.specs.Extend.{add_all, all_items_fit, distinct, ExtendsAll, ExtendsUpTo, ItemsBuiltFrom, ItemMisfitAt};
-ghost use Rattle.micromap.specs.Items.{add, item_fits};
+ghost use Rattle.micromap.specs.Extend.{add_all, all_items_fit, distinct, ExtendsAll, ExtendsUpTo, ItemsBuiltFrom, ItemMisfitAt, ItemMisfitIn};
+ghost use Rattle.micromap.specs.Items.{IsItems, add, item_fits};
 
 use super::Set;
 use crate::Overfull;
@@ -13,7 +13,7 @@ use crate::Overfull;
 impl<T: Eq + Drop, const N: usize> Set<T, N> {
     // Puts the item where it fits, by one scan, and answers whether it did.
     #[inline]
-    fn put(&mut self, x: T) -> bool
+    pub(crate) fn put(&mut self, x: T) -> bool
         ensures answer { result ≡ item_fits T.eq N self.old x }
         ensures items { self.new ≡ (if item_fits T.eq N self.old x then add T.eq self.old x else self.old) }
     {
@@ -30,7 +30,10 @@ impl<T: Eq + Drop, const N: usize> Set<T, N> {
         ensures extends { IfOk result (λ _. ExtendsAll T.eq I.next_gives N self.old items self.new) }
         ensures misfit { IfErr result (λ e. ExtendsUpTo T.eq I.next_gives N self.old items e.at self.new) }
         ensures runs { IfOk result (λ _. WholeRun I.next_gives items (λ p. self.new ≡ add_all T.eq self.old p.items)) }
+        ensures stops { IfErr result (λ e. SomeRun I.next_gives items (λ p. (p.len ≡ e.at + 1) × ItemMisfitIn T.eq N self.old p.items e.at)) }
+        ensures content { IsItems T.eq N self.old }
     {
+        let _content = self.len();
         let mut at = 0;
         for x in items {
             if !self.put(x) {
@@ -51,9 +54,12 @@ impl<T: Eq + Drop, const N: usize> Set<T, N> {
         ensures built { IfOk result (ItemsBuiltFrom T.eq I.next_gives N items) }
         ensures misfit { IfErr result (λ e. ItemMisfitAt T.eq I.next_gives N items e.at) }
         ensures runs { IfOk result (λ new. WholeRun I.next_gives items (λ p. new ≡ distinct T.eq p.items)) }
+        ensures stops { IfErr result (λ e. SomeRun I.next_gives items (λ p. (p.len ≡ e.at + 1) × ItemMisfitIn T.eq N [] p.items e.at)) }
+        ensures content { IfOk result (IsItems T.eq N) }
     {
         let mut set = Set::new();
         set.try_extend(items)?;
+        let _content = set.len();
         Ok(set)
     }
 }

@@ -2,7 +2,7 @@
 //! form does at a missing item.
 ghost use Rattle.std.specs.Prelude.{◌≡◌, is_some};
 ghost use Rattle.std.specs.Option.{option_copied};
-ghost use Rattle.micromap.specs.Items.{contains_matched, item_matched, take_item_matched};
+ghost use Rattle.micromap.specs.Items.{IsItems, contains_matched, item_matched, take_item_matched};
 
 use super::Set;
 use crate::Probe;
@@ -35,6 +35,7 @@ impl<T: Eq + Drop, const N: usize> Set<T, N> {
     pub fn take_by<P: Probe<T>>(&mut self, probe: &P) -> Option<T>
         ensures answer { result ≡ item_matched T.eq (P.matches probe.now) self.old }
         ensures items { self.new ≡ take_item_matched T.eq (P.matches probe.now) self.old }
+        ensures content { IsItems T.eq N self.old }
     {
         let (stored, _) = self.map.remove_entry_by(probe)?;
         Some(stored)
@@ -45,6 +46,7 @@ impl<T: Eq + Drop, const N: usize> Set<T, N> {
     pub fn remove_by<P: Probe<T>>(&mut self, probe: &P) -> bool
         ensures answer { result ≡ is_some (item_matched T.eq (P.matches probe.now) self.old) }
         ensures items { self.new ≡ take_item_matched T.eq (P.matches probe.now) self.old }
+        ensures content { IsItems T.eq N self.old }
     {
         self.take_by(probe).is_some()
     }

@@ -1,6 +1,6 @@
 //! Keeping the items that pass a test.
 ghost use Rattle.std.specs.Fn.{CalledAt};
-ghost use Rattle.micromap.specs.Items.{MayRetainItems, RetainsItems};
+ghost use Rattle.micromap.specs.Items.{IsItems, MayRetainItems, RetainsItems};
 
 use super::Set;
 
@@ -11,7 +11,8 @@ impl<T: Eq + Drop, const N: usize> Set<T, N> {
     /// last one. Each item is visited once, and the kept ones stand in the order of their visits. It compares no item.
     pub fn retain<F: FnMut(&T) -> bool>(&mut self, mut keep: F)
         requires { MayRetainItems F.FnMut keep self.old }
-        ensures { RetainsItems F.FnMut keep self.old self.new }
+        ensures items { RetainsItems F.FnMut keep self.old self.new }
+        ensures content { IsItems T.eq N self.old }
     {
         self.map.retain(
             |x: &T, _: &mut ()|

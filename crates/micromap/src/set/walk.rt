@@ -3,6 +3,7 @@ ghost use Rattle.std.specs.Prelude.{◌≡◌, IfSome, Some, [], length, reverse
 ghost use Rattle.std.specs.Iterator.{UpTo, at_most};
 ghost use Rattle.std.specs.Iterator.SizeHint.{IsWithinCount};
 ghost use Rattle.std.specs.Map.Iter.{GivesInOrder, ShowsInOrder, TakesFirst, deref};
+ghost use Rattle.micromap.specs.Items.{IsItems};
 
 use super::Set;
 use crate::map;
@@ -83,6 +84,7 @@ impl<T: Eq + Drop, const N: usize> Set<T, N> {
         ensures answer { result ≡ self.old }
         ensures emptied { self.new ≡ [] }
         ensures runs { GivesInOrder T }
+        ensures content { IsItems T.eq N self.old }
     {
         Drain {
             pairs: self.map.drain(),

@@ -1,7 +1,9 @@
 //! The keyed calls with a condition, the calls by probe, and callers' proofs over a lent value and over what a
 //! look-up finds after a put and a removal.
 ghost use Rattle.std.specs.Prelude.{◌≡◌, Some, None, IsTrue, nat_eq, if◌then◌else◌};
+ghost use Rattle.std.specs.Cmp.Lexicographic.{pointwise};
 ghost use Rattle.micromap.specs.Pairs.{fits, has, put};
+ghost use Rattle.micromap.specs.Probe.{at_matched, is_str};
 
 use super::gives;
 use super::marked::{Digit, Id, Marked};
@@ -18,6 +20,7 @@ fn overwrite<const N: usize>(map: &mut Map<u8, u8, N>, key: u8, value: u8)
 }
 
 // Puts a pair and looks its key up.
+#[tactic(auto, using(micromap_core::proofs::MapLaws::map_laws))]
 fn put_and_get<const N: usize>(map: &mut Map<u8, u8, N>, key: u8, value: u8) -> Option<u8>
     requires { IsTrue (fits nat_eq N map.old key) }
     ensures { result ≡ Some value }
@@ -27,11 +30,10 @@ fn put_and_get<const N: usize>(map: &mut Map<u8, u8, N>, key: u8, value: u8) -> 
 }
 
 // Takes a pair out and looks its key up.
+#[tactic(auto, using(micromap_core::proofs::MapLaws::map_laws))]
 fn take_and_get<const N: usize>(map: &mut Map<u8, u8, N>, key: u8) -> Option<u8>
     ensures { result ≡ None }
 {
-    // What holds of each map's content is learnt from `len`.
-    let _held = map.len();
     map.remove(&key);
     map.get(&key).copied()
 }
@@ -134,6 +136,30 @@ fn texts_find_their_keys(rt: HostRuntime) -> Result<(), Fail> {
     assert_eq!(rt; map.len(), 2);
     assert_eq!(rt; map.remove_by(&Text("three")), Some(5));
     assert_eq!(rt; map.len(), 1);
+    Ok(())
+}
+
+// A key need not live as long as the text that finds it, nor the other way round.
+fn age_of(ages: &Map<&str, i64, 32>, name: &str) -> Option<i64>
+    ensures { result ≡ at_matched (λ x y. pointwise nat_eq x.now y.now) (is_str name.now) ages.now }
+{
+    ages.get_by(&Text(name)).copied()
+}
+
+#[test]
+fn texts_find_keys_that_are_borrowed(rt: HostRuntime) -> Result<(), Fail> {
+    let alloc = rt.alloc();
+    let mut ages: Map<&str, i64, 32> = Map::new();
+    ages.checked_insert("Ada", 36);
+    ages.checked_insert("Grace", 85);
+    let name = String::from_str(alloc, "Ada")?;
+    assert_eq!(rt; age_of(&ages, name.as_str()), Some(36));
+    assert_eq!(rt; age_of(&ages, "Alan"), None);
+    if let Some(age) = ages.get_mut_by(&Text("Grace")) {
+        *age = 86;
+    }
+    assert_eq!(rt; ages.remove_by(&Text("Grace")), Some(86));
+    assert_eq!(rt; ages.len(), 1);
     Ok(())
 }
 

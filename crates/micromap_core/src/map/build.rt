@@ -1,9 +1,10 @@
 //! Building a map from items, which are put one after the other by the rule of `insert`: each distinct key is stored
 //! as it came first, in that order, with the value of its last item.
-ghost use Rattle.std.specs.Prelude.{◌≡◌, IsTrue, IfOk, IfErr};
+ghost use Rattle.std.specs.Prelude.{◌≡◌, ◌+◌, IsTrue, IfOk, IfErr};
 ghost use Rattle.std.specs.Iterator.{UpTo};
-ghost use Rattle.std.specs.Iterator.Runs.{WholeRun};
-ghost use Rattle.micromap_core.specs.Build.{all_fit, build, BuiltFrom, MisfitAt, most_items};
+ghost use Rattle.std.specs.Iterator.Runs.{SomeRun, WholeRun};
+ghost use Rattle.micromap_core.specs.Build.{all_fit, build, BuiltFrom, MisfitAt, MisfitIn, most_items};
+ghost use Rattle.micromap_core.specs.Pairs.{IsContent};
 
 use super::Map;
 use std::error::Error;
@@ -56,6 +57,8 @@ impl<K: Eq + Drop, V: Drop, const N: usize> Map<K, V, N> {
         ensures built { IfOk result (BuiltFrom K.eq I.next_gives N items) }
         ensures misfit { IfErr result (λ e. MisfitAt K.eq I.next_gives N items e.at) }
         ensures runs { IfOk result (λ map. WholeRun I.next_gives items (λ p. map ≡ build K.eq p.items)) }
+        ensures stops { IfErr result (λ e. SomeRun I.next_gives items (λ p. (p.len ≡ e.at + 1) × MisfitIn K.eq N p.items e.at)) }
+        ensures content { IfOk result (IsContent K.eq N) }
     {
         let mut map = Map::new();
         let mut at = 0;
@@ -65,6 +68,7 @@ impl<K: Eq + Drop, V: Drop, const N: usize> Map<K, V, N> {
             }
             at += 1;
         }
+        let _content = map.len();
         Ok(map)
     }
 }

@@ -3,6 +3,7 @@ ghost use Rattle.std.specs.Prelude.{◌≡◌, All, IsOk, IfOk};
 ghost use Rattle.std.specs.List.{AllZip};
 ghost use Rattle.std.specs.Set.{ClonesAreEqual};
 ghost use Rattle.micromap_core.specs.Clones.{AreIdentical, IsPairClone};
+ghost use Rattle.micromap_core.specs.Pairs.{IsContent};
 
 use super::Map;
 use std::alloc::AllocError;
@@ -16,9 +17,12 @@ impl<K: Eq + Clone + Drop, V: Clone + Drop, const N: usize> Map<K, V, N> {
         requires { ClonesAreEqual K.eq K.is_clone }
         ensures clones { IfOk result (AllZip (IsPairClone K.is_clone V.is_clone) self.now) }
         ensures same { AreIdentical K.is_clone → AreIdentical V.is_clone → IfOk result (λ new. new ≡ self.now) }
+        ensures content { IfOk result (IsContent K.eq N) }
         ensures succeeds { All (λ p. K.is_infallible p.0 × V.is_infallible p.1) self.now → IsOk result }
     {
         let pairs = self.pairs.clone()?;
-        Ok(Map { pairs })
+        let map = Map { pairs };
+        let _content = map.len();
+        Ok(map)
     }
 }

@@ -5,7 +5,7 @@
 ghost use Rattle.std.specs.Prelude.{◌≡◌, map};
 ghost use Rattle.std.specs.Set.{distinct_count};
 ghost use Rattle.micromap_core.specs.Closures.{MayUpdateAll, MayUpdateDisjoint, UpdatesAll, UpdatesDisjoint};
-ghost use Rattle.micromap_core.specs.Pairs.{has};
+ghost use Rattle.micromap_core.specs.Pairs.{IsContent, has};
 ghost use Rattle.micromap_core.specs.Retain.{MayRetain, Retains};
 
 use super::Map;
@@ -17,8 +17,10 @@ impl<K: Eq + Drop, V: Drop, const N: usize> Map<K, V, N> {
     /// last one. Each pair is visited once, and the kept ones stand in the order of their visits. It compares no key.
     pub fn retain<F: FnMut(&K, &mut V) -> bool>(&mut self, mut keep: F)
         requires { MayRetain F.FnMut keep self.old }
-        ensures { Retains F.FnMut keep self.old self.new }
+        ensures pairs { Retains F.FnMut keep self.old self.new }
+        ensures content { IsContent K.eq N self.old }
     {
+        let _content = self.len();
         let mut index = 0;
         while index < self.len() {
             if self.visit_at(index, &mut keep) {
@@ -34,7 +36,8 @@ impl<K: Eq, V, const N: usize> Map<K, V, N> {
     /// Calls `update` at each pair from the front. Keys, order and length stay. It compares no key.
     pub fn update_all<F: FnMut(&K, &mut V)>(&mut self, mut update: F)
         requires { MayUpdateAll F.FnMut update self.old }
-        ensures { UpdatesAll F.FnMut update self.old self.new }
+        ensures pairs { UpdatesAll F.FnMut update self.old self.new }
+        ensures content { IsContent K.eq N self.old }
     {
         for index in 0..self.len() {
             self.visit_at(index, &mut update);
@@ -55,7 +58,9 @@ impl<K: Eq, V, const N: usize> Map<K, V, N> {
         requires callable { MayUpdateDisjoint K.eq F.FnMut update self.old keys.now }
         ensures answer { result ≡ map (has K.eq self.old) keys.now }
         ensures pairs { UpdatesDisjoint K.eq F.FnMut update self.old keys.now self.new }
+        ensures content { IsContent K.eq N self.old }
     {
+        let _content = self.len();
         let mut found = [false; J];
         for (position, key) in keys.iter().enumerate() {
             found[position] = match self.get_mut(key) {

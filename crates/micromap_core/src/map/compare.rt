@@ -11,7 +11,11 @@ use super::Map;
 
 impl<K: Eq, V: Eq, const N: usize> Map<K, V, N> {
     /// Whether the two maps are the same: each pair of either has an equal key with an equal value in the other. Neither
-    /// order nor capacity matters. It costs what `differs_at` does.
+    /// order nor capacity matters.
+    ///
+    /// It compares no key where the lengths differ. Else it costs one `get` on `other` for each key of this map, up to
+    /// and including the first that `other` lacks or has with an unequal value, which is at most the length times itself:
+    /// `eq_with_counted` counts them, with that number proved.
     ///
     /// The answer is yes exactly where no fair list of keyed calls tells the two apart, and a yes outlasts every such
     /// list: all answers agree, and the two are the same afterwards. A list of calls is fair where, at each insertion of
@@ -21,9 +25,9 @@ impl<K: Eq, V: Eq, const N: usize> Map<K, V, N> {
         ensures told_apart { IsFalse result ↔ ToldApart K.eq V.eq N M self.now other.now }
         ensures outlasts { OnTrue result (SameForGood K.eq V.eq N M self.now other.now) }
     {
-        // What holds of each map's content is learnt from `len`.
-        let _held = (self.len(), other.len());
-        self.differs_at(other).is_none()
+        // Equally many keys, each of which `other` has too: so `other` has no other key.
+        let lengths = (self.len(), other.len());
+        lengths.0 == lengths.1 && self.first_unequal(other).is_none()
     }
 
     /// A stored key at which `get` on the two maps doesn't agree, or `None` where the maps are the same: the first key

@@ -7,7 +7,7 @@ ghost use Rattle.std.specs.Option.{IfSome, option_map};
 ghost use Rattle.micromap_core.specs.Closures.{CalledOnPair, AcceptsPair, VisitsAt};
 ghost use Rattle.micromap_core.specs.Found.{FoundAt, NotFound};
 ghost use Rattle.micromap_core.specs.Lends.{lends_value_at};
-ghost use Rattle.micromap_core.specs.Pairs.{at, has_room, index_by, index_of, pair, put, put_key, take_out_by, with_value_at, without_at};
+ghost use Rattle.micromap_core.specs.Pairs.{IsContent, at, has_room, index_by, index_of, pair, put, put_key, take_out_by, with_value_at, without_at};
 ghost use Rattle.micromap_core.specs.Probe.{at_matched, pair_matched, take_out_matched};
 
 use super::Map;
@@ -48,13 +48,15 @@ impl<K: Eq, V, const N: usize> Map<K, V, N> {
         self.first(probe)
     }
 
-    // Its index, and what follows of it.
+    // Its index, and what follows of it. Every call that changes a map by a key learns here what holds of its content.
     #[inline]
     pub(crate) fn index_of<P: Probe<K>>(&self, probe: &P) -> Option<usize>
         ensures answer { result ≡ index_by (P.matches probe.now) self.now }
         ensures found { IfSome result (FoundAt (P.matches probe.now) self.now) }
         ensures missing { IfNone result (NotFound (P.matches probe.now) self.now) }
+        ensures content { IsContent K.eq N self.now }
     {
+        let _content = self.len();
         self.first_index(probe)
     }
 
@@ -150,6 +152,7 @@ impl<K: Eq + Drop, V: Drop, const N: usize> Map<K, V, N> {
         ensures pair { result ≡ lookup_entry (P.matches probe.now) self.old }
         ensures value { option_map (λ p. p.1) result ≡ lookup (P.matches probe.now) self.old }
         ensures pairs { self.new ≡ take_out_by (P.matches probe.now) self.old }
+        ensures content { IsContent K.eq N self.old }
     {
         let index = self.index_of(probe)?;
         Some(self.take_at(index))
@@ -164,6 +167,7 @@ impl<K: Eq + Drop, V: Drop, const N: usize> Map<K, V, N> {
         ensures pair_matched { result ≡ pair_matched K.eq (P.matches probe.now) self.old }
         ensures value_matched { option_map (λ p. p.1) result ≡ at_matched K.eq (P.matches probe.now) self.old }
         ensures pairs_matched { self.new ≡ take_out_matched K.eq (P.matches probe.now) self.old }
+        ensures content { IsContent K.eq N self.old }
     {
         self.take_first(probe)
     }

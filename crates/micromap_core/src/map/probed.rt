@@ -4,6 +4,7 @@ ghost use Rattle.std.specs.Prelude.{◌≡◌, Some, IsTrue};
 ghost use Rattle.std.specs.Borrow.{sem};
 ghost use Rattle.std.specs.Map.Iter.{deref_pair};
 ghost use Rattle.std.specs.Option.{option_copied, option_copied_mut, option_map};
+ghost use Rattle.micromap_core.specs.Pairs.{IsContent};
 ghost use Rattle.micromap_core.specs.Probe.{has_matched, at_matched, pair_matched, take_out_matched};
 ghost use Rattle.micromap_core.specs.Lends.{lends_matched, lends_matched_if};
 
@@ -26,6 +27,7 @@ impl<K: Eq, V, const N: usize> Map<K, V, N> {
     pub fn get_mut_by<P: Probe<K>>(&mut self, probe: &P) -> Option<&mut V>
         ensures* writes_back { sem 𝓛 (lends_matched_if K.row V.row N.row K.eq self.entry (P.matches probe.now) result) }
         ensures answer { option_copied_mut result ≡ at_matched K.eq (P.matches probe.now) self.old }
+        ensures content { IsContent K.eq N self.old }
     {
         match self.index_of(probe) {
             Some(index) => Some(self.value_at(index)),
@@ -67,6 +69,7 @@ impl<K: Eq, V, const N: usize> Map<K, V, N> {
         requires { IsTrue (has_matched (P.matches probe.now) self.old) }
         ensures* writes_back { sem 𝓛 (lends_matched K.row V.row N.row K.eq self.entry (P.matches probe.now) result) }
         ensures answer { at_matched K.eq (P.matches probe.now) self.old ≡ Some result.now }
+        ensures content { IsContent K.eq N self.old }
     {
         match self.index_of(probe) {
             Some(index) => self.value_at(index),
@@ -82,6 +85,7 @@ impl<K: Eq + Drop, V: Drop, const N: usize> Map<K, V, N> {
     pub fn remove_by<P: Probe<K>>(&mut self, probe: &P) -> Option<V>
         ensures answer { result ≡ at_matched K.eq (P.matches probe.now) self.old }
         ensures pairs { self.new ≡ take_out_matched K.eq (P.matches probe.now) self.old }
+        ensures content { IsContent K.eq N self.old }
     {
         let (_key, value) = self.take(probe)?;
         Some(value)
@@ -92,6 +96,7 @@ impl<K: Eq + Drop, V: Drop, const N: usize> Map<K, V, N> {
     pub fn remove_entry_by<P: Probe<K>>(&mut self, probe: &P) -> Option<(K, V)>
         ensures answer { result ≡ pair_matched K.eq (P.matches probe.now) self.old }
         ensures pairs { self.new ≡ take_out_matched K.eq (P.matches probe.now) self.old }
+        ensures content { IsContent K.eq N self.old }
     {
         self.take(probe)
     }

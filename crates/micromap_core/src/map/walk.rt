@@ -5,6 +5,7 @@
 ghost use Rattle.std.specs.Prelude.{◌≡◌, [], reverse};
 ghost use Rattle.std.specs.Map.{keys_of, values_of};
 ghost use Rattle.std.specs.Map.Iter.{GivesInOrder, ShowsInOrder, deref, deref_pair};
+ghost use Rattle.micromap_core.specs.Pairs.{IsContent};
 
 use super::{Drain, IntoIter, IntoKeys, IntoValues, Iter, Keys, Map, Values};
 use std::mem;
@@ -65,7 +66,9 @@ impl<K: Eq + Drop, V: Drop, const N: usize> Map<K, V, N> {
         ensures answer { result ≡ self.old }
         ensures emptied { self.new ≡ [] }
         ensures runs { GivesInOrder (K × V) }
+        ensures content { IsContent K.eq N self.old }
     {
+        let _content = self.len();
         let Map { pairs } = mem::take(self);
         Drain::over(pairs.into_array_vec())
     }

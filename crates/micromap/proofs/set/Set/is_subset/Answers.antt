@@ -1,18 +1,20 @@
-use Rattle.std.proofs.Common.{◌≡◌, ◌↔◌, [], true, false, IsTrue, sym, subst, rules}
-use Rattle.std.specs.List.{list_all}
-use Rattle.micromap.specs.Items.{contains}
+use Rattle.std.proofs.Common.{◌≡◌, ◌↔◌, ◌<◌, [], length, IsTrue, sym, subst, rules}
 use Rattle.micromap.specs.Operations.{difference}
+use Rattle.micromap_core.proofs.DistinctLemmas.{missing_in_shorter}
 use Rattle.micromap.proofs.OperationLaws.{subset-difference}
 use Rattle.micromap.proofs.set.Set.is_subset.Goals as goal
 
-pub returns-then-not-contains-clause-nothing_beyond : goal.returns-then-not-contains-clause-nothing_beyond
-returns-then-not-contains-clause-nothing_beyond g c =
+pub returns-then-len-clause-answer : goal.returns-then-len-clause-answer
+returns-then-len-clause-answer g c =
+    let short : length c.args.other.now < length c.args.self.now = search rules in
+    sym (missing_in_shorter g.met.T.Eq.laws c.args.self.now c.args.other.now c.len.ensures.content.unique short)
+
+pub returns-then-len-clause-nothing_beyond : goal.returns-then-len-clause-nothing_beyond
+returns-then-len-clause-nothing_beyond g c =
     let eq = g.T.PartialEq.eq in
-    let answer : false ≡ list_all (contains eq c.args.other.now) c.args.self.now = search rules in
-    subst (λ b. IsTrue b ↔ (difference eq c.args.self.now c.args.other.now ≡ [])) (sym answer) (subset-difference eq c.args.self.now c.args.other.now)
+    subst (λ b. IsTrue b ↔ (difference eq c.args.self.now c.args.other.now ≡ [])) (sym (returns-then-len-clause-answer g c)) (subset-difference eq c.args.self.now c.args.other.now)
 
 pub returns-clause-nothing_beyond : goal.returns-clause-nothing_beyond
 returns-clause-nothing_beyond g c =
     let eq = g.T.PartialEq.eq in
-    let answer : true ≡ list_all (contains eq c.args.other.now) c.args.self.now = search rules in
-    subst (λ b. IsTrue b ↔ (difference eq c.args.self.now c.args.other.now ≡ [])) (sym answer) (subset-difference eq c.args.self.now c.args.other.now)
+    subst (λ b. IsTrue b ↔ (difference eq c.args.self.now c.args.other.now ≡ [])) (sym c.is_within.ensures) (subset-difference eq c.args.self.now c.args.other.now)

@@ -1,10 +1,10 @@
 use Rattle.std.proofs.Common.{ap, ◌∙◌, is_some}
 use Rattle.std.specs.Map.{keys_of}
-use Rattle.micromap.proofs.ItemLemmas.{any-keys, take-keys}
+use Rattle.micromap.proofs.ItemLemmas.{any-keys, take_item-keys}
 use Rattle.micromap.proofs.set.Set.remove.Goals as goal
 
 pub returns-clause-answer : goal.returns-clause-answer
 returns-clause-answer g c = rw (← c.self.view_is, any-keys) (c.is_some.ensures ∙ ap is_some c.remove.ensures.answer)
 
 pub returns-clause-items : goal.returns-clause-items
-returns-clause-items g c = rw (← c.self.view_is, take-keys) (ap keys_of c.remove.ensures.pairs)
+returns-clause-items g c = rw (← c.self.view_is, take_item-keys) (ap keys_of c.remove.ensures.pairs)

@@ -13,6 +13,6 @@ retain-requires g c =
       },
     )
 
-pub returns : goal.returns
-returns g c =
-    rw (← c.self.view_is) (ends_inner _ (VisitsItem g.F.FnMut) (λ f. f.0.now) (λ f x b y t said. (search rules, said.1)) _ _ _ c.retain.ensures)
+pub returns-clause-items : goal.returns-clause-items
+returns-clause-items g c =
+    rw (← c.self.view_is) (ends_inner _ (VisitsItem g.F.FnMut) (λ f. f.0.now) (λ f x b y t said. (search rules, said.1)) _ _ _ c.retain.ensures.pairs)

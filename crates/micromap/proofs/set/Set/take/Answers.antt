@@ -1,17 +1,17 @@
 use Rattle.std.proofs.Common.{ap, ◌∙◌}
 use Rattle.std.specs.Map.{keys_of}
 use Rattle.std.specs.Option.{option_map}
-use Rattle.micromap.proofs.ItemLemmas.{find-keys, take-keys}
+use Rattle.micromap.proofs.ItemLemmas.{find-keys, take_item-keys}
 use Rattle.micromap.proofs.set.Set.take.Goals as goal
 
 pub returns-in_err-stored-clause-answer : goal.returns-in_err-stored-clause-answer
 returns-in_err-stored-clause-answer g c = rw (← c.self.view_is, find-keys) (c.from_residual.ensures ∙ ap (option_map (λ p. p.0)) c.in_err-stored.ensures.answer)
 
 pub returns-in_err-stored-clause-items : goal.returns-in_err-stored-clause-items
-returns-in_err-stored-clause-items g c = rw (← c.self.view_is, take-keys) (ap keys_of c.in_err-stored.ensures.pairs)
+returns-in_err-stored-clause-items g c = rw (← c.self.view_is, take_item-keys) (ap keys_of c.in_err-stored.ensures.pairs)
 
 pub returns-clause-answer : goal.returns-clause-answer
 returns-clause-answer g c = rw (← c.self.view_is, find-keys) (ap (option_map (λ p. p.0)) c.in_ok-stored.ensures.answer)
 
 pub returns-clause-items : goal.returns-clause-items
-returns-clause-items g c = rw (← c.self.view_is, take-keys) (ap keys_of c.in_ok-stored.ensures.pairs)
+returns-clause-items g c = rw (← c.self.view_is, take_item-keys) (ap keys_of c.in_ok-stored.ensures.pairs)

@@ -1,6 +1,6 @@
 use Rattle.std.proofs.Common.{sym, ◌∙◌, rules}
 use Rattle.micromap.specs.Items.{add, item_fits}
-use Rattle.micromap_core.proofs.BuildLemmas.{has_put_more, puts_up_to, puts_all, run_puts}
+use Rattle.micromap_core.proofs.BuildLemmas.{has_put_more, puts_up_to, puts_all, run_puts, run_stops}
 use Rattle.micromap.proofs.set.Set.try_extend.Goals as goal
 
 pub loop-x-preserved : goal.loop-x-preserved
@@ -20,6 +20,9 @@ returns-then-not-put-clause-misfit g c =
     let eq = g.T.PartialEq.eq in
     puts_up_to (item_fits eq g.row.N) (add eq) c.args.self.now l.yielded l.at l.self c.put.new.self c.in-Some.x l.invariant.put c.put.ensures.items g.I.Iterator.next_gives c.args.items c.next.new.self (sym c.put.ensures.answer ∙ c.if-not-put.true)
     (rw (← c.into_iter-x-iterator.ensures.into_iter_gives) (l.x-iterator, l.yielded_by, c.in-Some.ensures.steps))
+
+pub returns-then-not-put-clause-stops : goal.returns-then-not-put-clause-stops
+returns-then-not-put-clause-stops g c = run_stops (item_fits g.T.PartialEq.eq g.row.N) (add g.T.PartialEq.eq) g.I.Iterator.next_gives c.args.items c.args.self.now c.put.new.self c.loop-x.at (returns-then-not-put-clause-misfit g c)
 
 pub returns-clause-extends : goal.returns-clause-extends
 returns-clause-extends g c =

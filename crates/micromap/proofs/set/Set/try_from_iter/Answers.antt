@@ -12,5 +12,10 @@ returns-in_err-try_extend-clause-misfit g c =
     let same = err_from_is_err_and c.from_residual.result c.from_residual.ensures.1 in
     rw (same.1, same.2) (builds_up_to g.met.T.Eq.laws (items_keyed g.T.PartialEq.eq g.row.N) (rw c.new-set.ensures at c.in_err-try_extend.ensures.misfit))
 
+pub returns-in_err-try_extend-clause-stops : goal.returns-in_err-try_extend-clause-stops
+returns-in_err-try_extend-clause-stops g c =
+    let same = err_from_is_err_and c.from_residual.result c.from_residual.ensures.1 in
+    rw (same.1, same.2) (rw c.new-set.ensures at c.in_err-try_extend.ensures.stops)
+
 pub returns-clause-runs : goal.returns-clause-runs
 returns-clause-runs g c = rw (← c.new-set.ensures) c.in_ok-try_extend.ensures.runs

@@ -1,5 +1,5 @@
-use Rattle.micromap_core.proofs.PairsLemmas.{IsUnique-nil}
+use Rattle.micromap_core.proofs.MapLaws.{unique_empty}
 use Rattle.micromap_core.proofs.map.Map.clear.Goals as goal
 
 pub invariant_of-self : goal.invariant_of-self
-invariant_of-self g c = rw c.clear.ensures (IsUnique-nil g.row.V.Denot g.K.PartialEq.eq)
+invariant_of-self g c = rw c.clear.ensures (unique_empty g.row.V.Denot g.K.PartialEq.eq)

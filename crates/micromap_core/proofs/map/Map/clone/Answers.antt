@@ -4,8 +4,8 @@ use Rattle.std.proofs.lemmas.List.Elements.{same_from_all_zip}
 use Rattle.micromap_core.proofs.CloneLemmas.{IsUnique-clones}
 use Rattle.micromap_core.proofs.map.Map.clone.Goals as goal
 
-pub invariant_of-result : goal.invariant_of-result
-invariant_of-result g c =
+pub invariant_of-map : goal.invariant_of-map
+invariant_of-map g c =
     IsUnique-clones g.K.PartialEq.eq g.met.K.Eq.laws g.K.Clone.is_clone g.V.Clone.is_clone c.requires _ _ c.in_ok-pairs.ensures.clones c.self.invariant
 
 pub returns-clause-same : goal.returns-clause-same

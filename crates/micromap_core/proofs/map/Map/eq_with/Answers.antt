@@ -1,20 +1,20 @@
-use Rattle.std.proofs.Common.{◌≡◌, ◌↔◌, Bool, true, false, not, IsTrue, refl, sym, ◌∙◌}
-use Rattle.std.proofs.lemmas.Bool.{true≢false, false≢true}
 use Rattle.micromap_core.proofs.FairLemmas.{no_answered, yes_answered}
+use Rattle.micromap_core.proofs.OneSideLemmas.{answered_long, answered_short, none_unequal}
 use Rattle.micromap_core.proofs.map.Map.eq_with.Goals as goal
 
--- no difference is found exactly where the two are the same
-none_found : (P : Type 0) (found answer : Bool) → found ≡ not answer → (found ≡ false) ↔ P → IsTrue answer ↔ P
-none_found P found true is none = (λ yes. none.0 is, λ p. refl)
-none_found P found false is none = (λ yes. absurd (false≢true yes), λ p. absurd (true≢false (sym is ∙ none.1 p)))
+pub returns-then-lengths-clause-answer : goal.returns-then-lengths-clause-answer
+returns-then-lengths-clause-answer g c =
+    answered_long g.K.PartialEq.eq g.V.PartialEq.eq g.met.K.Eq.laws g.met.V.Eq.laws c.args.self.now c.args.other.now c.len.ensures.content.unique c.len-2.ensures.content.unique c.len.result c.len-2.result c.len.ensures.answer c.len-2.ensures.answer c.if-lengths.true c.is_none.result
+    (none_unequal g.K.PartialEq.eq g.V.PartialEq.eq c.args.self.now c.args.other.now c.first_unequal.result c.first_unequal.ensures c.is_none.result c.is_none.ensures)
 
-pub returns-clause-answer : goal.returns-clause-answer
-returns-clause-answer g c = none_found _ _ c.is_none.result c.is_none.ensures c.differs_at.ensures.none
+pub returns-else-lengths-clause-answer : goal.returns-else-lengths-clause-answer
+returns-else-lengths-clause-answer g c = answered_short g.K.PartialEq.eq g.V.PartialEq.eq g.met.K.Eq.laws g.met.V.Eq.laws c.args.self.now c.args.other.now c.len.ensures.content.unique c.len-2.ensures.content.unique c.len.result c.len-2.result c.len.ensures.answer c.len-2.ensures.answer c.if-lengths.false
 
-pub returns-clause-told_apart : goal.returns-clause-told_apart
-returns-clause-told_apart g c =
-    no_answered g.K.PartialEq.eq g.V.PartialEq.eq g.met.K.Eq.laws g.met.V.Eq.laws g.row.N g.row.M c.args.self.now c.args.other.now c.len.ensures.content.unique c.len-2.ensures.content.unique c.is_none.result (none_found _ _ c.is_none.result c.is_none.ensures c.differs_at.ensures.none)
+pub returns-then-lengths-clause-told_apart : goal.returns-then-lengths-clause-told_apart
+returns-then-lengths-clause-told_apart g c = no_answered g.K.PartialEq.eq g.V.PartialEq.eq g.met.K.Eq.laws g.met.V.Eq.laws g.row.N g.row.M c.args.self.now c.args.other.now c.len.ensures.content.unique c.len-2.ensures.content.unique _ (returns-then-lengths-clause-answer g c)
 
-pub returns-clause-outlasts : goal.returns-clause-outlasts
-returns-clause-outlasts g c =
-    yes_answered g.K.PartialEq.eq g.V.PartialEq.eq g.met.K.Eq.laws g.met.V.Eq.laws g.row.N g.row.M c.args.self.now c.args.other.now c.len.ensures.content.unique c.len-2.ensures.content.unique c.is_none.result (none_found _ _ c.is_none.result c.is_none.ensures c.differs_at.ensures.none)
+pub returns-else-lengths-clause-told_apart : goal.returns-else-lengths-clause-told_apart
+returns-else-lengths-clause-told_apart g c = no_answered g.K.PartialEq.eq g.V.PartialEq.eq g.met.K.Eq.laws g.met.V.Eq.laws g.row.N g.row.M c.args.self.now c.args.other.now c.len.ensures.content.unique c.len-2.ensures.content.unique _ (returns-else-lengths-clause-answer g c)
+
+pub returns-then-lengths-clause-outlasts : goal.returns-then-lengths-clause-outlasts
+returns-then-lengths-clause-outlasts g c = yes_answered g.K.PartialEq.eq g.V.PartialEq.eq g.met.K.Eq.laws g.met.V.Eq.laws g.row.N g.row.M c.args.self.now c.args.other.now c.len.ensures.content.unique c.len-2.ensures.content.unique _ (returns-then-lengths-clause-answer g c)

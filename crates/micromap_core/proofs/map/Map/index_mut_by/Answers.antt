@@ -9,5 +9,5 @@ pub returns : goal.returns
 returns g c =
     let found = c.in-Some.ensures.found in (
       (refl, λ w. written_at _ c.args.self.now c.in-Some.index found w ∙ sym (put_matched_is g.K.PartialEq.eq (g.P.Probe.matches c.args.probe.now) (g.met.P.Probe.equal_keys_match_alike c.args.probe.now) (g.met.P.Probe.matching_keys_are_equal c.args.probe.now) c.args.self.now w)),
-      record { writes_back = tt; answer = at_matched_is g.K.PartialEq.eq (g.P.Probe.matches c.args.probe.now) (g.met.P.Probe.equal_keys_match_alike c.args.probe.now) (g.met.P.Probe.matching_keys_are_equal c.args.probe.now) c.args.self.now ∙ found.value ∙ sym (ap (option_map (λ p. p.1)) found.here) ∙ c.value_at.ensures.value },
+      record { writes_back = tt; answer = at_matched_is g.K.PartialEq.eq (g.P.Probe.matches c.args.probe.now) (g.met.P.Probe.equal_keys_match_alike c.args.probe.now) (g.met.P.Probe.matching_keys_are_equal c.args.probe.now) c.args.self.now ∙ found.value ∙ sym (ap (option_map (λ p. p.1)) found.here) ∙ c.value_at.ensures.value; content = c.in-Some.ensures.content },
     )

@@ -22,8 +22,8 @@ pub loop-index-preserved : goal.loop-index-preserved
 loop-index-preserved g c =
     drops_next g.F.FnMut c.args.keep c.args.self.now _ _ _ c.loop-index.invariant _ _ _ (rw c.if-visit_at.false at c.visit_at.ensures) c.take_at.ensures.pairs
 
-pub returns : goal.returns
-returns g c = walk_ends g.F.FnMut c.args.keep c.args.self.now _ _ _ c.loop-index.invariant (rw c.len.ensures.answer at c.loop-index-test.false)
+pub returns-clause-pairs : goal.returns-clause-pairs
+returns-clause-pairs g c = walk_ends g.F.FnMut c.args.keep c.args.self.now _ _ _ c.loop-index.invariant (rw c.len.ensures.answer at c.loop-index-test.false)
 
 -- a removal leaves one pair less
 pub loop-index-smaller : goal.loop-index-smaller

@@ -1,7 +1,7 @@
 use Rattle.std.proofs.Common.{◌≡◌, true, false, [], is_some, ap, sym, ◌∙◌, rules}
 use Rattle.micromap_core.specs.Build.{pair_fits, put_pair}
 use Rattle.micromap_core.specs.Pairs.{at}
-use Rattle.micromap_core.proofs.BuildLemmas.{has_put_more, puts_up_to, puts_all, run_puts}
+use Rattle.micromap_core.proofs.BuildLemmas.{has_put_more, puts_up_to, puts_all, run_puts, run_stops}
 use Rattle.micromap_core.proofs.CountLemmas.{pairs_keyed, builds_all, builds_up_to}
 use Rattle.micromap_core.proofs.Lists.{is_some-if}
 use Rattle.micromap_core.proofs.map.Map.try_from_iter.Goals as goal
@@ -39,3 +39,8 @@ returns-clause-built g c =
 
 pub returns-clause-runs : goal.returns-clause-runs
 returns-clause-runs g c = run_puts (pair_fits g.K.PartialEq.eq g.row.N) (put_pair g.K.PartialEq.eq) g.I.Iterator.next_gives c.args.items [] c.loop-key.map (returns-clause-built g c).all
+
+pub returns-then-is_none-clause-stops : goal.returns-then-is_none-clause-stops
+returns-then-is_none-clause-stops g c =
+    let misfit = returns-then-is_none-clause-misfit g c in
+    run_stops (pair_fits g.K.PartialEq.eq g.row.N) (put_pair g.K.PartialEq.eq) g.I.Iterator.next_gives c.args.items [] misfit.built c.loop-key.at misfit.first

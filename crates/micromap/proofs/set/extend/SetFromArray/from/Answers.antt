@@ -1,4 +1,4 @@
-use Rattle.std.proofs.Common.{◌≡◌, true, ◌<◌, ◌≤◌, [], length, get_or, ap, ◌∙◌, rules}
+use Rattle.std.proofs.Common.{◌≡◌, true, [], get_or, ap, ◌∙◌, rules}
 use Rattle.std.proofs.lemmas.List.{take_all}
 use Rattle.micromap.specs.Extend.{distinct}
 use Rattle.micromap.specs.Items.{add, item_fits}

@@ -1,4 +1,4 @@
-use Rattle.std.proofs.Common.{Some, Ok, codes, rules}
+use Rattle.std.proofs.Common.{Some, Ok, rules}
 use Rattle.std.specs.Fmt.{DisplaysOnOk, formatter_spec}
 use Rattle.micromap_core.proofs.PrintLemmas.{plain_append, WritesAs, styled_append, with_options, styled_from, printing_begins, printing_more, printing_ends}
 use Rattle.micromap.proofs.set.print.SetDisplay.fmt.Goals as goal

@@ -1,0 +1,36 @@
+use Rattle.std.proofs.Common.{◌≡◌, ◌≤◌, ◌++◌, [], ◌∷◌, Some, map, false, string_bytes, ap, ◌∙◌, subst, rules}
+use Rattle.serde_json.specs.Data.{depth, string}
+use Rattle.serde_json.specs.Read.{max_depth, read}
+use Rattle.serde_json.specs.View.{view}
+use Rattle.serde_json.specs.Written.{compact_text, has_float}
+use Rattle.serde_json.proofs.Views.{view-Array}
+use Rattle.micromap.proofs.JsonWriting.{as_data, elements_again, elements_read, elements_text, pushes_one}
+use Rattle.micromap.proofs.json.write.set_to_json.Goals as goal
+
+pub loop-text-init : goal.loop-text-init
+loop-text-init g c = ap (λ vs. map view vs ++ as_data c.into_iter-text-iterator.result) c.new-elements.ensures.items ∙ ap as_data c.into_iter-text-iterator.ensures.into_iter_gives.0
+
+pub loop-text-preserved : goal.loop-text-preserved
+loop-text-preserved g c =
+    let is : view c.in_ok-try_from_str.field-0 ≡ string (string_bytes c.in-Some.text.now) = search rules in
+    let made : c.push.new.list.items ≡ c.loop-text.elements.items ++ c.in_ok-try_from_str.field-0 ∷ [] = search rules in
+    pushes_one c.loop-text.elements.items c.push.new.list.items c.in_ok-try_from_str.field-0 c.in-Some.text.now c.loop-text.text-iterator c.next.new.self c.args.set.now c.loop-text.invariant c.in-Some.ensures.steps is made
+
+pub returns-clause-array : goal.returns-clause-array
+returns-clause-array g c =
+    elements_read c.loop-text.elements.items c.args.set.now (string_bytes c.in_ok-to_string.field-0)
+    (subst (λ rest. map view c.loop-text.elements.items ++ as_data rest ≡ as_data c.args.set.now) c.in-None.ensures.steps.0 c.loop-text.invariant)
+    (subst (λ d. depth d ≤ max_depth → read (string_bytes c.in_ok-to_string.field-0) ≡ Some d) (view-Array c.loop-text.elements) c.in_ok-to_string.ensures.reads_back)
+
+pub returns-clause-again : goal.returns-clause-again
+returns-clause-again g c =
+    elements_again c.loop-text.elements.items c.args.set.now (string_bytes c.in_ok-to_string.field-0)
+    (subst (λ rest. map view c.loop-text.elements.items ++ as_data rest ≡ as_data c.args.set.now) c.in-None.ensures.steps.0 c.loop-text.invariant)
+    (subst (λ d. depth d ≤ max_depth → read (string_bytes c.in_ok-to_string.field-0) ≡ Some d) (view-Array c.loop-text.elements) c.in_ok-to_string.ensures.reads_back)
+    c.len-content.ensures.content.unique
+
+pub returns-clause-text : goal.returns-clause-text
+returns-clause-text g c =
+    elements_text c.loop-text.elements.items c.args.set.now (string_bytes c.in_ok-to_string.field-0)
+    (subst (λ rest. map view c.loop-text.elements.items ++ as_data rest ≡ as_data c.args.set.now) c.in-None.ensures.steps.0 c.loop-text.invariant)
+    (subst (λ d. has_float d ≡ false → string_bytes c.in_ok-to_string.field-0 ≡ compact_text d) (view-Array c.loop-text.elements) c.in_ok-to_string.ensures.text)

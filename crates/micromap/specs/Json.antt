@@ -1,0 +1,99 @@
+-- What a text has for a map or a set, as `serde_json` reads it: the pairs of an object, or the texts of an array, else the
+-- first fault that applies. Names and texts are lists of bytes.
+use Rattle.std.specs.Prelude.{◌≡◌, ◌⊎◌, codes, ℕ, ℤ, List, [], ◌∷◌, length, map, nat_lt, if◌then◌else◌, Option, Some, option_map, option_and_then, ok_or, Result, Ok, Err, String, string_bytes, bytes_eq}
+use Rattle.std.specs.Ordering.{int_eq}
+use Rattle.std.specs.declared.alloc.Global.{Global}
+use Rattle.serde_json.specs.Data.{Data, Items, no_items, item, Members, no_members, member, string}
+use Rattle.serde_json.specs.Find.{as_array, as_i64, as_number, as_object, as_str}
+use Rattle.serde_json.specs.Read.{read}
+use Rattle.serde_json.specs.View.{items_of}
+use Rattle.micromap.specs.Extend.{distinct}
+use Rattle.micromap.specs.declared.json.JsonFault.{JsonFault}
+use Rattle.micromap.specs.declared.json.JsonFault.TheVariants.{BadText, NotObject, NotArray, NotWhole, NotText, TooMany, Memory}
+use Rattle.micromap_core.specs.Same.{Same}
+
+-- a fault's number
+abbrev pub code : JsonFault → ℕ
+code BadText = 1
+code NotObject = 2
+code NotArray = 3
+code NotWhole = 4
+code NotText = 5
+code TooMany = 6
+code Memory = 7
+
+-- what a fault prints
+abbrev pub message : JsonFault → List ℕ
+message BadText = codes "the text is not JSON"
+message NotObject = codes "the text is not an object"
+message NotArray = codes "the text is not an array"
+message NotWhole = codes "a value is not a whole number of 64 bits"
+message NotText = codes "an element is not a text"
+message TooMany = codes "there are more distinct texts than there is room for"
+message Memory = codes "a request for memory was refused"
+
+abbrev pub Text : Type 0
+Text = List ℕ
+
+-- the content of a map of texts to whole numbers
+abbrev pub Pairs : Type 0
+Pairs = List (String Global × ℤ)
+
+-- the step after, unless there was a fault
+abbrev pub and_then : {A B : Type 0} → Result A JsonFault → (A → Result B JsonFault) → Result B JsonFault
+and_then (Ok x) step = step x
+and_then (Err fault) step = Err fault
+
+-- a value as a whole number that an `i64` holds
+abbrev pub whole : Data → Option ℤ
+whole value = option_and_then as_i64 (as_number value)
+
+-- the members' names with their values, where each is whole
+abbrev pub whole_members : Members → Option (List (Text × ℤ))
+whole_members no_members = Some []
+whole_members (member name value members) = option_and_then (λ n. option_map (λ pairs. (name, n) ∷ pairs) (whole_members members)) (whole value)
+
+-- the elements, where each is a text
+abbrev pub all_texts : Items → Option (List Text)
+all_texts no_items = Some []
+all_texts (item value items) = option_and_then (λ text. option_map (λ texts. text ∷ texts) (all_texts items)) (as_str value)
+
+-- no more than N of them
+abbrev pub within : {X : Type 0} → ℕ → List X → Result (List X) JsonFault
+within N xs = if nat_lt N (length xs) then Err TooMany else Ok xs
+
+-- the pairs of the object that a text is; its names are distinct
+abbrev pub object_pairs : Text → Result (List (Text × ℤ)) JsonFault
+object_pairs text = and_then (ok_or (read text) BadText) (λ value. and_then (ok_or (as_object value) NotObject) (λ members. ok_or (whole_members members) NotWhole))
+
+-- the same for a map of capacity N
+abbrev pub pairs_for : ℕ → Text → Result (List (Text × ℤ)) JsonFault
+pairs_for N text = and_then (object_pairs text) (within N)
+
+-- the texts of the array that a text is
+abbrev pub array_texts : Text → Result (List Text) JsonFault
+array_texts text = and_then (ok_or (read text) BadText) (λ value. and_then (ok_or (as_array value) NotArray) (λ items. ok_or (all_texts items) NotText))
+
+-- each distinct one as it came first, for a set of capacity N
+abbrev pub texts_for : ℕ → Text → Result (List Text) JsonFault
+texts_for N text = and_then (array_texts text) (λ texts. within N (distinct bytes_eq texts))
+
+-- the fault that a text has, or want of memory
+abbrev pub IsFault : {X : Type 0} → Result X JsonFault → JsonFault → Type 0
+IsFault reading fault = (fault ≡ Memory) ⊎ (reading ≡ Err fault)
+
+-- a map's pairs, with their keys as bytes
+abbrev pub in_bytes : Pairs → List (Text × ℤ)
+in_bytes pairs = map (λ p. (string_bytes p.0, p.1)) pairs
+
+-- a set's items as bytes
+abbrev pub texts_of : List (String Global) → List Text
+texts_of items = map (λ s. string_bytes s) items
+
+-- the text's object has just these pairs
+abbrev pub HasPairs : ℕ → Text → Pairs → Type 0
+HasPairs N text pairs = (members : List (Text × ℤ)) × (pairs_for N text ≡ Ok members) × Same bytes_eq int_eq members (in_bytes pairs)
+
+-- the array of the texts, in their order
+abbrev pub elements : List (String Global) → Items
+elements items = items_of (map (λ s. string (string_bytes s)) items)

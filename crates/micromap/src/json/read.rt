@@ -1,0 +1,129 @@
+//! Reading a map of an object, and a set of an array.
+ghost use Rattle.std.specs.Prelude.{◌≡◌, IfOk, IfErr, MatchResult, Ok, Err, ok_or, option_map, string_bytes, bytes_eq, if◌then◌else◌};
+ghost use Rattle.std.specs.Ordering.{int_eq};
+ghost use Rattle.std.specs.String.{string_eq};
+ghost use Rattle.serde_json.specs.Find.{as_str};
+ghost use Rattle.serde_json.specs.Read.{read as value_of};
+ghost use Rattle.serde_json.specs.View.{view, items_view, members_view};
+ghost use Rattle.micromap.specs.Extend.{distinct};
+ghost use Rattle.micromap.specs.Json.{pairs_for, texts_for, and_then, within, whole, whole_members, all_texts, in_bytes, texts_of, Pairs, HasPairs, IsFault};
+ghost use Rattle.micromap.specs.Pairs.{fits, put};
+ghost use Rattle.micromap.specs.Same.{Same};
+ghost use Rattle.micromap.specs.declared.json.JsonFault.TheVariants.{BadText, NotWhole, NotText, Memory};
+
+use super::JsonFault;
+use crate::{Map, Set};
+use serde_json::Value;
+use std::alloc::Global;
+
+/// The map of an object's members, which come in the order of `serde_json`'s own map; of a repeated name it keeps one.
+///
+/// It takes memory for the values that are read. Each member costs one scan.
+pub fn map_from_json<const N: usize>(
+    alloc: Global,
+    text: &str,
+) -> Result<Map<String, i64, N>, JsonFault>
+    ensures pairs { IfOk result (HasPairs N text.now) }
+    ensures fault { IfErr result (IsFault (pairs_for N text.now)) }
+    ensures again { (pairs : Pairs) → HasPairs N text.now pairs → MatchResult result (λ map. Same string_eq int_eq pairs map) (λ fault. fault ≡ Memory) }
+{
+    match read(alloc, text)? {
+        Value::Object(members) => map_of_members(members),
+        _ => Err(JsonFault::NotObject),
+    }
+}
+
+/// The set of an array's texts, each distinct one as it came first.
+///
+/// It takes memory for the values that are read. Each text costs one scan.
+pub fn set_from_json<const N: usize>(alloc: Global, text: &str) -> Result<Set<String, N>, JsonFault>
+    ensures texts { IfOk result (λ set. texts_for N text.now ≡ Ok (texts_of set)) }
+    ensures fault { IfErr result (IsFault (texts_for N text.now)) }
+{
+    match read(alloc, text)? {
+        Value::Array(elements) => set_of_elements(elements),
+        _ => Err(JsonFault::NotArray),
+    }
+}
+
+fn read(alloc: Global, text: &str) -> Result<Value, JsonFault>
+    ensures value { IfOk result (λ value. ok_or (value_of text.now) BadText ≡ Ok (view value)) }
+    ensures fault { IfErr result (IsFault (ok_or (value_of text.now) BadText)) }
+{
+    match Value::from_str(alloc, text) {
+        Ok(value) => Ok(value),
+        Err(error) if error.is_memory() => Err(JsonFault::Memory),
+        Err(_) => Err(JsonFault::BadText),
+    }
+}
+
+// The map of these members, all of which are looked at first.
+fn map_of_members<const N: usize>(
+    members: serde_json::Map<String, Value>,
+) -> Result<Map<String, i64, N>, JsonFault>
+    ensures pairs { IfOk result (λ map. and_then (ok_or (whole_members (members_view members.entries)) NotWhole) (within N) ≡ Ok (in_bytes map)) }
+    ensures fault { IfErr result (λ fault. and_then (ok_or (whole_members (members_view members.entries)) NotWhole) (within N) ≡ Err fault) }
+{
+    let mut map = Map::new();
+    let mut all_fit = true;
+    for (name, value) in members {
+        let Some(whole) = whole_of(value) else {
+            return Err(JsonFault::NotWhole);
+        };
+        if !put(&mut map, name, whole) {
+            all_fit = false;
+        }
+    }
+    let _content = map.len();
+    if all_fit {
+        Ok(map)
+    } else {
+        Err(JsonFault::TooMany)
+    }
+}
+
+fn whole_of(value: Value) -> Option<i64>
+    ensures { result ≡ whole (view value) }
+{
+    value.as_i64()
+}
+
+// Puts the pair where it fits, by one scan, and answers whether it did.
+fn put<const N: usize>(map: &mut Map<String, i64, N>, name: String, whole: i64) -> bool
+    ensures answer { result ≡ fits string_eq N map.old name }
+    ensures pairs { map.new ≡ (if fits string_eq N map.old name then put string_eq map.old name whole else map.old) }
+{
+    map.checked_insert(name, whole).is_some()
+}
+
+// The set of these elements, all of which are looked at first.
+fn set_of_elements<const N: usize>(elements: Vec<Value>) -> Result<Set<String, N>, JsonFault>
+    ensures texts { IfOk result (λ set. and_then (ok_or (all_texts (items_view elements.items)) NotText) (λ texts. within N (distinct bytes_eq texts)) ≡ Ok (texts_of set)) }
+    ensures fault { IfErr result (λ fault. and_then (ok_or (all_texts (items_view elements.items)) NotText) (λ texts. within N (distinct bytes_eq texts)) ≡ Err fault) }
+{
+    let mut set = Set::new();
+    let mut all_fit = true;
+    for element in elements {
+        let Some(text) = text_of(element) else {
+            return Err(JsonFault::NotText);
+        };
+        if !set.put(text) {
+            all_fit = false;
+        }
+    }
+    let _content = set.len();
+    if all_fit {
+        Ok(set)
+    } else {
+        Err(JsonFault::TooMany)
+    }
+}
+
+fn text_of(value: Value) -> Option<String>
+    ensures { option_map (λ text. string_bytes text) result ≡ as_str (view value) }
+{
+    match value {
+        Value::String(text) => Some(text),
+        _ => None,
+    }
+}

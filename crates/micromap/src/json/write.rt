@@ -1,0 +1,54 @@
+//! Writing a map as an object, and a set as an array.
+ghost use Rattle.std.specs.Prelude.{◌≡◌, ℕ, ◌≤◌, length, IfOk, IfErr, Ok, Some, string_bytes};
+ghost use Rattle.serde_json.specs.Data.{array, depth};
+ghost use Rattle.serde_json.specs.View.{view};
+ghost use Rattle.serde_json.specs.Written.{compact_text};
+ghost use Rattle.micromap.specs.Json.{HasPairs, array_texts, elements, texts_for, texts_of, whole};
+ghost use Rattle.micromap.specs.declared.json.JsonFault.TheVariants.{Memory};
+
+use super::JsonFault;
+use crate::{Map, Set};
+use serde_json::Value;
+use std::alloc::Global;
+
+/// The object of the map's pairs, whose members stand in the order of `serde_json`'s own map.
+///
+/// It takes memory for a copy of each key and for the text.
+pub fn map_to_json<const N: usize>(
+    alloc: Global,
+    map: &Map<String, i64, N>,
+) -> Result<String, JsonFault>
+    ensures object { IfOk result (λ text. (M : ℕ) → length map.now ≤ M → HasPairs M (string_bytes text) map.now) }
+    ensures fault { IfErr result (λ fault. fault ≡ Memory) }
+{
+    let _content = map.len();
+    let mut members = serde_json::Map::new(alloc);
+    for (name, value) in map {
+        serde_json::put(&mut members, alloc, name.as_str(), value_of(*value))?;
+    }
+    Ok(Value::Object(members).to_string(alloc)?)
+}
+
+/// The array of the set's items, from front to end.
+///
+/// It takes memory for a copy of each item and for the text.
+pub fn set_to_json<const N: usize>(alloc: Global, set: &Set<String, N>) -> Result<String, JsonFault>
+    ensures array { IfOk result (λ text. array_texts (string_bytes text) ≡ Ok (texts_of set.now)) }
+    ensures again { IfOk result (λ text. (M : ℕ) → length set.now ≤ M → texts_for M (string_bytes text) ≡ Ok (texts_of set.now)) }
+    ensures text { IfOk result (λ text. string_bytes text ≡ compact_text (array (elements set.now))) }
+    ensures fault { IfErr result (λ fault. fault ≡ Memory) }
+{
+    let _content = set.len();
+    let mut elements = Vec::new(alloc);
+    for text in set {
+        serde_json::push(&mut elements, Value::try_from_str(alloc, text.as_str())?)?;
+    }
+    Ok(Value::Array(elements).to_string(alloc)?)
+}
+
+fn value_of(n: i64) -> Value
+    ensures value { whole (view result) ≡ Some n }
+    ensures flat { depth (view result) ≡ 0 }
+{
+    Value::from(n)
+}

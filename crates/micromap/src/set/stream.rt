@@ -1,0 +1,49 @@
+//! Writing a set's items to a sink, and reading a set from a source, as the keys of pairs with the value `()`.
+ghost use Rattle.std.specs.Prelude.{◌≡◌, ◌<◌, ◌++◌, [], Ok, OnOk, IfOk, IfErr, OnErr, IsErrOf};
+ghost use Rattle.std.specs.Map.{keys_of};
+ghost use Rattle.micromap_core.specs.declared.stream.ReadFault.TheVariants.{Source, TooMany};
+ghost use Rattle.micromap.specs.ItemEntries.{entries_of, SetReadsAll, SetReadsUpTo, SetReadsToMisfit};
+ghost use Rattle.micromap.specs.Items.{IsItems};
+ghost use Rattle.micromap.specs.Stream.{most_faults, Faultless, Faults, TakesBeginning};
+
+use super::Set;
+use crate::Map;
+use crate::stream::{EntrySink, EntrySource, ReadFault};
+
+impl<T: Eq, const N: usize> Set<T, N> {
+    /// Writes the items to the sink, from the front, up to the first fault of the sink, which is then the answer.
+    pub fn write_entries<S: EntrySink<T, ()>>(&self, sink: &mut S) -> Result<(), S::Error>
+        requires { S.faults sink.old < most_faults }
+        ensures whole { OnOk result (S.taken sink.new ≡ S.taken sink.old ++ entries_of self.now) }
+        ensures faultless { OnOk result (Faultless S.faults S.last_fault sink.old sink.new) }
+        ensures beginning { OnErr result (TakesBeginning (S.taken sink.old) (entries_of self.now) (S.taken sink.new)) }
+        ensures fault { IfErr result (Faults S.faults S.last_fault sink.old sink.new) }
+    {
+        self.map.write_entries(sink)
+    }
+}
+
+impl<T: Eq + Drop, const N: usize> Set<T, N> {
+    /// The set of the items that are left in the source, which are put by the rule of `insert`: each distinct item is
+    /// stored as it comes first. Each item costs one scan.
+    ///
+    /// Reading ends with the source, with its first fault, or with the first item that doesn't fit, and takes nothing
+    /// behind that. Where no set is made, what was taken is dropped.
+    pub fn read_entries<S: EntrySource<T, ()>>(source: &mut S) -> Result<Self, ReadFault<S::Error>>
+        requires { S.faults source.old < most_faults }
+        ensures built { IfOk result (SetReadsAll T.eq N (S.left source.old)) }
+        ensures emptied { OnOk result (S.left source.new ≡ []) }
+        ensures faultless { OnOk result (Faultless S.faults S.last_fault source.old source.new) }
+        ensures failed { (e : S.Error) → IsErrOf result (Source e) → SetReadsUpTo T.eq N (S.left source.old) (S.left source.new) }
+        ensures fault { (e : S.Error) → IsErrOf result (Source e) → Faults S.faults S.last_fault source.old source.new e }
+        ensures too_many { IsErrOf result TooMany → SetReadsToMisfit T.eq N (S.left source.old) (S.left source.new) }
+        ensures no_fault { IsErrOf result TooMany → Faultless S.faults S.last_fault source.old source.new }
+        ensures content { IfOk result (IsItems T.eq N) }
+        ensures round_trip { IsItems T.eq N (keys_of (S.left source.old)) → S.faults source.new ≡ S.faults source.old → result ≡ Ok (keys_of (S.left source.old)) }
+    {
+        match Map::read_entries(source) {
+            Ok(map) => Ok(Set { map }),
+            Err(fault) => Err(fault),
+        }
+    }
+}

@@ -1,0 +1,33 @@
+//! The rows of look-ups and comparisons that are counted.
+use micromap::{Map, Steps};
+
+// A look-up costs the index of the key plus one, or the length where the key is missing.
+pub(super) fn row_19() -> bool {
+    let map = Map::from([(5, 50), (6, 60), (7, 70)]);
+    // That the steps fit is learnt from `len`.
+    let _held = map.len();
+    let mut steps = Steps::new();
+    let found = map.get_counted(&6, &mut steps) == Some(&60);
+    let after_one = steps.count();
+    let missing = map.get_counted(&9, &mut steps).is_none();
+    found && after_one == 2 && missing && steps.count() == 5
+}
+
+// A comparison costs a look-up of each key, and nothing where the lengths differ.
+pub(super) fn row_32() -> bool {
+    let map = Map::from([(1, 10), (2, 20), (3, 30)]);
+    compared(&map, &Map::from([(3, 30), (2, 20), (1, 10)])) == (true, 6)
+        && compared(&map, &Map::from([(1, 10), (2, 20)])) == (false, 0)
+}
+
+// Whether the two maps are the same, and what the comparison costs.
+fn compared<const N: usize, const M: usize>(
+    first: &Map<u8, u8, N>,
+    second: &Map<u8, u8, M>,
+) -> (bool, u128) {
+    // That the steps fit is learnt from `len`.
+    let _held = first.len();
+    let mut steps = Steps::new();
+    let same = first.eq_with_counted(second, &mut steps);
+    (same, steps.count())
+}

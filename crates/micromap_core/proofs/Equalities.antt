@@ -1,0 +1,105 @@
+-- For callers: the equalities that are known to be lawful, and the tests that are probes of them. An equality of one's
+-- own is one line: `lawful_mine : Lawful my_eq`, by `lawful`.
+use Rattle.std.proofs.Common.{ℕ, ℤ, Bool, List, String, nat_eq, string_bytes}
+use Rattle.std.specs.Bool.{beq}
+use Rattle.std.specs.Borrow.{Bor}
+use Rattle.std.specs.Cmp.{IsEquivalence, bool_eq_equiv}
+use Rattle.std.specs.Cmp.Lexicographic.{pointwise}
+use Rattle.std.specs.Ordering.{int_eq, on}
+use Rattle.std.specs.String.{string_eq, string_eq_equiv}
+use Rattle.std.proofs.lemmas.Cmp.{int_eq_equiv, nat_eq_equiv, nat_list_eq_equiv, on_equiv}
+use Rattle.micromap_core.specs.Equalities.{IsProbe, Lawful, Probes}
+use Rattle.micromap_core.specs.Probe.{is_str, is_text}
+use Rattle.micromap_core.specs.ProbeLaws.{alike, equal}
+
+module _ {K : Type 0} (eq : K → K → Bool) where
+  -- the words are what they stand for
+  pub lawful : IsEquivalence eq → Lawful eq
+  unfolding Lawful
+  lawful laws = laws
+
+  pub of_lawful : Lawful eq → IsEquivalence eq
+  unfolding Lawful
+  of_lawful laws = laws
+
+  module _ (test : K → Bool) where
+    pub probes : IsProbe eq test → Probes eq test
+    unfolding Probes
+    probes p = p
+
+    pub of_probes : Probes eq test → IsProbe eq test
+    unfolding Probes
+    of_probes p = p
+
+  -- a key is a probe
+  pub is_probe : IsEquivalence eq → (k : K) → IsProbe eq (eq k)
+  is_probe laws k = record { laws = laws; alike_keys = alike laws k; equal_keys = equal laws k }
+
+  pub probes_key : (k : K) → Lawful eq → Probes eq (eq k)
+  probes_key k laws = probes (eq k) (is_probe (of_lawful laws) k)
+
+-- numbers, and characters, which are compared as numbers
+pub lawful_nat : Lawful nat_eq
+lawful_nat = lawful nat_eq nat_eq_equiv
+
+pub probes_nat : (k : ℕ) → Probes nat_eq (nat_eq k)
+probes_nat k = probes_key nat_eq k lawful_nat
+
+pub lawful_int : Lawful int_eq
+lawful_int = lawful int_eq int_eq_equiv
+
+pub probes_int : (k : ℤ) → Probes int_eq (int_eq k)
+probes_int k = probes_key int_eq k lawful_int
+
+pub lawful_bool : Lawful beq
+lawful_bool = lawful beq bool_eq_equiv
+
+pub probes_bool : (k : Bool) → Probes beq (beq k)
+probes_bool k = probes_key beq k lawful_bool
+
+-- texts: a `String`, by itself and by `Text`; the bytes of one; a `&str`
+pub lawful_string : (Z : Type 0) → Lawful (string_eq {Z = Z})
+lawful_string Z = lawful string_eq string_eq_equiv
+
+pub probes_string : (Z : Type 0) (k : String Z) → Probes (string_eq {Z = Z}) (string_eq {Z = Z} k)
+probes_string Z k = probes_key string_eq k (lawful_string Z)
+
+pub probes_text : (Z : Type 0) (bytes : List ℕ) → Probes (string_eq {Z = Z}) (is_text {Z = Z} bytes)
+probes_text Z bytes =
+    probes string_eq (is_text bytes) (record {
+      laws = string_eq_equiv;
+      alike_keys = λ x y. alike nat_list_eq_equiv bytes (string_bytes x) (string_bytes y);
+      equal_keys = λ x y. equal nat_list_eq_equiv bytes (string_bytes x) (string_bytes y);
+    })
+
+pub lawful_bytes : Lawful (pointwise nat_eq)
+lawful_bytes = lawful (pointwise nat_eq) nat_list_eq_equiv
+
+pub probes_bytes : (bytes : List ℕ) → Probes (pointwise nat_eq) (pointwise nat_eq bytes)
+probes_bytes bytes = probes_key (pointwise nat_eq) bytes lawful_bytes
+
+-- the equality of two `&str`
+abbrev str_eq : Bor (List ℕ) → Bor (List ℕ) → Bool
+str_eq x y = pointwise nat_eq x.now y.now
+
+pub lawful_str : Lawful str_eq
+lawful_str = lawful str_eq (on_equiv (λ s. s.now) nat_list_eq_equiv)
+
+pub probes_str : (bytes : List ℕ) → Probes str_eq (is_str bytes)
+probes_str bytes =
+    probes str_eq (is_str bytes) (record {
+      laws = on_equiv (λ s. s.now) nat_list_eq_equiv;
+      alike_keys = λ x y. alike nat_list_eq_equiv bytes x.now y.now;
+      equal_keys = λ x y. equal nat_list_eq_equiv bytes x.now y.now;
+    })
+
+-- what compares by a part
+pub lawful_on : {K J : Type 0} (f : K → J) (eq : J → J → Bool) → Lawful eq → Lawful (on f eq)
+lawful_on f eq laws = lawful (on f eq) (on_equiv f (of_lawful eq laws))
+
+pub probes_on : {K J : Type 0} (f : K → J) (eq : J → J → Bool) (k : J) → Lawful eq → Probes (on f eq) (λ x. eq k (f x))
+probes_on f eq k laws =
+    let l = of_lawful eq laws in
+    probes (on f eq) (λ x. eq k (f x)) (record { laws = on_equiv f l; alike_keys = λ x y. alike l k (f x) (f y); equal_keys = λ x y. equal l k (f x) (f y) })
+
+pub ruleset equalities = (lawful_nat, probes_nat, lawful_int, probes_int, lawful_bool, probes_bool, lawful_string, probes_string, probes_text, lawful_bytes, probes_bytes, lawful_str, probes_str, lawful_on)

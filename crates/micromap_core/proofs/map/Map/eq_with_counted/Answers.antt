@@ -1,0 +1,20 @@
+use Rattle.micromap_core.proofs.FairLemmas.{no_answered, yes_answered}
+use Rattle.micromap_core.proofs.OneSideLemmas.{answered_long, answered_short}
+use Rattle.micromap_core.proofs.map.Map.eq_with_counted.Goals as goal
+
+pub returns-then-lengths-clause-answer : goal.returns-then-lengths-clause-answer
+returns-then-lengths-clause-answer g c =
+    answered_long g.K.PartialEq.eq g.V.PartialEq.eq g.met.K.Eq.laws g.met.V.Eq.laws c.args.self.now c.args.other.now c.len.ensures.content.unique c.len-2.ensures.content.unique c.len.result c.len-2.result c.len.ensures.answer c.len-2.ensures.answer c.if-lengths.true c.is_within_counted.result
+    (c.is_within_counted.ensures.answer)
+
+pub returns-else-lengths-clause-answer : goal.returns-else-lengths-clause-answer
+returns-else-lengths-clause-answer g c = answered_short g.K.PartialEq.eq g.V.PartialEq.eq g.met.K.Eq.laws g.met.V.Eq.laws c.args.self.now c.args.other.now c.len.ensures.content.unique c.len-2.ensures.content.unique c.len.result c.len-2.result c.len.ensures.answer c.len-2.ensures.answer c.if-lengths.false
+
+pub returns-then-lengths-clause-told_apart : goal.returns-then-lengths-clause-told_apart
+returns-then-lengths-clause-told_apart g c = no_answered g.K.PartialEq.eq g.V.PartialEq.eq g.met.K.Eq.laws g.met.V.Eq.laws g.row.N g.row.M c.args.self.now c.args.other.now c.len.ensures.content.unique c.len-2.ensures.content.unique _ (returns-then-lengths-clause-answer g c)
+
+pub returns-else-lengths-clause-told_apart : goal.returns-else-lengths-clause-told_apart
+returns-else-lengths-clause-told_apart g c = no_answered g.K.PartialEq.eq g.V.PartialEq.eq g.met.K.Eq.laws g.met.V.Eq.laws g.row.N g.row.M c.args.self.now c.args.other.now c.len.ensures.content.unique c.len-2.ensures.content.unique _ (returns-else-lengths-clause-answer g c)
+
+pub returns-then-lengths-clause-outlasts : goal.returns-then-lengths-clause-outlasts
+returns-then-lengths-clause-outlasts g c = yes_answered g.K.PartialEq.eq g.V.PartialEq.eq g.met.K.Eq.laws g.met.V.Eq.laws g.row.N g.row.M c.args.self.now c.args.other.now c.len.ensures.content.unique c.len-2.ensures.content.unique _ (returns-then-lengths-clause-answer g c)

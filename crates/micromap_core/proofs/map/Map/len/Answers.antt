@@ -1,0 +1,10 @@
+use Rattle.std.proofs.Common.{rules, ◌≤◌, length, subst}
+use Rattle.micromap_core.proofs.Equalities.{lawful}
+use Rattle.micromap_core.proofs.map.Map.len.Goals as goal
+
+pub returns-clause-content : goal.returns-clause-content
+returns-clause-content g c = record {
+  unique = search rules;
+  bounded = subst (λ pairs. length pairs ≤ g.row.N) c.self.view_is c.len.ensures.bounded;
+  lawful = lawful g.K.PartialEq.eq g.met.K.Eq.laws;
+}

@@ -1,0 +1,14 @@
+use Rattle.std.specs.Prelude.{[], length}
+use Rattle.micromap_core.specs.Build.{pair_fits, put_pair}
+use Rattle.micromap_core.specs.Stream.{Faultless}
+use Rattle.micromap_core.proofs.StreamLemmas.{Reading}
+use Rattle.micromap_core.proofs.map.Map.read_entries.Given as goal
+
+abbrev pub invariant-loop-key : goal.invariant-loop-key
+invariant-loop-key g l = record {
+  faultless : Faultless g.S.EntrySource.faults g.S.EntrySource.last_fault l.fn.source l.source;
+  reading : Reading (pair_fits g.K.PartialEq.eq g.row.N) (put_pair g.K.PartialEq.eq) [] (g.S.EntrySource.left l.fn.source) (g.S.EntrySource.left l.source) l.map;
+}
+
+abbrev pub decreases-loop-key : goal.decreases-loop-key
+decreases-loop-key g l = length (g.S.EntrySource.left l.source)

@@ -1,0 +1,19 @@
+use Rattle.std.proofs.Common.{rules}
+use Rattle.micromap_core.proofs.StreamLemmas.{still_faultless, writing_more, writing_ends, writing_fails}
+use Rattle.micromap_core.proofs.map.Map.write_entries.Goals as goal
+
+pub loop-key-preserved : goal.loop-key-preserved
+loop-key-preserved g c = record {
+  can = search rules;
+  finite = search rules;
+  faultless = still_faultless c.loop-key.invariant.faultless c.in_ok-entry.ensures.faultless;
+  writing = writing_more c.loop-key.invariant.writing c.in-Some.ensures.steps c.in_ok-entry.ensures.taken;
+}
+
+pub returns-in_err-entry-clause-beginning : goal.returns-in_err-entry-clause-beginning
+returns-in_err-entry-clause-beginning g c =
+    let fails = writing_fails c.loop-key.invariant.writing c.in-Some.ensures.steps c.in_err-entry.ensures.kept in
+    search rules
+
+pub returns-clause-whole : goal.returns-clause-whole
+returns-clause-whole g c = writing_ends c.loop-key.invariant.writing c.in-None.ensures.steps.0

@@ -1,0 +1,19 @@
+-- Equalities that are lawful, and tests that tell one class of equal keys from the others. Each is a word that doesn't
+-- unfold, so that a law that asks it is found by a fact that states it.
+use Rattle.std.specs.Prelude.{◌≡◌, Bool, true}
+use Rattle.std.specs.Cmp.{IsEquivalence}
+
+module _ {K : Type 0} where
+  -- the test passes equal keys alike, and keys that pass are equal
+  pub record IsProbe (eq : K → K → Bool) (test : K → Bool) : Type 0 where
+    pub laws : IsEquivalence eq
+    pub alike_keys : (x y : K) → eq x y ≡ true → test x ≡ test y
+    pub equal_keys : (x y : K) → test x ≡ true → test y ≡ true → eq x y ≡ true
+
+  -- eq is an equivalence
+  unfoldable pub Lawful : (K → K → Bool) → Type 0
+  Lawful eq = IsEquivalence eq
+
+  -- eq is one, and the test is a probe of it
+  unfoldable pub Probes : (K → K → Bool) → (K → Bool) → Type 0
+  Probes eq test = IsProbe eq test

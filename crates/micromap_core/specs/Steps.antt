@@ -1,0 +1,21 @@
+-- How many keys a look-up compares, and a comparison of two lists of pairs. A step is one comparison of two keys.
+use Rattle.std.specs.Prelude.{ℕ, suc, ◌+◌, Bool, List, [], ◌∷◌, length, nat_eq, if◌then◌else◌}
+use Rattle.std.specs.Option.{option_map_or}
+use Rattle.micromap_core.specs.Pairs.{index_of}
+use Rattle.micromap_core.specs.Same.{has_value}
+
+module _ {K V : Type 0} (eq : K → K → Bool) where
+  -- of a look-up: the index of the key plus one, or the length where the key is missing
+  abbrev pub look_up_steps : List (K × V) → K → ℕ
+  look_up_steps pairs k = option_map_or suc (index_of eq pairs k) (length pairs)
+
+  module _ (same : V → V → Bool) (other : List (K × V)) where
+    -- of the look-ups in the other list of each key of one list, up to and including the first pair that the other
+    -- lacks or has with an unequal value
+    abbrev pub walk_steps : List (K × V) → ℕ
+    walk_steps [] = 0
+    walk_steps (p ∷ ps) = look_up_steps other p.0 + (if has_value eq same other p then walk_steps ps else 0)
+
+  -- of a comparison of two lists: nothing where their lengths differ
+  abbrev pub comparison_steps : (V → V → Bool) → List (K × V) → List (K × V) → ℕ
+  comparison_steps same this other = if nat_eq (length this) (length other) then walk_steps same other this else 0

@@ -1,0 +1,72 @@
+//! A look-up and a comparison that count the keys they compare, all of which they compare by `Steps::same`.
+ghost use Rattle.std.specs.Prelude.{◌≡◌, ◌↔◌, ◌+◌, ◌*◌, ◌^◌, ◌<◌, ◌≤◌, length, IsTrue, IsFalse};
+ghost use Rattle.std.specs.Bool.{OnTrue};
+ghost use Rattle.std.specs.List.{list_all};
+ghost use Rattle.std.specs.Option.{option_copied};
+ghost use Rattle.micromap_core.specs.Fair.{SameForGood, ToldApart};
+ghost use Rattle.micromap_core.specs.Pairs.{at};
+ghost use Rattle.micromap_core.specs.Same.{Same, has_value};
+ghost use Rattle.micromap_core.specs.Steps.{look_up_steps, walk_steps, comparison_steps};
+
+use super::Map;
+use crate::steps::Steps;
+
+impl<K: Eq, V, const N: usize> Map<K, V, N> {
+    /// What `get` answers. It adds the index of the key plus one, or the length where the key is missing: room for the
+    /// length is asked.
+    pub fn get_counted(&self, key: &K, steps: &mut Steps) -> Option<&V>
+        requires { steps.old + length self.now < 2 ^ 128 }
+        ensures answer { option_copied result ≡ at K.eq self.now key.now }
+        ensures count { steps.new ≡ steps.old + look_up_steps K.eq self.now key.now }
+        ensures bounded { steps.new ≤ steps.old + length self.now }
+    {
+        for (stored, value) in self {
+            if steps.same(key, stored) {
+                return Some(value);
+            }
+        }
+        None
+    }
+}
+
+impl<K: Eq, V: Eq, const N: usize> Map<K, V, N> {
+    /// What `eq_with` answers. It adds nothing where the lengths differ; else what `get_counted` on `other` adds for each
+    /// key of this map, from the front up to and including the first that `other` lacks or has with an unequal value. Room
+    /// for the length times itself is asked, also where the lengths differ; a new counter has it.
+    pub fn eq_with_counted<const M: usize>(&self, other: &Map<K, V, M>, steps: &mut Steps) -> bool
+        requires { steps.old + length self.now * length self.now < 2 ^ 128 }
+        ensures answer { IsTrue result ↔ Same K.eq V.eq self.now other.now }
+        ensures told_apart { IsFalse result ↔ ToldApart K.eq V.eq N M self.now other.now }
+        ensures outlasts { OnTrue result (SameForGood K.eq V.eq N M self.now other.now) }
+        ensures count { steps.new ≡ steps.old + comparison_steps K.eq V.eq self.now other.now }
+        ensures bounded { steps.new ≤ steps.old + length self.now * length self.now }
+    {
+        let lengths = (self.len(), other.len());
+        lengths.0 == lengths.1 && self.is_within_counted(other, steps)
+    }
+
+    // Whether `other` has an equal value at each key, by a look-up of each up to the first at which it hasn't.
+    fn is_within_counted<const M: usize>(&self, other: &Map<K, V, M>, steps: &mut Steps) -> bool
+        requires { steps.old + length self.now * length other.now < 2 ^ 128 }
+        ensures answer { result ≡ list_all (has_value K.eq V.eq other.now) self.now }
+        ensures count { steps.new ≡ steps.old + walk_steps K.eq V.eq other.now self.now }
+        ensures bounded { steps.new ≤ steps.old + length self.now * length other.now }
+    {
+        for (key, value) in self {
+            if !other.has_value_counted(key, value, steps) {
+                return false;
+            }
+        }
+        true
+    }
+
+    // Whether there is an equal value at the key, by one look-up.
+    fn has_value_counted(&self, key: &K, value: &V, steps: &mut Steps) -> bool
+        requires { steps.old + length self.now < 2 ^ 128 }
+        ensures answer { result ≡ has_value K.eq V.eq self.now (key.now, value.now) }
+        ensures count { steps.new ≡ steps.old + look_up_steps K.eq self.now key.now }
+        ensures bounded { steps.new ≤ steps.old + length self.now }
+    {
+        self.get_counted(key, steps) == Some(value)
+    }
+}

@@ -1,0 +1,3 @@
+pub mod Frame
+pub mod Graph
+pub mod Headers

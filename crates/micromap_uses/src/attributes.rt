@@ -1,0 +1,80 @@
+//! The attributes of an element: names with their values, in the order in which they came.
+//!
+//! A contract sees the list by the bytes of its texts.
+ghost use Rattle.std.specs.Prelude.{◌≡◌, if◌then◌else◌, IfErr, IfOk, Some};
+ghost use Rattle.std.specs.Option.{option_map_or, unwrap_or};
+ghost use Rattle.std.specs.String.{string_bytes};
+ghost use Rattle.micromap.specs.Pairs.{at, fits, has, put, take_out};
+ghost use Rattle.micromap.specs.Print.{map_text};
+ghost use Rattle.micromap.specs.Texts.{same_text, texts};
+
+use micromap::{Map, Text};
+use std::alloc::{AllocError, Global};
+
+/// The attributes of one element.
+pub type Attributes<const N: usize> = Map<String, String, N>;
+
+/// Sets an attribute, at its index or at the end, and answers whether there was room for it.
+#[tactic(auto, using(micromap_core::proofs::TextViews::text_views))]
+pub fn set<const N: usize>(
+    alloc: Global,
+    list: &mut Attributes<N>,
+    name: &str,
+    value: &str,
+) -> Result<bool, AllocError>
+    ensures answer { IfOk result (λ fit. fit ≡ fits same_text N (texts list.old) name.now) }
+    ensures list { IfOk result (λ fit. texts list.new ≡ (if fit then put same_text (texts list.old) name.now value.now else texts list.old)) }
+    ensures unchanged { IfErr result (λ _. list.new ≡ list.old) }
+{
+    let name = String::from_str(alloc, name)?;
+    let value = String::from_str(alloc, value)?;
+    Ok(list.checked_insert(name, value).is_some())
+}
+
+/// The value of an attribute, or the default.
+#[tactic(auto, using(micromap_core::proofs::TextViews::text_views))]
+pub fn value_or<'a, const N: usize>(
+    list: &'a Attributes<N>,
+    name: &str,
+    default: &'a str,
+) -> &'a str
+    ensures { result.now ≡ unwrap_or (at same_text (texts list.now) name.now) default.now }
+{
+    match list.get_by(&Text(name)) {
+        Some(value) => value.as_str(),
+        None => default,
+    }
+}
+
+/// Moves the value of one attribute to another name, which stands at its index or at the end. Answers whether there was
+/// such a value.
+#[tactic(auto, using(micromap_core::proofs::TextViews::text_views, micromap_core::proofs::MapLaws::map_laws))]
+pub fn rename<const N: usize>(list: &mut Attributes<N>, from: &str, to: String) -> bool
+    ensures answer { result ≡ has same_text (texts list.old) from.now }
+    ensures list { texts list.new ≡ option_map_or (put same_text (take_out same_text (texts list.old) from.now) (string_bytes to)) (at same_text (texts list.old) from.now) (texts list.old) }
+{
+    match list.remove_by(&Text(from)) {
+        Some(value) => {
+            list.insert(to, value);
+            true
+        }
+        None => false,
+    }
+}
+
+/// Removes an attribute, and answers whether it was there.
+#[tactic(auto, using(micromap_core::proofs::TextViews::text_views))]
+pub fn remove<const N: usize>(list: &mut Attributes<N>, name: &str) -> bool
+    ensures answer { result ≡ has same_text (texts list.old) name.now }
+    ensures list { texts list.new ≡ take_out same_text (texts list.old) name.now }
+{
+    list.remove_by(&Text(name)).is_some()
+}
+
+/// The text of the list, as `{name: value, name: value}`.
+#[tactic(auto, using(micromap_core::proofs::TextViews::text_views))]
+pub fn text<const N: usize>(alloc: Global, list: &Attributes<N>) -> Result<String, AllocError>
+    ensures { IfOk result (λ text. map_text (λ name. Some name) (λ value. Some value) (texts list.now) ≡ Some (string_bytes text)) }
+{
+    format!(in alloc; "{list}")
+}

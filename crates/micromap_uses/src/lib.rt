@@ -1,0 +1,10 @@
+//! Small libraries over the map and the set, as their users would write them. Each is proved from the public contracts
+//! and the exported laws alone, and may be copied.
+#![tactic(auto)]
+
+pub mod attributes;
+pub mod frame;
+pub mod graph;
+pub mod headers;
+#[cfg(test)]
+mod tests;

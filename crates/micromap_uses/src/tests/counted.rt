@@ -1,0 +1,140 @@
+//! What look-ups and comparisons cost: by their contracts, and counted by items whose `==` counts.
+ghost use Rattle.std.specs.Prelude.{◌≡◌, ◌↔◌, nat_eq, IsTrue};
+ghost use Rattle.std.specs.Cmp.Rules.{comparing};
+ghost use Rattle.std.specs.Option.{option_copied};
+ghost use Rattle.std.specs.Ordering.{on};
+ghost use Rattle.std.proofs.Common.{rules};
+ghost use Rattle.micromap.specs.Pairs.{at};
+ghost use Rattle.micromap.specs.Same.{Same};
+ghost use Rattle.micromap.specs.Steps.{comparison_steps, look_up_steps};
+
+use micromap::{Map, Set, Steps};
+use std::cell::Cell;
+
+// The value at a key, and the steps that the look-up takes.
+fn looked_up<const N: usize>(map: &Map<u8, u8, N>, key: u8) -> (Option<&u8>, u128)
+    ensures value { option_copied result.0 ≡ at nat_eq map.now key }
+    ensures steps { result.1 ≡ look_up_steps nat_eq map.now key }
+{
+    // That the length fits is learnt from `len`.
+    let _held = map.len();
+    let mut steps = Steps::new();
+    let value = map.get_counted(&key, &mut steps);
+    (value, steps.count())
+}
+
+// Whether two maps are the same, and the steps that the comparison takes.
+fn compared<const N: usize, const M: usize>(
+    first: &Map<u8, u8, N>,
+    second: &Map<u8, u8, M>,
+) -> (bool, u128)
+    ensures answer { IsTrue result.0 ↔ Same nat_eq nat_eq first.now second.now }
+    ensures steps { result.1 ≡ comparison_steps nat_eq nat_eq first.now second.now }
+{
+    // That the length fits is learnt from `len`.
+    let _held = first.len();
+    let mut steps = Steps::new();
+    let same = first.eq_with_counted(second, &mut steps);
+    (same, steps.count())
+}
+
+#[test]
+fn a_step_is_one_comparison(rt: HostRuntime) {
+    let mut steps = Steps::new();
+    assert_eq!(rt; steps.count(), 0);
+    assert!(rt; steps.same(&1, &1));
+    assert!(rt; !steps.same(&1, &2));
+    assert_eq!(rt; steps.count(), 2);
+}
+
+#[test]
+fn a_look_up_stops_at_its_key(rt: HostRuntime) {
+    let empty: Map<u8, u8, 4> = Map::new();
+    assert_eq!(rt; looked_up(&empty, 5), (None, 0));
+    let three = Map::from([(5, 50), (6, 60), (7, 70)]);
+    assert_eq!(rt; looked_up(&three, 5), (Some(&50), 1));
+    assert_eq!(rt; looked_up(&three, 7), (Some(&70), 3));
+    assert_eq!(rt; looked_up(&three, 9), (None, 3));
+}
+
+#[test]
+fn look_ups_add_up(rt: HostRuntime) {
+    let three = Map::from([(5, 50), (6, 60), (7, 70)]);
+    let _held = three.len();
+    let mut steps = Steps::new();
+    assert_eq!(rt; three.get_counted(&6, &mut steps), Some(&60));
+    assert_eq!(rt; steps.count(), 2);
+    assert_eq!(rt; three.get_counted(&9, &mut steps), None);
+    assert_eq!(rt; steps.count(), 5);
+}
+
+#[test]
+fn a_comparison_stops_at_the_first_pair_that_fails(rt: HostRuntime) {
+    let none: Map<u8, u8, 0> = Map::new();
+    let empty: Map<u8, u8, 4> = Map::new();
+    assert_eq!(rt; compared(&none, &empty), (true, 0));
+    let one = Map::from([(1, 10)]);
+    assert_eq!(rt; compared(&one, &Map::from([(1, 10)])), (true, 1));
+    assert_eq!(rt; compared(&one, &Map::from([(1, 11)])), (false, 1));
+    assert_eq!(rt; compared(&one, &empty), (false, 0));
+    let other = Map::from([(3, 30), (1, 10)]);
+    assert_eq!(rt;
+        compared(&Map::from([(1, 10), (2, 20)]), &other),
+        (false, 4)
+    );
+    assert_eq!(rt;
+        compared(&Map::from([(2, 20), (1, 10)]), &other),
+        (false, 2)
+    );
+}
+
+// Equal by `id`; each comparison is counted in a cell.
+#[derive(Clone, Copy)]
+struct Tallied<'a> {
+    id: u8,
+    tally: &'a Cell<u32>,
+}
+
+impl PartialEq for Tallied<'_> {
+    ghost eq = { on (λ k. k.id) nat_eq };
+
+    ghost laws = { Prim.search (comparing, rules) };
+
+    fn eq(&self, other: &Tallied<'_>) -> bool {
+        self.tally.set(self.tally.get().wrapping_add(1));
+        self.id == other.id
+    }
+}
+
+impl Eq for Tallied<'_> {
+    ghost laws = { Prim.search (comparing, rules) };
+}
+
+// A set of these ids.
+fn set_of<const N: usize>(ids: [u8; N], tally: &Cell<u32>) -> Set<Tallied<'_>, N> {
+    let mut set = Set::new();
+    for id in ids {
+        set.checked_insert(Tallied { id, tally });
+    }
+    set
+}
+
+#[test]
+fn sets_are_compared_as_little_as_their_lengths_allow(rt: HostRuntime) {
+    let tally = Cell::new(0);
+    let two = set_of([4, 9], &tally);
+    let three = set_of([1, 2, 4], &tally);
+    let turned = set_of([4, 2, 1], &tally);
+    tally.set(0);
+    assert!(rt; !three.is_subset(&two));
+    assert!(rt; !two.is_superset(&three));
+    assert!(rt; !two.eq_with(&three));
+    assert!(rt; !three.eq_with(&two));
+    assert_eq!(rt; tally.get(), 0);
+    assert!(rt; !two.is_disjoint(&three));
+    assert_eq!(rt; tally.replace(0), 3);
+    assert!(rt; !three.is_disjoint(&two));
+    assert_eq!(rt; tally.replace(0), 3);
+    assert!(rt; three.eq_with(&turned));
+    assert_eq!(rt; tally.replace(0), 6);
+}
