@@ -15,5 +15,6 @@ pub use Rattle.micromap_core.proofs.ClosureLemmas
 pub use Rattle.micromap_core.proofs.FairLemmas
 pub use Rattle.micromap_core.proofs.Equalities
 pub use Rattle.micromap_core.proofs.MapLaws
+pub use Rattle.micromap_core.proofs.MisfitLemmas
 pub use Rattle.micromap_core.proofs.TextLemmas
 pub use Rattle.micromap_core.proofs.TextViews

@@ -89,6 +89,7 @@ fn lockstep_goes_on_after_a_difference(rt: HostRuntime) {
         Call::Insert(3, 30),
     ];
     assert!(rt; !lockstep(&mut first, &mut second, &calls));
+    assert_eq!(rt; first.differs_at(&second), Some(&2));
     assert!(rt; first.drain().eq([(3, 30)]));
     assert!(rt; second.drain().eq([(2, 20), (3, 30)]));
 }
@@ -116,15 +117,40 @@ fn two_refusals_agree(rt: HostRuntime) {
 
 #[test]
 fn equal_keys_agree_whichever_is_stored(rt: HostRuntime) {
-    let mut first: Map<Marked, u8, 1> = Map::new();
-    let mut second: Map<Marked, u8, 2> = Map::new();
-    first.insert(Marked::new(1, 'x'), 10);
-    second.insert(Marked::new(1, 'y'), 10);
+    let mut first = Map::from([(Marked::new(1, 'x'), 10), (Marked::new(2, 'x'), 20)]);
+    let mut second: Map<Marked, u8, 3> = Map::new();
+    second.checked_insert(Marked::new(2, 'y'), 20);
+    second.checked_insert(Marked::new(1, 'y'), 10);
+    assert!(rt; first.eq_with(&second));
+    assert!(rt; first.differs_at(&second).is_none());
     let calls = [
         Call::GetKeyValue(Marked::new(1, 'z')),
-        Call::Insert(Marked::new(1, 'w'), 11),
-        Call::Clear,
+        Call::Insert(Marked::new(2, 'w'), 25),
+        Call::RemoveEntry(Marked::new(1, 'q')),
+        Call::Len,
     ];
     assert!(rt; lockstep(&mut first, &mut second, &calls));
+    assert!(rt; first.eq_with(&second));
+    assert!(rt;
+        first
+            .iter()
+            .map(|(key, value)| (key.mark, *value))
+            .eq([('x', 25)])
+    );
+    assert!(rt;
+        second
+            .iter()
+            .map(|(key, value)| (key.mark, *value))
+            .eq([('y', 25)])
+    );
+    assert!(rt; lockstep(&mut first, &mut second, &[Call::Clear]));
     assert!(rt; first.is_empty());
+}
+
+#[test]
+fn room_alone_tells_empty_maps_apart(rt: HostRuntime) {
+    let mut none: Map<u8, u8, 0> = Map::new();
+    let mut some: Map<u8, u8, 3> = Map::new();
+    assert!(rt; !lockstep(&mut none, &mut some, &[Call::Insert(1, 1)]));
+    assert_eq!(rt; none.differs_at(&some), Some(&1));
 }

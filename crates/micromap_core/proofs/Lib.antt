@@ -11,6 +11,7 @@ pub mod FairLemmas
 pub mod Lists
 pub mod MapLawLemmas
 pub mod MapLaws
+pub mod MisfitLemmas
 pub mod OneSideLemmas
 pub mod PairsLemmas
 pub mod PrintLemmas

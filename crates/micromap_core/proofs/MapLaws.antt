@@ -5,7 +5,7 @@
 use Rattle.std.proofs.Common.{◌≡◌, ℕ, nat_eq, ◌+◌, ◌<◌, ◌≤◌, ◌&&◌, ◌||◌, nat_lt, Bool, true, false, not, List, [], ◌∷◌, ◌++◌, filter, length, reverse, Option, Some, None, is_some, cond, if◌then◌else◌, refl, ap, sym, subst, ◌∙◌, arith}
 use Rattle.std.specs.List.{fold, list_any, IsDistinct}
 use Rattle.std.specs.Map.{keys_of, lookup, lookup_entry, set_value, set_key}
-use Rattle.std.specs.Option.{option_map, option_map_or, option_or}
+use Rattle.std.specs.Option.{option_map, option_map_or, option_or, unwrap_or}
 use Rattle.std.specs.Ordering.{on}
 use Rattle.std.specs.Set.{distinct_count}
 use Rattle.std.proofs.Math.Bool.{or-true}
@@ -82,6 +82,17 @@ module _ {K V : Type 0} (eq : K → K → Bool) (test : K → Bool) where
 
   pub lookup_build : (items : List (K × V)) → Probes eq test → lookup test (build eq items) ≡ lookup test (reverse items)
   lookup_build items probes = lookup_built items [] probes ∙ or_none (lookup test (reverse items))
+
+  -- the key that was put first stays, and the value that was put last
+  entry_built : (items old : List (K × V)) → Probes eq test → lookup_entry test (fold (put_pair eq) old items) ≡ option_map (λ e. (e.0, unwrap_or (lookup test (reverse items)) e.1)) (option_or (lookup_entry test old) (lookup_entry test items))
+  entry_built [] old probes = grind (arith)
+  entry_built (e ∷ items) old probes =
+      let p = of_probes eq test probes in
+      let same : test e.0 ≡ true → pair eq old e.0 ≡ lookup_entry test old = λ is. ap (λ t. lookup_entry t old) (sym (same_test eq test p.alike_keys p.equal_keys e.0 is)) in
+      grind (arith, entry_built items (put eq old e.0 e.1) probes, pair_put old e.0 e.1 probes, same, reverse-append (e ∷ []) items, lookup-append test (reverse items) (e ∷ []))
+
+  pub pair_build : (items : List (K × V)) → Probes eq test → lookup_entry test (build eq items) ≡ option_map (λ e. (e.0, unwrap_or (lookup test (reverse items)) e.1)) (lookup_entry test items)
+  pair_build items probes = entry_built items [] probes
 
 -- how many pairs are kept
 pub length_retained : {X : Type 0} (keep : X → Bool) (xs : List X) → length (retained keep xs) ≡ length (filter keep xs)
@@ -301,7 +312,7 @@ module _ {K V : Type 0} (eq : K → K → Bool) (pairs : List (K × V)) (k : K) 
   pub found_take_out : Lawful eq → IsUnique eq pairs → (take_out eq pairs k ≡ take_out eq pairs k) × (at eq (take_out eq pairs k) k ≡ None)
   found_take_out laws unique = (refl, at_take_out_same eq pairs k laws unique)
 
-pub ruleset map_laws = (pair_put, lookup_put, pair_put_key, lookup_put_key, pair_take_out, lookup_take_out, lookup_build, pair_retained, lookup_retained, length_put, length_put_key, length_take_out, length_build, length_retained, unique_put, unique_put_key, unique_take_out, unique_build, unique_retained, put_back, put_again, take_out_missing, lookup_matched, pair_matched_found, put_matched_missing, take_out_matched_missing, length_put_matched, length_take_out_matched, lookup_put_matched, lookup_take_out_matched, unique_put_matched, unique_take_out_matched, found_put, found_put_key, found_take_out, equalities)
+pub ruleset map_laws = (pair_put, lookup_put, pair_put_key, lookup_put_key, pair_take_out, lookup_take_out, pair_build, lookup_build, pair_retained, lookup_retained, length_put, length_put_key, length_take_out, length_build, length_retained, unique_put, unique_put_key, unique_take_out, unique_build, unique_retained, put_back, put_again, take_out_missing, lookup_matched, pair_matched_found, put_matched_missing, take_out_matched_missing, length_put_matched, length_take_out_matched, lookup_put_matched, lookup_take_out_matched, unique_put_matched, unique_take_out_matched, found_put, found_put_key, found_take_out, equalities)
 
 -- for keys of a type parameter, where `Lawful K.eq` is at hand
 pub ruleset bound_laws = (at_put, at_put_key, at_take_out, length_put, length_put_key, length_take_out, unique_put, unique_put_key, unique_take_out, put_back, put_again, take_out_missing, found_put, found_put_key, found_take_out)

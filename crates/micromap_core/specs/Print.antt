@@ -1,6 +1,9 @@
--- The texts of a set and of a map, from the texts of items, keys and values, each of which may be unknown.
+-- The texts of a set, of a map and of a reading's fault, from the texts of items, keys, values and the source's fault,
+-- each of which may be unknown.
 use Rattle.std.specs.Prelude.{ℕ, List, [], Option, Some, codes}
 use Rattle.std.specs.Fmt.{◌++?◌, debug_items}
+use Rattle.micromap_core.specs.declared.stream.ReadFault.{ReadFault}
+use Rattle.micromap_core.specs.declared.stream.ReadFault.TheVariants.{Source, TooMany}
 
 -- the items, joined by `, `, in braces
 abbrev pub set_text : {X : Type 0} → (X → Option (List ℕ)) → List X → Option (List ℕ)
@@ -14,3 +17,7 @@ module _ {K V : Type 0} (key_text : K → Option (List ℕ)) (value_text : V →
   -- the same of pairs
   abbrev pub map_text : List (K × V) → Option (List ℕ)
   map_text = set_text pair_text
+
+abbrev pub read_fault_text : {E : Type 0} → (E → Option (List ℕ)) → ReadFault E → Option (List ℕ)
+read_fault_text fault_text (Source fault) = Some (codes "the source failed: ") ++? fault_text fault
+read_fault_text fault_text TooMany = Some (codes "a pair has a new key, and there is no room for it")

@@ -4,6 +4,7 @@
 //! an older one.
 ghost use Rattle.std.specs.Prelude.{◌≡◌, ℕ, ◌<◌, ◌++◌, ◌∷◌, [], List, Option, IfOk, OnOk, IfErr, OnErr};
 ghost use Rattle.std.specs.Map.Iter.{TakesFirst};
+ghost use Rattle.micromap_core.specs.Print.{read_fault_text};
 ghost use Rattle.micromap_core.specs.Stream.{most_faults, Faultless, Faults};
 
 mod slice_source;
@@ -77,6 +78,8 @@ pub enum ReadFault<E> {
 }
 
 impl<E: fmt::Display> fmt::Display for ReadFault<E> {
+    ghost output = { read_fault_text E.output };
+
     fn fmt<W: fmt::Write>(&self, f: &mut fmt::Formatter<W>) -> fmt::Result {
         match self {
             ReadFault::Source(fault) => write!(f, "the source failed: {fault}"),

@@ -1,10 +1,9 @@
--- The headers that the lines of a text are: names in small letters with their values, as bytes.
+-- The headers that lines are: names in small letters with their values, as bytes.
 use Rattle.std.specs.Prelude.{ℕ, ◌+◌, ◌==◌, Bool, List, [], ◌∷◌, ◌++◌, codes, if◌then◌else◌, Option, Some, None, Result, Ok, Err}
 use Rattle.std.specs.Fmt.{decimal}
 use Rattle.std.specs.List.{after_first, before_first, position}
 use Rattle.std.specs.Option.{option_map, option_map_or}
 use Rattle.std.specs.Str.{str_to_ascii_lowercase, trim}
-use Rattle.std.specs.Str.Lines.{lines}
 use Rattle.micromap.specs.Pairs.{at, fits, put}
 use Rattle.micromap.specs.Texts.{same_text}
 use Rattle.micromap_uses.specs.declared.headers.HeaderFault.{HeaderFault}
@@ -47,8 +46,8 @@ abbrev pub headers_from : ℕ → List Header → ℕ → List Text → Result (
 headers_from N headers place [] = Ok headers
 headers_from N headers place (line ∷ lines) = and_then (with_line N headers place line) (λ more. headers_from N more (place + 1) lines)
 
-abbrev pub headers_of : ℕ → Text → Result (List Header) HeaderFault
-headers_of N text = headers_from N [] 0 (lines text)
+abbrev pub headers_of : ℕ → List Text → Result (List Header) HeaderFault
+headers_of N = headers_from N [] 0
 
 -- what a fault prints
 abbrev pub message : HeaderFault → Text

@@ -1,10 +1,10 @@
 //! A graph of bounded degree: each node has the set of its neighbours, and every edge goes both ways.
 //!
 //! A contract sees it as the list of each node's neighbours.
-ghost use Rattle.std.specs.Prelude.{◌≡◌, ◌≢◌, ℕ, ◌<◌, ◌||◌, ◌&&◌, not, length, nat_eq, false, IsTrue};
+ghost use Rattle.std.specs.Prelude.{◌≡◌, ◌≢◌, ◌↔◌, ℕ, ◌<◌, ◌≤◌, ◌||◌, ◌&&◌, not, length, nat_eq, true, false, IsTrue};
 ghost use Rattle.std.specs.Bool.{OnTrue, OnFalse};
-ghost use Rattle.micromap.specs.Items.{item_fits};
-ghost use Rattle.micromap_uses.specs.Graph.{are_ends, leads, neighbours, IsSymmetric};
+ghost use Rattle.micromap.specs.Items.{contains, item_fits};
+ghost use Rattle.micromap_uses.specs.Graph.{are_ends, leads, neighbours, IsSymmetric, LeadsBelow, Path, Searches};
 
 use micromap::Set;
 use micromap::set::Iter;
@@ -24,13 +24,14 @@ pub struct Graph {
 
 impl Model for Graph {
     ghost use Rattle.std.specs.Prelude.{List, ℕ};
-    ghost use Rattle.micromap_uses.specs.Graph.{IsSymmetric};
+    ghost use Rattle.micromap_uses.specs.Graph.{IsSymmetric, LeadsBelow};
+    ghost use Rattle.micromap_uses.specs.declared.graph.TheConstants.{NODES};
 
     ghost Value = { List (List ℕ) };
 
     ghost view = { λ g. g.nodes };
 
-    ghost invariant = { λ g. IsSymmetric g.nodes };
+    ghost invariant = { λ g. IsSymmetric g.nodes × LeadsBelow NODES g.nodes };
 }
 
 impl Graph {
@@ -63,7 +64,8 @@ impl Graph {
     /// A node's neighbours.
     pub fn neighbours(&self, a: u8) -> Iter<'_, u8>
         requires { a < NODES }
-        ensures { result ≡ neighbours self.now a }
+        ensures answer { result ≡ neighbours self.now a }
+        ensures nodes { LeadsBelow NODES self.now }
     {
         self.nodes[usize::from(a)].iter()
     }
@@ -96,6 +98,35 @@ impl Graph {
         let was_there = part(&mut self.nodes, a, b);
         part(&mut self.nodes, b, a);
         was_there
+    }
+
+    /// The nodes to which edges lead from a node, itself among them. A search into depth finds them, in its order; it
+    /// looks at each edge of theirs once from either end.
+    pub fn reached(&self, from: u8) -> Set<u8, NODES>
+        requires { from < NODES }
+        ensures { (x : ℕ) → IsTrue (contains nat_eq result x) ↔ Path self.now from x }
+    {
+        let mut met = Set::new();
+        self.search(from, &mut met);
+        met
+    }
+
+    // Meets a node, and from it all to which edges lead, but for those that were met before.
+    #[tactic(auto, using(micromap::proofs::SetLaws::set_laws, crate::proofs::ReachLemmas::room))]
+    fn search(&self, node: u8, met: &mut Set<u8, NODES>)
+        requires node_is { node < NODES }
+        requires nodes { (x : ℕ) → contains nat_eq met.old x ≡ true → x < NODES }
+        ensures nodes { (x : ℕ) → contains nat_eq met.new x ≡ true → x < NODES }
+        ensures kept { length met.old ≤ length met.new }
+        ensures searched { Searches self.now node met.old met.new }
+    {
+        if met.contains(&node) {
+            return;
+        }
+        met.checked_insert(node);
+        for next in &self.nodes[usize::from(node)] {
+            self.search(*next, met);
+        }
     }
 }
 

@@ -2,9 +2,10 @@
 //!
 //! Names that differ by the case of their ASCII letters are one name, and the values of a name that comes again are
 //! joined. A contract sees a name, in small letters, and a value as their bytes.
-ghost use Rattle.std.specs.Prelude.{◌≡◌, ◌⊎◌, [], ◌++◌, codes, if◌then◌else◌, IfErr, IfOk, Ok, Err, Some};
+ghost use Rattle.std.specs.Prelude.{◌≡◌, ◌⊎◌, [], ◌++◌, codes, if◌then◌else◌, map, IfErr, IfOk, Ok, Err, Some};
 ghost use Rattle.std.specs.Option.{option_map};
 ghost use Rattle.std.specs.Str.{str_to_ascii_lowercase};
+ghost use Rattle.std.specs.Str.Lines.{lines};
 ghost use Rattle.std.specs.Cmp.{partial_equiv_from_equiv};
 ghost use Rattle.std.specs.Cmp.Lexicographic.{nat_list_eq_equiv};
 ghost use Rattle.micromap.specs.Pairs.{at, fits};
@@ -145,13 +146,31 @@ impl From<AllocError> for HeaderFault {
 }
 
 /// The headers that the lines of a text are, or the first fault. What was read before a fault is dropped.
+///
+/// It takes memory for a list of the lines, and for each name and value.
 pub fn parse<const N: usize>(alloc: Global, text: &str) -> Result<Headers<N>, HeaderFault>
-    ensures headers { IfOk result (λ headers. headers_of N text.now ≡ Ok headers) }
-    ensures fault { IfErr result (λ fault. (fault ≡ Memory) ⊎ (headers_of N text.now ≡ Err fault)) }
+    ensures headers { IfOk result (λ headers. headers_of N (lines text.now) ≡ Ok headers) }
+    ensures fault { IfErr result (λ fault. (fault ≡ Memory) ⊎ (headers_of N (lines text.now) ≡ Err fault)) }
+{
+    let lines = lines_of(alloc, text)?;
+    parse_lines(alloc, &lines)
+}
+
+// The lines of a text.
+fn lines_of(alloc: Global, text: &str) -> Result<Vec<&str>, AllocError>
+    ensures { IfOk result (λ v. map (λ line. line.now) v.items ≡ lines text.now) }
+{
+    text.lines().collect(alloc)
+}
+
+/// The same for a caller who has the lines; a fault's place is that in their list.
+pub fn parse_lines<const N: usize>(alloc: Global, lines: &[&str]) -> Result<Headers<N>, HeaderFault>
+    ensures headers { IfOk result (λ headers. headers_of N (map (λ line. line.now) lines.now) ≡ Ok headers) }
+    ensures fault { IfErr result (λ fault. (fault ≡ Memory) ⊎ (headers_of N (map (λ line. line.now) lines.now) ≡ Err fault)) }
 {
     let mut headers = Map::new();
     let mut place = 0;
-    for line in text.lines() {
+    for line in lines {
         add_line(alloc, &mut headers, place, line)?;
         place += 1;
     }

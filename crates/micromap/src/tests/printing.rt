@@ -5,7 +5,6 @@ ghost use Rattle.micromap.specs.Print.{map_text};
 
 use crate::{Map, Set};
 use std::alloc::{AllocError, Global};
-use std::fmt::{self, Write};
 
 // The text of a map of texts.
 fn text_of<const N: usize>(
@@ -116,43 +115,4 @@ fn an_owning_walk_prints_from_the_front(rt: HostRuntime) -> Result<(), AllocErro
     values.next();
     assert_eq!(rt; format!(in alloc; "{values:?}")?.as_str(), "['a', 'b']");
     Ok(())
-}
-
-// A writer that counts what it is given to write, and refuses one of these texts alone, counted from 0.
-#[derive(Drop)]
-struct Refusing {
-    refused: usize,
-    given: usize,
-}
-
-impl Write for Refusing {
-    fn write_str(&mut self, _text: &str) -> fmt::Result {
-        let position = self.given;
-        self.given = position.saturating_add(1);
-        if position == self.refused {
-            return Err(fmt::Error);
-        }
-        Ok(())
-    }
-}
-
-// How many texts the value is printed in, where a print ends with the first that is refused and answers its error.
-fn counted_texts<T: fmt::Display>(value: &T) -> Option<usize> {
-    for refused in 0..100 {
-        let mut out = Refusing { refused, given: 0 };
-        match write!(out, "{value}") {
-            Ok(()) if out.given == refused => return Some(refused),
-            Err(fmt::Error) if out.given == refused + 1 => {}
-            _ => return None,
-        }
-    }
-    None
-}
-
-#[test]
-fn a_refused_text_ends_the_printing(rt: HostRuntime) {
-    let map = Map::from([(1, 2), (3, 4)]);
-    assert!(rt; counted_texts(&map).is_some_and(|texts| texts > 2));
-    let set = Set::from([1, 2]);
-    assert!(rt; counted_texts(&set).is_some_and(|texts| texts > 2));
 }

@@ -15,8 +15,8 @@ impl<K: Eq, V, const N: usize> Map<K, V, N> {
     pub fn get(&self, key: &K) -> Option<&V>
         ensures { option_copied result ≡ at K.eq self.now key.now }
     {
-        let (_, value) = self.find(key)?;
-        Some(value)
+        let index = self.index_of(key)?;
+        Some(&self.pair_at(index).1)
     }
 
     /// The value at `key`, for writing, or `None` where the key is missing, by one scan. Once the borrow ends the map
@@ -38,7 +38,9 @@ impl<K: Eq, V, const N: usize> Map<K, V, N> {
     pub fn get_key_value(&self, key: &K) -> Option<(&K, &V)>
         ensures { option_map deref_pair result ≡ pair K.eq self.now key.now }
     {
-        self.find(key)
+        let index = self.index_of(key)?;
+        let (key, value) = self.pair_at(index);
+        Some((key, value))
     }
 
     /// Whether some stored key equals `key`, by one scan.
@@ -46,7 +48,7 @@ impl<K: Eq, V, const N: usize> Map<K, V, N> {
     pub fn contains_key(&self, key: &K) -> bool
         ensures { result ≡ has K.eq self.now key.now }
     {
-        self.get(key).is_some()
+        self.index_of(key).is_some()
     }
 
     /// Whether a pair with this key can be put: an equal key is stored, or there is room. Where there is room no key
@@ -64,8 +66,8 @@ impl<K: Eq, V, const N: usize> Map<K, V, N> {
         requires { IsTrue (has K.eq self.now key.now) }
         ensures { at K.eq self.now key.now ≡ Some result.now }
     {
-        match self.find(key) {
-            Some((_, value)) => value,
+        match self.index_of(key) {
+            Some(index) => &self.pair_at(index).1,
             None => unreachable!(),
         }
     }

@@ -177,6 +177,61 @@ fn what_comes_after_a_misfit_is_left(rt: HostRuntime) {
 }
 
 #[test]
+fn the_less_room_the_more_is_left(rt: HostRuntime) {
+    let mut source = SliceSource::over(&[(1, "a"), (2, "b"), (3, "c")]);
+    let two: Result<Map<u8, &str, 2>, _> = Map::read_entries(&mut source);
+    assert!(rt; matches!(two, Err(ReadFault::TooMany)));
+    assert!(rt; source.left().is_empty());
+    let mut source = SliceSource::over(&[(1, "a"), (2, "b"), (3, "c")]);
+    let one: Result<Map<u8, &str, 1>, _> = Map::read_entries(&mut source);
+    assert!(rt; matches!(one, Err(ReadFault::TooMany)));
+    assert_eq!(rt; source.left(), [(3, "c")].as_slice());
+    let mut source = SliceSource::over(&[(1, "a"), (2, "b"), (3, "c")]);
+    let none: Result<Map<u8, &str, 0>, _> = Map::read_entries(&mut source);
+    assert!(rt; matches!(none, Err(ReadFault::TooMany)));
+    assert_eq!(rt; source.left(), [(2, "b"), (3, "c")].as_slice());
+}
+
+#[test]
+fn a_sink_may_fail_at_each_entry(rt: HostRuntime) -> Result<(), AllocError> {
+    let map: Map<u8, u8, 3> = [(1, 10), (2, 20), (3, 30)].into();
+    for taken in 0..4 {
+        let mut sink = RefusingSink::new(rt.alloc(), taken)?;
+        let written = map.write_entries(&mut sink);
+        if taken < 3 {
+            assert_eq!(rt; written, Err(Fault::At(taken)));
+        } else {
+            assert_eq!(rt; written, Ok(()));
+        }
+        assert!(rt;
+            sink.taken
+                .iter()
+                .eq([(1, 10), (2, 20), (3, 30)].iter().take(taken))
+        );
+    }
+    Ok(())
+}
+
+#[test]
+fn a_source_may_fail_at_each_call(rt: HostRuntime) {
+    for left in 0..5 {
+        let mut source = RefusingSource {
+            left: &[(1, 'a'), (2, 'b'), (3, 'c')],
+            refuses_at: left,
+            faults: 0,
+            last_fault: None,
+        };
+        let map: Result<Map<u8, char, 3>, _> = Map::read_entries(&mut source);
+        if left < 4 {
+            assert!(rt; matches!(map, Err(ReadFault::Source(Fault::At(at))) if at == left));
+            assert_eq!(rt; source.left.len(), left);
+        } else {
+            assert!(rt; map.is_ok_and(|mut map| map.drain().eq([(1, 'a'), (2, 'b'), (3, 'c')])));
+        }
+    }
+}
+
+#[test]
 fn a_sink_has_what_came_before_its_fault(rt: HostRuntime) -> Result<(), AllocError> {
     let map: Map<u8, u8, 3> = [(1, 10), (2, 20), (3, 30)].into();
     let mut sink = RefusingSink::new(rt.alloc(), 1)?;

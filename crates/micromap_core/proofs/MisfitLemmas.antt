@@ -1,0 +1,29 @@
+-- For callers: where the items of an iterator are known, the place at which a misfit stands is its place in them.
+use Rattle.std.proofs.Common.{◌≡◌, ℕ, ◌+◌, ◌<◌, ◌≤◌, Bool, List, length, take, slice_index_or, Option, Some, Result, Ok, Err, IfErr, sym, ap, subst, ◌∙◌, arith}
+use Rattle.std.specs.Option.{option_map}
+use Rattle.std.specs.Iterator.Runs.{EveryRun, ItemsAre, Run, SomeRun}
+use Rattle.std.proofs.lemmas.Grind.{common_steps}
+use Rattle.std.proofs.lemmas.List.{same_lists}
+use Rattle.micromap_core.specs.Build.{StopsAt}
+
+-- what a run took of a list that it reads from the front
+run_taken : {S A : Type 0} {steps : S → Option A → S → Type 0} (p : Run steps) (xs : List A) → p.len ≤ length xs → ((k : ℕ) (d : A) → k < p.len → option_map (λ y. y) (p.at k) ≡ Some (slice_index_or xs k d)) → p.items ≡ take p.len xs
+run_taken p xs few reads = same_lists p.items (take p.len xs) (grind (arith, common_steps, p.long, few)) (λ k d l.
+    let within : k < p.len = omega (arith, p.long, l) in
+    let same : Some (slice_index_or p.items k d) ≡ Some (slice_index_or xs k d) = sym (p.reads k d within) ∙ reads k d within in
+    grind (arith, common_steps, same, within))
+
+module _ {C X S : Type 0} (fits : C → X → Bool) (put : C → X → C) (content : C) {steps : S → Option X → S → Type 0} (rest : S → List X) {s : S} {xs : List X} where
+  stops_in : (at : ℕ) (p : Run steps) → p.from ≡ s → EveryRun steps (λ q. ItemsAre q (rest q.from)) → rest s ≡ xs → p.len ≡ at + 1 → StopsAt fits put content p.items at → StopsAt fits put content xs at
+  stops_in at p from reads left long stops =
+      let shown = reads p p.seen in
+      let are : rest p.from ≡ xs = ap rest from ∙ left in
+      let taken : p.items ≡ take p.len xs = subst (λ l. p.items ≡ take p.len l) are (run_taken p (rest p.from) shown.0 shown.2) in
+      let short : take at p.items ≡ take at xs = grind (arith, common_steps, taken, long) in
+      let all : take (at + 1) p.items ≡ take (at + 1) xs = grind (arith, common_steps, taken, long) in
+      rw (← short, ← all) stops
+
+  -- the facts are the clauses `runs` and `rest` of the iterator, and `stops` of the call that it is handed to
+  pub misfit_in : {E Y : Type 0} (at : E → ℕ) (r : Result Y E) → EveryRun steps (λ q. ItemsAre q (rest q.from)) → rest s ≡ xs → IfErr r (λ e. SomeRun steps s (λ p. (p.len ≡ at e + 1) × StopsAt fits put content p.items (at e))) → IfErr r (λ e. StopsAt fits put content xs (at e))
+  misfit_in at (Ok y) reads left stops = tt
+  misfit_in at (Err e) reads left stops = stops_in (at e) stops.0 stops.1 reads left stops.2.0 stops.2.1

@@ -1,0 +1,196 @@
+//! Each test ends well, or by the refusal that its call names; either way what was handed in is unchanged.
+use micromap::json::{JsonFault, map_from_json, map_to_json, set_from_json, set_to_json};
+use micromap::{Map, Set, Text};
+use std::alloc::{AllocError, Global};
+
+// A map of three texts.
+fn map_of_texts(alloc: Global) -> Result<Map<String, String, 3>, AllocError> {
+    let mut map = Map::new();
+    for text in ["a", "b", "c"] {
+        map.checked_insert(
+            String::from_str(alloc, text)?,
+            String::from_str(alloc, text)?,
+        );
+    }
+    Ok(map)
+}
+
+// Whether it has the three texts.
+fn is_whole(map: &Map<String, String, 3>) -> bool {
+    map.len() == 3
+        && ["a", "b", "c"].iter().all(|text| map
+            .get_by(&Text(*text))
+            .is_some_and(|value| value.as_str() == *text))
+}
+
+// A set of three texts.
+fn set_of_texts(alloc: Global, texts: [&str; 3]) -> Result<Set<String, 3>, AllocError> {
+    let mut set = Set::new();
+    for text in texts {
+        set.checked_insert(String::from_str(alloc, text)?);
+    }
+    Ok(set)
+}
+
+// Whether the set has just these texts, from the front.
+fn lists<const N: usize>(set: &Set<String, N>, texts: &[&str]) -> bool {
+    set.len() == texts.len()
+        && set
+            .iter()
+            .zip(texts)
+            .all(|(stored, text)| stored.as_str() == *text)
+}
+
+// A map of two texts with numbers.
+fn map_of_numbers(alloc: Global) -> Result<Map<String, i64, 3>, AllocError> {
+    let mut map = Map::new();
+    map.checked_insert(String::from_str(alloc, "a")?, 1);
+    map.checked_insert(String::from_str(alloc, "b")?, 2);
+    Ok(map)
+}
+
+// Whether it has the two.
+fn has_both<const N: usize>(map: &Map<String, i64, N>) -> bool {
+    map.len() == 2 && map.get_by(&Text("a")) == Some(&1) && map.get_by(&Text("b")) == Some(&2)
+}
+
+#[test]
+fn a_map_is_cloned(rt: HostRuntime) -> Result<(), AllocError> {
+    let map = map_of_texts(rt.alloc())?;
+    let clone = map.clone();
+    assert!(rt; is_whole(&map));
+    assert!(rt; is_whole(&clone?));
+    Ok(())
+}
+
+#[test]
+fn a_set_is_cloned(rt: HostRuntime) -> Result<(), AllocError> {
+    let set = set_of_texts(rt.alloc(), ["a", "b", "c"])?;
+    let clone = set.clone();
+    assert!(rt; lists(&set, &["a", "b", "c"]));
+    assert!(rt; lists(&clone?, &["a", "b", "c"]));
+    Ok(())
+}
+
+#[test]
+fn what_is_in_both_sets_is_cloned(rt: HostRuntime) -> Result<(), AllocError> {
+    let first = set_of_texts(rt.alloc(), ["a", "b", "c"])?;
+    let second = set_of_texts(rt.alloc(), ["c", "d", "b"])?;
+    let both = first.bitand(&second);
+    assert!(rt; lists(&first, &["a", "b", "c"]));
+    assert!(rt; lists(&second, &["c", "d", "b"]));
+    assert!(rt; lists(&both?, &["b", "c"]));
+    Ok(())
+}
+
+#[test]
+fn what_is_in_one_set_alone_is_cloned(rt: HostRuntime) -> Result<(), AllocError> {
+    let first = set_of_texts(rt.alloc(), ["a", "b", "c"])?;
+    let second = set_of_texts(rt.alloc(), ["c", "d", "e"])?;
+    let rest = first.sub(&second);
+    assert!(rt; lists(&first, &["a", "b", "c"]));
+    assert!(rt; lists(&second, &["c", "d", "e"]));
+    assert!(rt; lists(&rest?, &["a", "b"]));
+    Ok(())
+}
+
+#[test]
+fn a_map_is_printed(rt: HostRuntime) -> Result<(), AllocError> {
+    let map = map_of_texts(rt.alloc())?;
+    let text = map.to_string(rt.alloc());
+    assert!(rt; is_whole(&map));
+    assert_eq!(rt; text?.as_str(), "{a: a, b: b, c: c}");
+    Ok(())
+}
+
+#[test]
+fn a_map_is_written_as_json(rt: HostRuntime) -> Result<(), JsonFault> {
+    let map = map_of_numbers(rt.alloc())?;
+    let text = map_to_json(rt.alloc(), &map);
+    assert!(rt; has_both(&map));
+    assert_eq!(rt; text?.as_str(), r#"{"a":1,"b":2}"#);
+    Ok(())
+}
+
+#[test]
+fn a_set_is_written_as_json(rt: HostRuntime) -> Result<(), JsonFault> {
+    let set = set_of_texts(rt.alloc(), ["b", "a", "c"])?;
+    let text = set_to_json(rt.alloc(), &set);
+    assert!(rt; lists(&set, &["b", "a", "c"]));
+    assert_eq!(rt; text?.as_str(), r#"["b","a","c"]"#);
+    Ok(())
+}
+
+#[test]
+fn a_map_is_read_from_json(rt: HostRuntime) -> Result<(), JsonFault> {
+    let map = map_from_json::<2>(rt.alloc(), r#"{"a":1,"b":2}"#)?;
+    assert!(rt; has_both(&map));
+    Ok(())
+}
+
+#[test]
+fn a_set_is_read_from_json(rt: HostRuntime) -> Result<(), JsonFault> {
+    let set = set_from_json::<2>(rt.alloc(), r#"["b","a","b"]"#)?;
+    assert!(rt; lists(&set, &["b", "a"]));
+    Ok(())
+}
+
+#[test]
+fn keyed_calls_on_numbers_ask_for_no_memory(rt: HostRuntime) {
+    let mut map: Map<u8, u8, 3> = [(1, 10), (2, 20), (3, 30)].into();
+    assert_eq!(rt; map.checked_insert(1, 11), Some(Some(10)));
+    assert_eq!(rt; map.checked_insert(4, 40), None);
+    assert_eq!(rt; map.get(&1), Some(&11));
+    assert_eq!(rt; map.get_key_value(&2), Some((&2, &20)));
+    assert!(rt; map.get_mut(&4).is_none());
+    assert!(rt; map.contains_key(&3));
+    assert!(rt; !map.entry(4).has_room());
+    assert_eq!(rt; map.remove(&2), Some(20));
+    assert_eq!(rt; map.remove_entry(&3), Some((3, 30)));
+    if map.fits(&5) {
+        assert_eq!(rt; map.insert(5, 50), None);
+    }
+    if map.fits(&5) {
+        assert_eq!(rt; map.insert_key_value(5, 51), Some((5, 50)));
+    }
+    if map.contains_key(&5) {
+        assert_eq!(rt; map.index(&5), &51);
+    }
+    map.retain(|key, _| *key == 5);
+    assert!(rt; map.keys().eq(&[5]));
+    map.clear();
+    assert!(rt; map.is_empty());
+}
+
+#[test]
+fn clones_of_numbers_ask_for_no_memory(rt: HostRuntime) {
+    let mut map: Map<u8, u8, 3> = [(1, 10), (2, 20), (3, 30)].into();
+    assert!(rt; map.clone().is_ok_and(|clone| clone.eq_with(&map)));
+    assert!(rt; map.iter().clone().is_ok_and(|walk| walk.eq(map.iter())));
+    assert!(rt; map.keys().clone().is_ok_and(|walk| walk.eq(map.keys())));
+    assert!(rt; map.values().clone().is_ok_and(|walk| walk.eq(map.values())));
+    assert_eq!(rt; map.drain().len(), 3);
+    let set: Set<u8, 3> = [1, 2, 3].into();
+    assert!(rt; set.clone().is_ok_and(|clone| clone.eq_with(&set)));
+    assert!(rt; set.iter().clone().is_ok_and(|walk| walk.eq(set.iter())));
+}
+
+#[test]
+fn operations_on_numbers_ask_for_no_memory(rt: HostRuntime) {
+    let first: Set<u8, 3> = [1, 2, 3].into();
+    let second: Set<u8, 2> = [3, 4].into();
+    let union = first.union(&second);
+    assert!(rt; union.clone().is_ok_and(|walk| walk.eq(&[3, 4, 1, 2])));
+    assert!(rt; union.eq(&[3, 4, 1, 2]));
+    let difference = first.difference(&second);
+    assert!(rt; difference.clone().is_ok_and(|walk| walk.eq(&[1, 2])));
+    assert!(rt; difference.eq(&[1, 2]));
+    let intersection = first.intersection(&second);
+    assert!(rt; intersection.clone().is_ok_and(|walk| walk.eq(&[3])));
+    assert!(rt; intersection.eq(&[3]));
+    let apart = first.symmetric_difference(&second);
+    assert!(rt; apart.clone().is_ok_and(|walk| walk.eq(&[1, 2, 4])));
+    assert!(rt; apart.eq(&[1, 2, 4]));
+    assert!(rt; first.bitand(&second).is_ok_and(|both| both.iter().eq(&[3])));
+    assert!(rt; first.sub(&second).is_ok_and(|rest| rest.iter().eq(&[1, 2])));
+}
