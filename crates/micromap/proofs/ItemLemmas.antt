@@ -3,6 +3,7 @@ use Rattle.std.proofs.Common.{◌≡◌, ℕ, ◌||◌, nat_lt, Bool, true, fals
 use Rattle.std.specs.List.{AllZip, find, list_any}
 use Rattle.std.specs.Map.{keys_of, lookup, lookup_entry, lookup_key, set_value, set_key}
 use Rattle.std.specs.Option.{option_map, option_map_or}
+use Rattle.std.proofs.Math.Bool.{or-true}
 use Rattle.std.proofs.lemmas.Bool.{false≢true}
 use Rattle.std.proofs.lemmas.List.{map_push, reverse-append, length-map}
 use Rattle.micromap_core.specs.Clones.{IsPairClone}
@@ -92,6 +93,9 @@ module _ {T V : Type 0} where
 pub added-already : {T : Type 0} (eq : T → T → Bool) (N : ℕ) (items : List T) (x : T) → contains eq items x ≡ true → (if item_fits eq N items x then add eq items x else items) ≡ items
 unfolding add
 added-already eq N items x stored = ap (λ b. if b || nat_lt (length items) N then (if b then items else items ++ x ∷ []) else items) stored
+
+pub added-room : {T : Type 0} (eq : T → T → Bool) (N : ℕ) (items : List T) (x : T) → nat_lt (length items) N ≡ true → (if item_fits eq N items x then add eq items x else items) ≡ add eq items x
+added-room eq N items x room = ap (λ b. if contains eq items x || b then add eq items x else items) room ∙ ap (λ b. if b then add eq items x else items) (or-true (contains eq items x))
 
 module _ {T V : Type 0} (eq : T → T → Bool) (test : T → Bool) (pairs : List (T × V)) where
   item-at : (found : Option T) → option_map_or (item eq (keys_of pairs)) found None ≡ option_map (λ p. p.0) (option_map_or (pair eq pairs) found None)

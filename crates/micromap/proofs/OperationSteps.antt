@@ -1,8 +1,8 @@
 -- Where a call of `next` leads an iterator over an operation, and what its hint bounds.
-use Rattle.std.proofs.Common.{◌≡◌, ℕ, suc, ◌+◌, ◌-◌, ◌^◌, ◌≤◌, min, Bool, true, false, not, nat_lt, List, [], ◌∷◌, length, drop, filter, Option, Some, None, if◌then◌else◌, IfSome, refl, ap, sym, ◌∙◌, arith}
+use Rattle.std.proofs.Common.{◌≡◌, ℕ, suc, ◌+◌, ◌-◌, ◌^◌, ◌≤◌, min, Bool, true, false, not, nat_lt, List, [], ◌∷◌, ◌++◌, length, drop, filter, Option, Some, None, if◌then◌else◌, IfSome, refl, ap, sym, ◌∙◌, arith}
 use Rattle.std.specs.Borrow.{Bor}
 use Rattle.std.specs.Cmp.{IsEquivalence}
-use Rattle.std.specs.Iterator.{MakesProgress, UpTo, at_most, item_count}
+use Rattle.std.specs.Iterator.{MakesProgress, UpTo, YieldsFirstBy, at_most, item_count}
 use Rattle.std.specs.Iterator.Runs.{ItemsMapTo, EveryRun, YieldsInOrder}
 use Rattle.std.specs.List.{IsDistinct, after_first, position_or_len}
 use Rattle.std.specs.Map.Iter.{deref}
@@ -10,7 +10,7 @@ use Rattle.std.proofs.iter.runs.Sources.{as_is, from_front}
 use Rattle.std.proofs.lemmas.List.Filters.{length-filter_both}
 use Rattle.micromap_core.proofs.DistinctLemmas.{length-filter_members}
 use Rattle.micromap.specs.Items.{contains}
-use Rattle.micromap.specs.Operations.{difference, difference_left, difference_on, intersection, intersection_left, intersection_on, sum_of, GivesNext, Walk}
+use Rattle.micromap.specs.Operations.{difference, difference_left, difference_on, intersection, intersection_left, intersection_on, sum_of, symmetric_left, symmetric_on, if_empty, GivesNext, TwoWalks, Walk}
 
 module _ {S A X : Type 0} (shows : A → X) (left : S → List X) (on : S → S) where
   -- each run of such an iterator gives what was left, in order
@@ -98,6 +98,18 @@ module _ {T : Type 0} (eq : T → T → Bool) (start : Walk T (List T)) (now nex
           led = λ i. record { rest = (met.1 ∙ ap (λ ys. after_first (contains eq ys) start.rest) same) i; other = same i };
         }
 
+-- once the first of two walks has ended, a call at the second is a call at both
+pub second_gives : {T : Type 0} (eq : T → T → Bool) (s t : TwoWalks T (List T) (List T)) (r : Option (Bor T)) → GivesNext deref (difference_left eq) (difference_on eq) s.first None t.first → GivesNext deref (difference_left eq) (difference_on eq) s.second r t.second → GivesNext deref (symmetric_left eq) (symmetric_on eq) s r t
+unfolding symmetric_left symmetric_on
+second_gives {T} eq s t r ended gives = record {
+  member = both r gives.member;
+  led = λ i. record { first = ended.led i; second = (gives.led ∙ sym (ap (λ xs. if_empty xs (difference_on eq s.second) s.second) ended.member.0)) i };
+}
+  where
+    both : (r : Option (Bor T)) → YieldsFirstBy deref (difference_left eq) s.second r t.second → YieldsFirstBy deref (λ w. difference_left eq w.first ++ difference_left eq w.second) s r t
+    both None left = (ap (λ xs. xs ++ difference_left eq s.second) ended.member.0 ∙ left.0, ap (λ xs. xs ++ difference_left eq t.second) ended.member.1 ∙ left.1)
+    both (Some x) left = ap (λ xs. xs ++ difference_left eq s.second) ended.member.0 ∙ left ∙ sym (ap (λ xs. x.now ∷ (xs ++ difference_left eq t.second)) ended.member.1)
+
 module _ {T : Type 0} where
   -- each item of a list has an equal one in the other or hasn't
   pub length-parts : (eq : T → T → Bool) (xs ys : List T) → length (intersection eq xs ys) + length (difference eq xs ys) ≡ length xs
@@ -110,6 +122,10 @@ module _ {T : Type 0} where
 
     pub length-intersection : length (intersection eq xs ys) ≤ min (length xs) (length ys)
     length-intersection = omega (arith, length-parts eq xs ys, length-filter_members laws xs ys distinct)
+
+-- the sum of two lower bounds is one of what both bound together
+pub lower_sum : (a b m n l : ℕ) → m ≤ a → n ≤ b → l ≡ a + b → min (m + n) (2 ^ 64 - 1) ≤ l
+lower_sum a b m n l first second both = omega (arith, first, second, both)
 
 -- the sum of two upper bounds is one of what both bound together
 pub upper_sum : (a b m n l : ℕ) → a ≤ m → b ≤ n → l ≡ a + b → IfSome (sum_of (Some m) (Some n)) (UpTo (at_most l))

@@ -165,6 +165,36 @@ module _ {T : Type 0} (eq : T → T → Bool) (items : List T) (x y : T) where
         let shorter : length (take_item eq items x) < N = omega (arith, bounded, rw (stored) at (length_take_item eq items x)) in
         ap (λ b. contains eq (take_item eq items x) y || b) (lt-ltb _ N shorter) ∙ or-true _
 
+-- an item whose place another took takes it back
+module _ {T : Type 0} (eq : T → T → Bool) where
+  stored_equals : (items : List T) (x y : T) → item eq items x ≡ Some y → eq x y ≡ true
+  stored_equals [] x y stored = grind (arith, stored)
+  stored_equals (z ∷ zs) x y stored = grind (arith, stored, stored_equals zs x y)
+
+  pub contains_item : (items : List T) (x : T) → contains eq items x ≡ is_some (item eq items x)
+  contains_item [] x = refl
+  contains_item (z ∷ zs) x = grind (arith, contains_item zs x)
+
+  exchange_pushes : (items : List T) (x : T) → item eq items x ≡ None → exchange eq items x ≡ items ++ x ∷ []
+  unfolding exchange
+  exchange_pushes [] x new = refl
+  exchange_pushes (z ∷ zs) x new = grind (arith, new, exchange_pushes zs x)
+
+  pub exchange_new : (items : List T) (x : T) → item eq items x ≡ None → exchange eq items x ≡ add eq items x
+  unfolding add
+  exchange_new items x new = exchange_pushes items x new ∙ sym (ap (λ b. if b then items else items ++ x ∷ []) (contains_item items x ∙ ap is_some new))
+
+  module _ (laws : Lawful eq) where
+    pub item_exchange_back : (items : List T) (x y : T) → item eq items x ≡ Some y → item eq (exchange eq items x) y ≡ Some x
+    item_exchange_back items x y stored = item_exchange eq items x y laws ∙ ap (λ b. if b then Some x else item eq items y) (stored_equals items x y stored)
+
+    pub exchange_back : (items : List T) (x y : T) → item eq items x ≡ Some y → exchange eq (exchange eq items x) y ≡ items
+    unfolding exchange
+    exchange_back [] x y stored = grind (arith, stored)
+    exchange_back (z ∷ zs) x y stored =
+        let e = of_lawful eq laws in
+        grind (arith, stored, stored_equals zs x y, exchange_back zs x y, e.symm x z, e.congr x y z)
+
 -- the calls by probe: where no item matches they leave the list
 module _ {T : Type 0} (eq : T → T → Bool) (test : T → Bool) (items : List T) where
   paired-matched : take_item_matched eq test items ≡ keys_of (take_out_matched eq test (paired items))

@@ -1,5 +1,6 @@
 pub mod BuildLemmas
 pub mod CloneLemmas
+pub mod ColumnLemmas
 pub mod ClosureLemmas
 pub mod CountLemmas
 pub mod DistinctLemmas
@@ -15,6 +16,7 @@ pub mod MisfitLemmas
 pub mod OneSideLemmas
 pub mod PairsLemmas
 pub mod PrintLemmas
+mod ScanLemmas
 pub mod SlotsLemmas
 pub mod StepsLemmas
 pub mod StreamLemmas

@@ -1,17 +1,12 @@
 -- Facts about lists and options alone.
-use Rattle.std.proofs.Common.{Bool, true, false, if◌then◌else◌, Option, Some, None, is_some, slice_get, ◌++◌, ◌≡◌, ℕ, suc, zero, ◌+◌, ◌-◌, ◌<◌, List, [], ◌∷◌, length, get_or, set, take, drop, map, refl, ap, sym, ◌∙◌, arith, sub-one}
+use Rattle.std.proofs.Common.{Bool, true, false, if◌then◌else◌, Option, Some, None, is_some, slice_get, ◌++◌, ◌≡◌, ℕ, suc, zero, ◌+◌, ◌-◌, ◌<◌, ◌≤◌, List, [], ◌∷◌, length, get_or, set, take, drop, map, refl, ap, sym, ◌∙◌, arith, sub-one}
 use Rattle.std.specs.Option.{ForSome, IfSome, option_map}
 use Rattle.std.specs.List.{swap_remove, refill}
 use Rattle.std.proofs.lemmas.Bool.{false≢true}
-use Rattle.std.proofs.lemmas.List.{get_or-set_same, get_or-map, drop-map, map-append, map-set, take-map, length-map, length-append, length-drop, length-set, length-take, drop_more, drop_all, take_at}
+use Rattle.std.proofs.lemmas.List.{get_or-set_same, drop-map, map-append, take-map, length-map, length-append, length-drop, length-set, length-take, drop_more, drop_all, take_at}
 use Rattle.std.proofs.lemmas.Option.{get_or_from_slice_get, slice_get-get_or, slice_get_within}
 use Rattle.std.proofs.Math.Seq.{drop-append_seam, drop-cons, take-append_seam}
 use Rattle.micromap_core.specs.Pairs.{close_gap, without_at}
-
--- a function of each element, and the last element in the gap
-pub map-swap_remove : {X Y : Type 0} (f : X → Y) (xs : List X) (i : ℕ) (d : X) → i < length xs → swap_remove (map f xs) i (f d) ≡ map f (swap_remove xs i d)
-map-swap_remove f xs i d within =
-    rw (length-map xs f, get_or-map f xs (length xs - 1) d (f d) (omega arith), ← map-set f xs i (get_or xs (length xs - 1) d), take-map f (length xs - 1)) refl
 
 -- written back whole, a list of the same length is what it was written as
 pub refill-same : {X : Type 0} (xs ws : List X) → length ws ≡ length xs → refill (length xs) xs ws ≡ ws
@@ -98,6 +93,17 @@ pub length-close_gap : {X : Type 0} (xs : List X) → length (close_gap xs) ≡ 
 length-close_gap xs =
     let n = length xs - 1 in
     length-append (drop n xs) (take n xs) ∙ omega (arith, length-drop n xs, length-take n xs)
+
+-- without an element that isn't the last, the last one stands in its place
+pub without_at-before_last : {X : Type 0} (xs : List X) (last : X) (i : ℕ) → i < length xs → without_at (xs ++ last ∷ []) i ≡ set xs i last
+unfolding without_at
+without_at-before_last [] last i within = absurd (omega arith)
+without_at-before_last (x ∷ xs) last zero within = close_gap-append xs last
+without_at-before_last (x ∷ xs) last (suc i) within = ap (λ l. x ∷ l) (without_at-before_last xs last i (omega arith))
+
+-- an index that isn't before the last element is its own
+pub last_index : {X : Type 0} (xs : List X) (last : X) (i : ℕ) → i < length (xs ++ last ∷ []) → length xs ≤ i → i ≡ length xs
+last_index xs last i within beyond = omega (arith, length-append xs (last ∷ []), within, beyond)
 
 -- a removal takes one element out
 pub length_without_at : {X : Type 0} (xs : List X) (i : ℕ) → i < length xs → length (without_at xs i) + 1 ≡ length xs

@@ -3,7 +3,7 @@
 use Rattle.std.proofs.Common.{◌≡◌, ℕ, ◌<◌, Bool, true, false, List, [], ◌∷◌, ◌++◌, length, get_or, set, Some, None, slice_get, slice_set, if◌then◌else◌, refl, ap, sym, subst, ◌∙◌, inl, inr, arith}
 use Rattle.std.specs.List.{IsDistinct}
 use Rattle.std.specs.Cmp.{IsEquivalence}
-use Rattle.std.specs.Option.{option_map}
+use Rattle.std.specs.Option.{option_map, option_map_or}
 use Rattle.std.specs.Map.{keys_of, lookup, lookup_entry, lookup_key, set_value}
 use Rattle.std.proofs.lemmas.List.{map_push, length-map, map-set, get_or-map, set-get_or, length-set, get_or-set_same, get_or-set_other, get_or_default}
 use Rattle.std.proofs.lemmas.Bool.{cases_eq}
@@ -99,6 +99,13 @@ module _ {K V : Type 0} (eq : K → K → Bool) (laws : IsEquivalence eq) (pairs
   -- another value at the index of a pair
   pub IsUnique-set : (i : ℕ) (p : K × V) (v : V) → slice_get pairs i ≡ Some p → IsUnique eq (set pairs i (p.0, v))
   IsUnique-set i p v here = subst (IsDistinct eq) (sym (keys_of-set pairs i p v here)) unique
+
+  pub IsUnique-with_value_at : (i : ℕ) (v : V) → IsUnique eq (with_value_at pairs i v)
+  IsUnique-with_value_at i v =
+      elim (slice_get pairs i) as (λ o. slice_get pairs i ≡ o → IsUnique eq (option_map_or (λ p. set pairs i (p.0, v)) o pairs)) [
+        | None ↦ λ e. unique
+        | Some p ↦ λ e. IsUnique-set i p v e
+      ] refl
 
   -- an equal key at the index of a pair
   pub IsUnique-set_key : (i : ℕ) (p : K × V) (k : K) (v : V) → slice_get pairs i ≡ Some p → eq k p.0 ≡ true → IsUnique eq (set pairs i (k, v))

@@ -1,9 +1,10 @@
 -- What is written of a list in braces at a moment of its printing.
-use Rattle.std.proofs.Common.{◌≡◌, ℕ, List, [], ◌∷◌, Option, Some, None, Result, Ok, codes, refl, ap, sym, subst, ◌∙◌, IfSome}
+use Rattle.std.proofs.Common.{◌≡◌, ℕ, List, [], ◌∷◌, Option, Some, None, Result, Ok, Err, IsErr, codes, refl, ap, sym, subst, ◌∙◌, IfSome}
 use Rattle.std.specs.Fmt.{◌++?◌, DisplaysOnOk, DisplaysStyledOnOk, HasWrittenStyled, WritesStyledOnOk, WritesText, debug_items, comma_space, formatter_spec}
 use Rattle.std.specs.List.{FoldsTo, concat}
 use Rattle.std.specs.declared.fmt.Error.{Error}
 use Rattle.std.specs.declared.fmt.Formatter.{Formatter}
+use Rattle.std.proofs.lemmas.Bool.{false≢true}
 use Rattle.std.proofs.Output.{displays_on_IsOk_append, has_written_styled_append, has_written_styled_nil, has_written_styled_of_eq, then_text_assoc}
 use Rattle.micromap_core.specs.Print.{set_text}
 use Rattle.micromap_core.specs.declared.map.print.Unstyled.{Unstyled}
@@ -55,6 +56,17 @@ module _ {W : Type 0} (took : W → List ℕ → W → Type 0) where
     pub styled_from : (g : Formatter W) (r : Result (Unit {0}) Error) (o : Option (List ℕ)) → WritesAs e r o g → DisplaysStyledOnOk took e r o g
     styled_from g r None writes = tt
     styled_from g r (Some bs) writes = writes refl
+
+  -- a failed call says nothing of a text
+  pub failed_plain : (f g : Formatter W) (r : Result (Unit {0}) Error) (o : Option (List ℕ)) → IsErr r → DisplaysOnOk took f r o g
+  failed_plain f g r None failed = tt
+  failed_plain f g (Ok x) (Some bs) failed = λ plain ok. absurd (false≢true failed)
+  failed_plain f g (Err e) (Some bs) failed = λ plain ok. absurd (false≢true ok)
+
+  pub failed_styled : (f g : Formatter W) (r : Result (Unit {0}) Error) (o : Option (List ℕ)) → IsErr r → DisplaysStyledOnOk took f r o g
+  failed_styled f g r None failed = tt
+  failed_styled f g (Ok x) (Some bs) failed = λ flush ok. absurd (false≢true failed)
+  failed_styled f g (Err e) (Some bs) failed = λ flush ok. absurd (false≢true ok)
 
   -- a formatter as a mere writer: what one call of write_str did
   abbrev pub Took : Unstyled W → List ℕ → Unstyled W → Type 0

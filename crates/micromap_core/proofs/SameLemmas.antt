@@ -17,10 +17,23 @@ use Rattle.std.proofs.lemmas.Map.Made.{All-is_member, is_some-lookup}
 use Rattle.std.proofs.lemmas.Option.{get_or_from_slice_get, slice_get-get_or, slice_get_within}
 use Rattle.std.specs.Cmp.Lexicographic.{options_equiv}
 use Rattle.micromap_core.specs.Pairs.{at, has, IsUnique}
-use Rattle.micromap_core.specs.Same.{pair_eq, is_same, Same, DiffersAt, has_value, first_missing, first_difference}
+use Rattle.micromap_core.specs.Same.{pair_eq, is_same, Same, DiffersAt, has_value, first_missing, first_unequal, first_difference}
 use Rattle.micromap_core.proofs.Lists.{is_some-option_map}
 use Rattle.micromap_core.proofs.Equalities.{lawful}
 use Rattle.micromap_core.proofs.MapLaws.{at_alike}
+
+-- at the first pair of a list: what the other list has at its key is found
+module _ {K V : Type 0} (eq : K → K → Bool) (same : V → V → Bool) (k : K) (v : Bor V) (rest other : List (K × V)) where
+  found_value : (found : Option (Bor V)) → option_copied found ≡ at eq other k → option_eq (λ x y. same x.now y.now) found (Some v) ≡ has_value eq same other (k, v.now)
+  found_value None is = ap (λ o. option_eq same o (Some v.now)) is
+  found_value (Some x) is = ap (λ o. option_eq same o (Some v.now)) is
+
+  module _ (found : Option (Bor V)) (is : option_copied found ≡ at eq other k) where
+    pub unequal_past : false ≡ not (option_eq (λ x y. same x.now y.now) found (Some v)) → first_unequal eq same ((k, v.now) ∷ rest) other ≡ first_unequal eq same rest other
+    unequal_past equal = rw (sym (equal ∙ ap not (found_value found is))) refl
+
+    pub unequal_here : true ≡ not (option_eq (λ x y. same x.now y.now) found (Some v)) → first_unequal eq same ((k, v.now) ∷ rest) other ≡ Some k
+    unequal_here unequal = rw (sym (unequal ∙ ap not (found_value found is))) refl
 
 module _ {K V : Type 0} (eq : K → K → Bool) (same : V → V → Bool) (keys : IsEquivalence eq) (values : IsEquivalence same) where
   -- what the two lists have at each key agrees

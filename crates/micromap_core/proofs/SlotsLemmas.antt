@@ -3,11 +3,8 @@ use Rattle.std.proofs.Common.{◌≡◌, ℕ, ◌<◌, List, [], ◌∷◌, ◌+
 use Rattle.std.proofs.lemmas.Bool.{false≢true}
 use Rattle.std.proofs.lemmas.Option.{slice_get-get_or}
 use Rattle.std.proofs.lemmas.List.{get_or-map, map-set, map-append}
-use Rattle.std.specs.List.{swap_remove}
 use Rattle.micromap_walk.specs.Filled.{items_of, AreFilled}
 pub use Rattle.micromap_walk.proofs.FilledLemmas.{items_of-map, AreFilled-from, length_filled, some_at}
-use Rattle.micromap_core.specs.Pairs.{without_at}
-use Rattle.micromap_core.proofs.Lists.{map-swap_remove, swap_remove-without_at}
 
 module _ {X : Type 0} (slots : List (Option X)) (filled : AreFilled slots) where
   -- a slot within has the item at its index
@@ -24,10 +21,3 @@ module _ {X : Type 0} (slots : List (Option X)) (filled : AreFilled slots) where
   -- one more item at the end
   pub push_filled : (x : X) → slots ++ Some x ∷ [] ≡ map Some (items_of slots ++ x ∷ [])
   push_filled x = ap (λ s. s ++ Some x ∷ []) filled ∙ sym (map-append Some (items_of slots) (x ∷ []))
-
-  -- without the item at an index, whose slot the last one takes
-  pub swap_removed : (i : ℕ) (x : X) → i < length slots → swap_remove slots i (Some x) ≡ map Some (without_at (items_of slots) i)
-  swap_removed i x within =
-      let inside : i < length (items_of slots) = rw (length_filled slots filled) within in
-      ap (λ s. swap_remove s i (Some x)) filled ∙ map-swap_remove Some (items_of slots) i x inside
-      ∙ ap (map Some) (swap_remove-without_at (items_of slots) i x inside)

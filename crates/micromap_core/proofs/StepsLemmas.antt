@@ -1,5 +1,10 @@
--- Room for the steps of a comparison.
-use Rattle.std.proofs.Common.{◌≡◌, ℕ, ◌+◌, ◌*◌, List, [], ◌∷◌, length, arith}
+-- The steps of a look-up from one pair to the next, and room for those of a comparison.
+use Rattle.std.proofs.Common.{◌≡◌, ℕ, suc, ◌+◌, ◌*◌, Bool, false, List, [], ◌∷◌, length, arith}
+use Rattle.micromap_core.specs.Steps.{look_up_steps}
+
+-- a first pair whose key differs is one step more
+pub look_up_past : {K V : Type 0} (eq : K → K → Bool) (p : K × V) (ps : List (K × V)) (k : K) → false ≡ eq k p.0 → look_up_steps eq (p ∷ ps) k ≡ suc (look_up_steps eq ps k)
+look_up_past eq p ps k differs = grind (arith, differs)
 
 -- the most steps of a look-up of each key that is left among n pairs
 abbrev pub most_steps : {X : Type 0} → List X → ℕ → ℕ

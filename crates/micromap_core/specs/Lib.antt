@@ -10,6 +10,7 @@ pub mod ProbeLaws
 pub mod Calls
 pub mod Clones
 pub mod Closures
+pub mod Columns
 pub mod Retain
 pub mod Same
 pub mod SameLaws

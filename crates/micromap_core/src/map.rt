@@ -17,7 +17,7 @@ mod stream;
 mod walk;
 
 pub use crate::entry::{Entry, OccupiedEntry, VacantEntry};
-use crate::slots::Slots;
+use crate::slots::Columns;
 pub use micromap_walk::{Drain, IntoIter, IntoKeys, IntoValues, Iter, Keys, Values};
 use std::marker::Model;
 
@@ -27,7 +27,7 @@ use std::marker::Model;
 /// takes memory of its own. A scan compares the keys from the front, each at most once.
 #[derive(Drop)]
 pub struct Map<K: Eq, V, const N: usize> {
-    pairs: Slots<(K, V), N>,
+    pairs: Columns<K, V, N>,
 }
 
 impl<K: Eq, V, const N: usize> Model for Map<K, V, N> {
@@ -48,7 +48,7 @@ impl<K: Eq, V, const N: usize> Map<K, V, N> {
         ensures { result ≡ [] }
     {
         Map {
-            pairs: Slots::new(),
+            pairs: Columns::new(),
         }
     }
 

@@ -1,4 +1,5 @@
-//! The slots in which a map keeps its items. Only this module knows that a slot is an `Option`, and that each is filled.
+//! The slots in which a map keeps its keys, and those in which it keeps its values. Only this module knows that a slot is
+//! an `Option`, and that each is filled.
 ghost use Rattle.std.specs.Prelude.{◌≡◌, ◌<◌, ◌≤◌, [], ◌∷◌, ◌++◌, length, All, Some, IsOk, IfOk, slice_get};
 ghost use Rattle.std.specs.Borrow.{sem};
 ghost use Rattle.std.specs.List.{AllZip};
@@ -6,10 +7,14 @@ ghost use Rattle.micromap_core.specs.Slots.{lends_item_at};
 ghost use Rattle.micromap_walk.specs.Filled.{items_of, AreFilled};
 ghost use Rattle.micromap_core.specs.Pairs.{without_at};
 
+mod columns;
+
 use arrayvec::ArrayVec;
+pub(crate) use columns::Columns;
 use micromap_walk::slot::{into_item, item_of, item_of_mut};
 use std::alloc::AllocError;
 use std::marker::Model;
+use std::mem;
 
 /// At most `N` items. A contract sees their list, from front to end.
 #[derive(Drop)]
@@ -107,7 +112,22 @@ impl<T: Drop, const N: usize> Slots<T, N> {
         ensures answer { slice_get self.old index ≡ Some result }
         ensures items { self.new ≡ without_at self.old index }
     {
-        into_item(self.slots.swap_remove(index))
+        let last = self.take_last();
+        if index < self.len() {
+            mem::replace(self.item_at_mut(index), last)
+        } else {
+            last
+        }
+    }
+
+    // Takes the last item out.
+    #[inline]
+    fn take_last(&mut self) -> T
+        requires { 0 < length self.old }
+        ensures { self.old ≡ self.new ++ result ∷ [] }
+    {
+        let slot = into_item(self.slots.pop());
+        into_item(slot)
     }
 
     /// Drops every item.

@@ -1,7 +1,9 @@
 -- Facts about filled slots and the items in them.
-use Rattle.std.proofs.Common.{◌≡◌, ℕ, zero, suc, ◌<◌, List, [], ◌∷◌, ◌++◌, length, get_or, drop, map, reverse, Option, Some, None, is_some, true, refl, ap, sym, subst, ◌∙◌, arith}
-use Rattle.std.proofs.lemmas.List.{length-map, length-append, map-append, append_cancel_right, reverse-append}
-use Rattle.micromap_walk.specs.Filled.{items_of, AreFilled}
+use Rattle.std.proofs.Common.{◌≡◌, ℕ, zero, suc, ◌+◌, ◌-◌, ◌<◌, List, [], ◌∷◌, ◌++◌, length, get_or, set, drop, map, reverse, Option, Some, None, is_some, true, refl, ap, sym, subst, ◌∙◌, arith}
+use Rattle.std.proofs.lemmas.List.{drop_more, drop-set-lt, length-drop, length-map, length-append, map-append, append_cancel_right, reverse-append}
+use Rattle.std.specs.List.{refill}
+use Rattle.std.proofs.lemmas.Grind.{common_steps}
+use Rattle.micromap_walk.specs.Filled.{items_of, AreFilled, AreLeft}
 
 module _ {X : Type 0} where
   -- the items of filled slots
@@ -71,3 +73,34 @@ module _ {X : Type 0} where
 
         pub reversed_first : reverse (items_of slots) ≡ x ∷ reverse (items_of before)
         reversed_first = rw (items_last, reverse-append) refl
+
+-- a list in place of one that is as long
+pub refill_set : {X : Type 0} (xs : List X) (i : ℕ) (y : X) → refill (length xs) xs (set xs i y) ≡ set xs i y
+refill_set xs i y = grind (arith, common_steps)
+
+-- the slot at an index of which on none is empty, and those behind it once it is
+module _ {X : Type 0} (slots : List (Option X)) (i : ℕ) (filled : AreFilled (drop i slots)) (within : i < length slots) (slot : Option X) (stands : slot ≡ get_or slots i slot) where
+  parts : drop i slots ≡ slot ∷ drop (i + 1) slots
+  parts = drop_more slots i slot within ∙ ap (λ s. s ∷ drop (i + 1) slots) (sym stands)
+
+  pub taken_some : is_some slot ≡ true
+  taken_some = first_some (drop i slots) filled slot (drop (i + 1) slots) parts
+
+  emptied : drop (i + 1) (set slots i None) ≡ drop (i + 1) slots
+  emptied = drop-set-lt (i + 1) slots i None (omega arith)
+
+  module _ (x : X) (some : slot ≡ Some x) where
+    pub taken_items : items_of (drop i slots) ≡ x ∷ items_of (drop (i + 1) (set slots i None))
+    taken_items = items_first (drop i slots) filled slot (drop (i + 1) slots) parts x some ∙ ap (λ l. x ∷ items_of l) (sym emptied)
+
+    pub taken_filled : AreFilled (drop (i + 1) (set slots i None))
+    taken_filled = subst AreFilled (sym emptied) (rest_filled (drop i slots) filled slot (drop (i + 1) slots) parts x some)
+
+-- as many items in as many slots
+pub equal_items : {X Y : Type 0} (xs : List (Option X)) (ys : List (Option Y)) → AreFilled xs → AreFilled ys → length xs ≡ length ys → length (items_of xs) ≡ length (items_of ys)
+equal_items xs ys xs_filled ys_filled equal = length_filled xs xs_filled ∙ equal ∙ sym (length_filled ys ys_filled)
+
+-- as many are left of both columns
+pub left_equal : {X Y : Type 0} (given : ℕ) (xs : List (Option X)) (ys : List (Option Y)) → AreLeft given xs ys → length (items_of (drop given xs)) ≡ length (items_of (drop given ys))
+left_equal given xs ys left =
+    equal_items (drop given xs) (drop given ys) left.keys left.values (length-drop given xs ∙ ap (λ n. n - given) left.equal ∙ sym (length-drop given ys))

@@ -1,5 +1,5 @@
 -- The slots that a map keeps its pairs in, where none is empty.
-use Rattle.std.specs.Prelude.{◌≡◌, List, map, Option, Some}
+use Rattle.std.specs.Prelude.{◌≡◌, ◌≤◌, ℕ, List, drop, length, map, Option, Some}
 use Rattle.std.specs.List.{filter_map}
 
 module _ {X : Type 0} where
@@ -10,3 +10,10 @@ module _ {X : Type 0} where
   -- no slot is empty
   abbrev pub AreFilled : List (Option X) → Type 0
   AreFilled slots = slots ≡ map Some (items_of slots)
+
+-- two columns of slots, of which as many in front were emptied, and none of the others
+pub record AreLeft {X Y : Type 0} (given : ℕ) (xs : List (Option X)) (ys : List (Option Y)) : Type 0 where
+  pub keys : AreFilled (drop given xs)
+  pub values : AreFilled (drop given ys)
+  pub equal : length xs ≡ length ys
+  pub within : given ≤ length xs

@@ -2,43 +2,127 @@
 ghost use Rattle.std.specs.Prelude.{◌≡◌, IfSome, Some, Ok, [], length};
 ghost use Rattle.std.specs.Iterator.{UpTo, at_most};
 ghost use Rattle.std.specs.Iterator.SizeHint.{IsWithinCount};
-ghost use Rattle.std.specs.Map.{keys_of, values_of};
+ghost use Rattle.std.specs.List.{zip};
 ghost use Rattle.std.specs.Map.Iter.{TakesFirst, deref, deref_pair};
 ghost use Rattle.micromap_walk.specs.Filled.{items_of, AreFilled};
 
-use crate::slot::item_of;
+use crate::slot::{into_item, item_of};
 use std::alloc::AllocError;
 use std::iter::FusedIterator;
-use std::marker::Model;
+use std::marker::{Model, PhantomData};
 use std::slice;
 
-/// The pairs from the front, each as `(&K, &V)`.
+/// The items of one column, from the front: each walk here is made of one such walk or of two.
 #[derive(Drop)]
-pub struct Iter<'a, K, V> {
-    slots: slice::Iter<'a, Option<(K, V)>>,
+pub(crate) struct Lent<'a, X> {
+    slots: slice::Iter<'a, Option<X>>,
 }
 
-impl<'a, K, V> Model for Iter<'a, K, V> {
+impl<'a, X> Model for Lent<'a, X> {
     ghost use Rattle.std.specs.Prelude.{List};
     ghost use Rattle.std.specs.Slice.Iter.{iter_rest};
     ghost use Rattle.micromap_walk.specs.Filled.{items_of, AreFilled};
 
-    ghost Value = { List (K × V) };
+    ghost Value = { List X };
 
     ghost view = { λ walk. items_of (iter_rest walk.slots) };
 
     ghost invariant = { λ walk. AreFilled (iter_rest walk.slots) };
 }
 
-impl<'a, K, V> Iter<'a, K, V> {
-    /// A walk over the pairs in `slots`, none of which may be empty.
+impl<'a, X> Lent<'a, X> {
+    /// A walk over the items in `slots`.
     #[inline]
-    pub fn over(slots: &'a [Option<(K, V)>]) -> Self
+    pub(crate) fn over(slots: &'a [Option<X>]) -> Self
         requires { AreFilled slots.now }
         ensures { result ≡ items_of slots.now }
     {
-        Iter {
+        Lent {
             slots: slots.iter(),
+        }
+    }
+
+    /// The number of items left.
+    #[inline]
+    pub(crate) fn len(&self) -> usize
+        ensures { result ≡ length self.now }
+    {
+        self.slots.len()
+    }
+
+    /// A walk over what is left.
+    #[inline]
+    pub(crate) fn left(&self) -> Lent<'_, X>
+        ensures { result ≡ self.now }
+    {
+        Lent::over(self.slots.as_slice())
+    }
+
+    /// A walk that goes on where this one stands.
+    #[inline]
+    pub(crate) fn clone(&self) -> Result<Self, AllocError>
+        ensures { result ≡ Ok self.now }
+    {
+        Ok(Lent {
+            slots: self.slots.clone()?,
+        })
+    }
+}
+
+impl<'a, X> Iterator for Lent<'a, X> {
+    type Item = &'a X;
+
+    ghost next_gives = { TakesFirst deref };
+
+    ghost remaining = { λ left. at_most (length left) };
+
+    #[inline]
+    fn next(&mut self) -> Option<&'a X> {
+        let slot = self.slots.next()?;
+        Some(item_of(slot))
+    }
+
+    #[inline]
+    fn size_hint(&self) -> (usize, Option<usize>)
+        ensures lower { IsWithinCount result.0 (at_most (length self.now)) }
+        ensures upper { IfSome result.1 (UpTo (at_most (length self.now))) }
+        ensures exact { result ≡ (length self.now, Some (length self.now)) }
+    {
+        let left = self.len();
+        (left, Some(left))
+    }
+}
+
+/// The pairs from the front, each as `(&K, &V)`.
+#[derive(Drop)]
+pub struct Iter<'a, K, V> {
+    pub(crate) keys: Lent<'a, K>,
+    pub(crate) values: Lent<'a, V>,
+}
+
+impl<'a, K, V> Model for Iter<'a, K, V> {
+    ghost use Rattle.std.specs.Prelude.{List, ◌≡◌, length};
+    ghost use Rattle.std.specs.List.{zip};
+
+    ghost Value = { List (K × V) };
+
+    ghost view = { λ walk. zip walk.keys walk.values };
+
+    ghost invariant = { λ walk. length walk.keys ≡ length walk.values };
+}
+
+impl<'a, K, V> Iter<'a, K, V> {
+    /// A walk over the pairs in `keys` and `values`, none of which may be empty, and of which there are as many.
+    #[inline]
+    pub fn over(keys: &'a [Option<K>], values: &'a [Option<V>]) -> Self
+        requires keys { AreFilled keys.now }
+        requires values { AreFilled values.now }
+        requires equal { length keys.now ≡ length values.now }
+        ensures { result ≡ zip (items_of keys.now) (items_of values.now) }
+    {
+        Iter {
+            keys: Lent::over(keys),
+            values: Lent::over(values),
         }
     }
 
@@ -47,7 +131,7 @@ impl<'a, K, V> Iter<'a, K, V> {
     pub fn len(&self) -> usize
         ensures { result ≡ length self.now }
     {
-        self.slots.len()
+        self.keys.len()
     }
 
     // A walk over what is left.
@@ -55,7 +139,10 @@ impl<'a, K, V> Iter<'a, K, V> {
     pub(crate) fn left(&self) -> Iter<'_, K, V>
         ensures { result ≡ self.now }
     {
-        Iter::over(self.slots.as_slice())
+        Iter {
+            keys: self.keys.left(),
+            values: self.values.left(),
+        }
     }
 
     /// A walk that goes on where this one stands. It never lacks memory.
@@ -64,7 +151,8 @@ impl<'a, K, V> Iter<'a, K, V> {
         ensures { result ≡ Ok self.now }
     {
         Ok(Iter {
-            slots: self.slots.clone()?,
+            keys: self.keys.clone()?,
+            values: self.values.clone()?,
         })
     }
 }
@@ -78,8 +166,8 @@ impl<'a, K, V> Iterator for Iter<'a, K, V> {
 
     #[inline]
     fn next(&mut self) -> Option<(&'a K, &'a V)> {
-        let slot = self.slots.next()?;
-        let (key, value) = item_of(slot);
+        let key = self.keys.next()?;
+        let value = into_item(self.values.next());
         Some((key, value))
     }
 
@@ -100,34 +188,35 @@ impl<'a, K, V> Default for Iter<'a, K, V> {
     ghost is_default = { λ left. left ≡ [] };
 
     fn default() -> Self {
-        Iter::over(&[])
+        Iter::over(&[], &[])
     }
 }
 
 /// The keys of the pairs, from the front.
 #[derive(Drop)]
 pub struct Keys<'a, K, V> {
-    pub(crate) pairs: Iter<'a, K, V>,
+    pub(crate) keys: Lent<'a, K>,
+    _values: PhantomData<V>,
 }
 
 impl<'a, K, V> Model for Keys<'a, K, V> {
     ghost use Rattle.std.specs.Prelude.{List};
-    ghost use Rattle.std.specs.Map.{keys_of};
 
     ghost Value = { List K };
 
-    ghost view = { λ walk. keys_of walk.pairs };
+    ghost view = { λ walk. walk.keys };
 }
 
 impl<'a, K, V> Keys<'a, K, V> {
-    /// A walk over the keys in `slots`, none of which may be empty.
+    /// A walk over the keys in `keys`, none of which may be empty.
     #[inline]
-    pub fn over(slots: &'a [Option<(K, V)>]) -> Self
-        requires { AreFilled slots.now }
-        ensures { result ≡ keys_of (items_of slots.now) }
+    pub fn over(keys: &'a [Option<K>]) -> Self
+        requires { AreFilled keys.now }
+        ensures { result ≡ items_of keys.now }
     {
         Keys {
-            pairs: Iter::over(slots),
+            keys: Lent::over(keys),
+            _values: PhantomData,
         }
     }
 
@@ -136,7 +225,7 @@ impl<'a, K, V> Keys<'a, K, V> {
     pub fn len(&self) -> usize
         ensures { result ≡ length self.now }
     {
-        self.pairs.len()
+        self.keys.len()
     }
 
     /// A walk that goes on where this one stands. It never lacks memory.
@@ -145,7 +234,8 @@ impl<'a, K, V> Keys<'a, K, V> {
         ensures { result ≡ Ok self.now }
     {
         Ok(Keys {
-            pairs: self.pairs.clone()?,
+            keys: self.keys.clone()?,
+            _values: PhantomData,
         })
     }
 }
@@ -159,8 +249,7 @@ impl<'a, K, V> Iterator for Keys<'a, K, V> {
 
     #[inline]
     fn next(&mut self) -> Option<&'a K> {
-        let (key, _value) = self.pairs.next()?;
-        Some(key)
+        self.keys.next()
     }
 
     #[inline]
@@ -169,7 +258,7 @@ impl<'a, K, V> Iterator for Keys<'a, K, V> {
         ensures upper { IfSome result.1 (UpTo (at_most (length self.now))) }
         ensures exact { result ≡ (length self.now, Some (length self.now)) }
     {
-        self.pairs.size_hint()
+        self.keys.size_hint()
     }
 }
 
@@ -186,27 +275,28 @@ impl<'a, K, V> Default for Keys<'a, K, V> {
 /// The values of the pairs, from the front.
 #[derive(Drop)]
 pub struct Values<'a, K, V> {
-    pub(crate) pairs: Iter<'a, K, V>,
+    pub(crate) values: Lent<'a, V>,
+    _keys: PhantomData<K>,
 }
 
 impl<'a, K, V> Model for Values<'a, K, V> {
     ghost use Rattle.std.specs.Prelude.{List};
-    ghost use Rattle.std.specs.Map.{values_of};
 
     ghost Value = { List V };
 
-    ghost view = { λ walk. values_of walk.pairs };
+    ghost view = { λ walk. walk.values };
 }
 
 impl<'a, K, V> Values<'a, K, V> {
-    /// A walk over the values in `slots`, none of which may be empty.
+    /// A walk over the values in `values`, none of which may be empty.
     #[inline]
-    pub fn over(slots: &'a [Option<(K, V)>]) -> Self
-        requires { AreFilled slots.now }
-        ensures { result ≡ values_of (items_of slots.now) }
+    pub fn over(values: &'a [Option<V>]) -> Self
+        requires { AreFilled values.now }
+        ensures { result ≡ items_of values.now }
     {
         Values {
-            pairs: Iter::over(slots),
+            values: Lent::over(values),
+            _keys: PhantomData,
         }
     }
 
@@ -215,7 +305,7 @@ impl<'a, K, V> Values<'a, K, V> {
     pub fn len(&self) -> usize
         ensures { result ≡ length self.now }
     {
-        self.pairs.len()
+        self.values.len()
     }
 
     /// A walk that goes on where this one stands. It never lacks memory.
@@ -224,7 +314,8 @@ impl<'a, K, V> Values<'a, K, V> {
         ensures { result ≡ Ok self.now }
     {
         Ok(Values {
-            pairs: self.pairs.clone()?,
+            values: self.values.clone()?,
+            _keys: PhantomData,
         })
     }
 }
@@ -238,8 +329,7 @@ impl<'a, K, V> Iterator for Values<'a, K, V> {
 
     #[inline]
     fn next(&mut self) -> Option<&'a V> {
-        let (_key, value) = self.pairs.next()?;
-        Some(value)
+        self.values.next()
     }
 
     #[inline]
@@ -248,7 +338,7 @@ impl<'a, K, V> Iterator for Values<'a, K, V> {
         ensures upper { IfSome result.1 (UpTo (at_most (length self.now))) }
         ensures exact { result ≡ (length self.now, Some (length self.now)) }
     {
-        self.pairs.size_hint()
+        self.values.size_hint()
     }
 }
 

@@ -1,42 +1,53 @@
 //! The walk that owns what a map had, from the front.
-ghost use Rattle.std.specs.Prelude.{◌≡◌, IfSome, Some, length};
+ghost use Rattle.std.specs.Prelude.{◌≡◌, ◌<◌, ◌+◌, ◌∷◌, IfSome, Some, length, drop};
 ghost use Rattle.std.specs.Iterator.{UpTo, at_most};
 ghost use Rattle.std.specs.Iterator.SizeHint.{IsWithinCount};
+ghost use Rattle.std.specs.List.{zip};
 ghost use Rattle.std.specs.Map.Iter.{TakesFirst};
 ghost use Rattle.micromap_walk.specs.Filled.{items_of, AreFilled};
 
 use crate::Iter;
+use crate::borrowing::Lent;
 use crate::slot::into_item;
-use arrayvec::{ArrayVec, IntoIter};
+use arrayvec::ArrayVec;
 use std::iter::FusedIterator;
 use std::marker::Model;
+use std::mem;
 
 /// The pairs by value, from the front. What isn't taken is dropped with the walk.
 #[derive(Drop)]
 pub struct Drain<K, V, const N: usize> {
-    slots: IntoIter<Option<(K, V)>, N>,
+    keys: ArrayVec<Option<K>, N>,
+    values: ArrayVec<Option<V>, N>,
+    // How many pairs were given: as many slots in front are empty.
+    given: usize,
 }
 
 impl<K, V, const N: usize> Model for Drain<K, V, N> {
-    ghost use Rattle.std.specs.Prelude.{List};
-    ghost use Rattle.micromap_walk.specs.Filled.{items_of, AreFilled};
+    ghost use Rattle.std.specs.Prelude.{List, drop};
+    ghost use Rattle.std.specs.List.{zip};
+    ghost use Rattle.micromap_walk.specs.Filled.{items_of, AreLeft};
 
     ghost Value = { List (K × V) };
 
-    ghost view = { λ walk. items_of walk.slots };
+    ghost view = { λ walk. zip (items_of (drop walk.given walk.keys.items)) (items_of (drop walk.given walk.values.items)) };
 
-    ghost invariant = { λ walk. AreFilled walk.slots };
+    ghost invariant = { λ walk. AreLeft walk.given walk.keys.items walk.values.items };
 }
 
 impl<K: Drop, V: Drop, const N: usize> Drain<K, V, N> {
-    /// A walk over the pairs in `slots`, none of which may be empty.
+    /// A walk over the pairs in `keys` and `values`, none of which may be empty, and of which there are as many.
     #[inline]
-    pub fn over(slots: ArrayVec<Option<(K, V)>, N>) -> Self
-        requires { AreFilled slots.items }
-        ensures { result ≡ items_of slots.items }
+    pub fn over(keys: ArrayVec<Option<K>, N>, values: ArrayVec<Option<V>, N>) -> Self
+        requires keys { AreFilled keys.items }
+        requires values { AreFilled values.items }
+        requires equal { length keys.items ≡ length values.items }
+        ensures { result ≡ zip (items_of keys.items) (items_of values.items) }
     {
         Drain {
-            slots: slots.into_iter(),
+            keys,
+            values,
+            given: 0,
         }
     }
 
@@ -45,7 +56,7 @@ impl<K: Drop, V: Drop, const N: usize> Drain<K, V, N> {
     pub fn len(&self) -> usize
         ensures { result ≡ length self.now }
     {
-        self.slots.len()
+        self.keys.len() - self.given
     }
 }
 
@@ -55,8 +66,23 @@ impl<K, V, const N: usize> Drain<K, V, N> {
     pub(crate) fn left(&self) -> Iter<'_, K, V>
         ensures { result ≡ self.now }
     {
-        Iter::over(self.slots.as_slice())
+        Iter {
+            keys: Lent::over(&self.keys.as_slice()[self.given..]),
+            values: Lent::over(&self.values.as_slice()[self.given..]),
+        }
     }
+}
+
+// Takes the item out of the slot at `index`, which is empty from then on.
+#[inline]
+fn taken<X: Drop, const N: usize>(slots: &mut ArrayVec<Option<X>, N>, index: usize) -> X
+    requires filled { AreFilled (drop index slots.old.items) }
+    requires within { index < length slots.old.items }
+    ensures items { items_of (drop index slots.old.items) ≡ result ∷ items_of (drop (index + 1) slots.new.items) }
+    ensures filled { AreFilled (drop (index + 1) slots.new.items) }
+    ensures len { length slots.new.items ≡ length slots.old.items }
+{
+    into_item(mem::take(&mut slots.as_mut_slice()[index]))
 }
 
 impl<K: Drop, V: Drop, const N: usize> Iterator for Drain<K, V, N> {
@@ -68,8 +94,12 @@ impl<K: Drop, V: Drop, const N: usize> Iterator for Drain<K, V, N> {
 
     #[inline]
     fn next(&mut self) -> Option<(K, V)> {
-        let slot = self.slots.next()?;
-        Some(into_item(slot))
+        let index = self.given;
+        if index == self.keys.len() {
+            return None;
+        }
+        self.given = index + 1;
+        Some((taken(&mut self.keys, index), taken(&mut self.values, index)))
     }
 
     #[inline]

@@ -2,41 +2,104 @@
 ghost use Rattle.std.specs.Prelude.{◌≡◌, IfSome, Some, [], length, reverse};
 ghost use Rattle.std.specs.Iterator.{UpTo, at_most};
 ghost use Rattle.std.specs.Iterator.SizeHint.{IsWithinCount};
+ghost use Rattle.std.specs.List.{zip};
 ghost use Rattle.std.specs.Map.{keys_of, values_of};
 ghost use Rattle.std.specs.Map.Iter.{TakesFirst};
 ghost use Rattle.micromap_walk.specs.Filled.{items_of, AreFilled};
 
 use crate::Iter;
+use crate::borrowing::Lent;
 use crate::slot::into_item;
 use arrayvec::ArrayVec;
 use std::iter::FusedIterator;
 use std::marker::Model;
 
-/// The pairs by value, from the end. What isn't taken is dropped with the walk.
+/// The items of one column by value, from the end: each walk here is made of two such walks.
 #[derive(Drop)]
-pub struct IntoIter<K, V, const N: usize> {
-    slots: ArrayVec<Option<(K, V)>, N>,
+pub(crate) struct Owned<X, const N: usize> {
+    slots: ArrayVec<Option<X>, N>,
 }
 
-impl<K, V, const N: usize> Model for IntoIter<K, V, N> {
+impl<X, const N: usize> Model for Owned<X, N> {
     ghost use Rattle.std.specs.Prelude.{List, reverse};
     ghost use Rattle.micromap_walk.specs.Filled.{items_of, AreFilled};
 
-    ghost Value = { List (K × V) };
+    ghost Value = { List X };
 
     ghost view = { λ walk. reverse (items_of walk.slots.items) };
 
     ghost invariant = { λ walk. AreFilled walk.slots.items };
 }
 
-impl<K, V, const N: usize> IntoIter<K, V, N> {
-    /// A walk over the pairs in `slots`, none of which may be empty.
+impl<X, const N: usize> Owned<X, N> {
+    /// A walk over the items in `slots`.
     #[inline]
-    pub fn over(slots: ArrayVec<Option<(K, V)>, N>) -> Self
+    pub(crate) fn over(slots: ArrayVec<Option<X>, N>) -> Self
         requires { AreFilled slots.items }
         ensures { result ≡ reverse (items_of slots.items) }
     {
-        IntoIter { slots }
+        Owned { slots }
+    }
+
+    /// The number of items left.
+    #[inline]
+    pub(crate) fn len(&self) -> usize
+        ensures { result ≡ length self.now }
+    {
+        self.slots.len()
+    }
+
+    /// A walk over what is left, from the front.
+    #[inline]
+    pub(crate) fn left(&self) -> Lent<'_, X>
+        ensures { result ≡ reverse self.now }
+    {
+        Lent::over(self.slots.as_slice())
+    }
+}
+
+impl<X: Drop, const N: usize> Owned<X, N> {
+    /// The next item.
+    #[inline]
+    pub(crate) fn next(&mut self) -> Option<X>
+        ensures { TakesFirst (λ x. x) self.old result self.new }
+    {
+        let slot = self.slots.pop()?;
+        Some(into_item(slot))
+    }
+}
+
+/// The pairs by value, from the end. What isn't taken is dropped with the walk.
+#[derive(Drop)]
+pub struct IntoIter<K, V, const N: usize> {
+    keys: Owned<K, N>,
+    values: Owned<V, N>,
+}
+
+impl<K, V, const N: usize> Model for IntoIter<K, V, N> {
+    ghost use Rattle.std.specs.Prelude.{List, ◌≡◌, length};
+    ghost use Rattle.std.specs.List.{zip};
+
+    ghost Value = { List (K × V) };
+
+    ghost view = { λ walk. zip walk.keys walk.values };
+
+    ghost invariant = { λ walk. length walk.keys ≡ length walk.values };
+}
+
+impl<K, V, const N: usize> IntoIter<K, V, N> {
+    /// A walk over the pairs in `keys` and `values`, none of which may be empty, and of which there are as many.
+    #[inline]
+    pub fn over(keys: ArrayVec<Option<K>, N>, values: ArrayVec<Option<V>, N>) -> Self
+        requires keys { AreFilled keys.items }
+        requires values { AreFilled values.items }
+        requires equal { length keys.items ≡ length values.items }
+        ensures { result ≡ reverse (zip (items_of keys.items) (items_of values.items)) }
+    {
+        IntoIter {
+            keys: Owned::over(keys),
+            values: Owned::over(values),
+        }
     }
 
     /// The number of pairs left.
@@ -44,7 +107,7 @@ impl<K, V, const N: usize> IntoIter<K, V, N> {
     pub fn len(&self) -> usize
         ensures { result ≡ length self.now }
     {
-        self.slots.len()
+        self.keys.len()
     }
 
     // A walk over what is left, from the front.
@@ -52,7 +115,10 @@ impl<K, V, const N: usize> IntoIter<K, V, N> {
     pub(crate) fn left(&self) -> Iter<'_, K, V>
         ensures { result ≡ reverse self.now }
     {
-        Iter::over(self.slots.as_slice())
+        Iter {
+            keys: self.keys.left(),
+            values: self.values.left(),
+        }
     }
 }
 
@@ -65,8 +131,9 @@ impl<K: Drop, V: Drop, const N: usize> Iterator for IntoIter<K, V, N> {
 
     #[inline]
     fn next(&mut self) -> Option<(K, V)> {
-        let slot = self.slots.pop()?;
-        Some(into_item(slot))
+        let key = self.keys.next()?;
+        let value = into_item(self.values.next());
+        Some((key, value))
     }
 
     #[inline]
@@ -86,7 +153,7 @@ impl<K, V, const N: usize> Default for IntoIter<K, V, N> {
     ghost is_default = { λ left. left ≡ [] };
 
     fn default() -> Self {
-        IntoIter::over(ArrayVec::new())
+        IntoIter::over(ArrayVec::new(), ArrayVec::new())
     }
 }
 
@@ -106,14 +173,17 @@ impl<K, V, const N: usize> Model for IntoKeys<K, V, N> {
 }
 
 impl<K, V, const N: usize> IntoKeys<K, V, N> {
-    /// A walk over the keys in `slots`, none of which may be empty.
+    /// A walk over the keys of the pairs in `keys` and `values`, none of which may be empty, and of which there are as
+    /// many.
     #[inline]
-    pub fn over(slots: ArrayVec<Option<(K, V)>, N>) -> Self
-        requires { AreFilled slots.items }
-        ensures { result ≡ keys_of (reverse (items_of slots.items)) }
+    pub fn over(keys: ArrayVec<Option<K>, N>, values: ArrayVec<Option<V>, N>) -> Self
+        requires keys { AreFilled keys.items }
+        requires values { AreFilled values.items }
+        requires equal { length keys.items ≡ length values.items }
+        ensures { result ≡ keys_of (reverse (zip (items_of keys.items) (items_of values.items))) }
     {
         IntoKeys {
-            pairs: IntoIter::over(slots),
+            pairs: IntoIter::over(keys, values),
         }
     }
 
@@ -155,7 +225,7 @@ impl<K, V, const N: usize> Default for IntoKeys<K, V, N> {
     ghost is_default = { λ left. left ≡ [] };
 
     fn default() -> Self {
-        IntoKeys::over(ArrayVec::new())
+        IntoKeys::over(ArrayVec::new(), ArrayVec::new())
     }
 }
 
@@ -175,14 +245,17 @@ impl<K, V, const N: usize> Model for IntoValues<K, V, N> {
 }
 
 impl<K, V, const N: usize> IntoValues<K, V, N> {
-    /// A walk over the values in `slots`, none of which may be empty.
+    /// A walk over the values of the pairs in `keys` and `values`, none of which may be empty, and of which there are as
+    /// many.
     #[inline]
-    pub fn over(slots: ArrayVec<Option<(K, V)>, N>) -> Self
-        requires { AreFilled slots.items }
-        ensures { result ≡ values_of (reverse (items_of slots.items)) }
+    pub fn over(keys: ArrayVec<Option<K>, N>, values: ArrayVec<Option<V>, N>) -> Self
+        requires keys { AreFilled keys.items }
+        requires values { AreFilled values.items }
+        requires equal { length keys.items ≡ length values.items }
+        ensures { result ≡ values_of (reverse (zip (items_of keys.items) (items_of values.items))) }
     {
         IntoValues {
-            pairs: IntoIter::over(slots),
+            pairs: IntoIter::over(keys, values),
         }
     }
 
@@ -224,6 +297,6 @@ impl<K, V, const N: usize> Default for IntoValues<K, V, N> {
     ghost is_default = { λ left. left ≡ [] };
 
     fn default() -> Self {
-        IntoValues::over(ArrayVec::new())
+        IntoValues::over(ArrayVec::new(), ArrayVec::new())
     }
 }

@@ -10,17 +10,13 @@ impl<'a, K: fmt::Debug, V: fmt::Debug> fmt::Debug for Iter<'a, K, V> {
 
 impl<'a, K: fmt::Debug, V> fmt::Debug for Keys<'a, K, V> {
     fn fmt<W: fmt::Write>(&self, f: &mut fmt::Formatter<W>) -> fmt::Result {
-        f.debug_list()
-            .entries(self.pairs.left().map(|(key, _)| key))
-            .finish()
+        f.debug_list().entries(self.keys.left()).finish()
     }
 }
 
 impl<'a, K, V: fmt::Debug> fmt::Debug for Values<'a, K, V> {
     fn fmt<W: fmt::Write>(&self, f: &mut fmt::Formatter<W>) -> fmt::Result {
-        f.debug_list()
-            .entries(self.pairs.left().map(|(_, value)| value))
-            .finish()
+        f.debug_list().entries(self.values.left()).finish()
     }
 }
 

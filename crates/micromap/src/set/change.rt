@@ -54,19 +54,20 @@ impl<T: Eq + Drop, const N: usize> Set<T, N> {
     /// Puts the item, or hands it back where an equal one is stored.
     ///
     /// A new item goes last, and the answer is `None`. At a full set a new item is refused: the answer is `None` too,
-    /// the set is unchanged, and the item is dropped. It costs one scan, and a second one for a new item.
+    /// the set is unchanged, and the item is dropped. It costs one scan, and where the set isn't full a second one for an
+    /// item that is stored.
     #[inline]
     pub fn checked_insert(&mut self, x: T) -> Option<T>
         ensures answer { result ≡ (if contains T.eq self.old x then Some x else None) }
         ensures items { self.new ≡ (if item_fits T.eq N self.old x then add T.eq self.old x else self.old) }
         ensures content { IsItems T.eq N self.old }
     {
-        let _content = self.len();
-        if self.map.contains_key(&x) {
-            return Some(x);
+        if self.len() < N {
+            // An equal item gives its place to x, and takes it back.
+            let stored = self.replace(x)?;
+            return self.replace(stored);
         }
-        self.map.checked_insert(x, ());
-        None
+        if self.contains(&x) { Some(x) } else { None }
     }
 
     /// Takes the item that equals `x` out, by one scan, and answers it; the last item moves into the gap. Where there

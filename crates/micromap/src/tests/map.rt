@@ -33,6 +33,14 @@ fn a_stored_key_stays(rt: HostRuntime) {
 }
 
 #[test]
+fn the_last_pair_moves_with_key_and_value(rt: HostRuntime) {
+    let mut map = Map::from([(1, 10), (2, 20), (3, 30)]);
+    assert_eq!(rt; map.remove_entry(&1), Some((1, 10)));
+    assert!(rt; gives(map.iter(), &[(&3, &30), (&2, &20)]));
+    assert!(rt; gives(map.drain(), &[(3, 30), (2, 20)]));
+}
+
+#[test]
 fn capacity_0_holds_nothing(rt: HostRuntime) {
     let mut map: Map<u8, u8, 0> = Map::default();
     assert_eq!(rt; map.capacity(), 0);

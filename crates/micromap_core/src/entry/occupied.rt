@@ -13,7 +13,7 @@ impl<'a, K: Eq, V, const N: usize> OccupiedIn<'a, Map<K, V, N>> {
         requires { IsSound K.eq (Occupied self.now) }
         ensures { entry_key (Occupied self.now) ≡ Some result.now }
     {
-        &self.map.pair_at(self.index).0
+        self.map.pair_at(self.index).0
     }
 
     /// The value.
@@ -21,7 +21,7 @@ impl<'a, K: Eq, V, const N: usize> OccupiedIn<'a, Map<K, V, N>> {
         requires { IsSound K.eq (Occupied self.now) }
         ensures { entry_value (Occupied self.now) ≡ Some result.now }
     {
-        &self.map.pair_at(self.index).1
+        self.map.pair_at(self.index).1
     }
 
     /// The value, for writing while the entry stays.

@@ -15,20 +15,7 @@ use crate::probe::Probe;
 use std::mem;
 
 impl<K: Eq, V, const N: usize> Map<K, V, N> {
-    // The first pair whose key the probe matches: the scan of every call that reads.
-    #[inline]
-    fn first<P: Probe<K>>(&self, probe: &P) -> Option<(&K, &V)>
-        ensures { option_map deref_pair result ≡ lookup_entry (P.matches probe.now) self.now }
-    {
-        for (key, value) in self {
-            if probe.matches(key) {
-                return Some((key, value));
-            }
-        }
-        None
-    }
-
-    // Its index: the scan of every call that writes.
+    // The index of the first pair whose key the probe matches: the scan of every call by a key, and of all that change.
     #[inline]
     fn first_index<P: Probe<K>>(&self, probe: &P) -> Option<usize>
         ensures { result ≡ index_by (P.matches probe.now) self.now }
@@ -36,7 +23,31 @@ impl<K: Eq, V, const N: usize> Map<K, V, N> {
         self.keys().position(|key| probe.matches(key))
     }
 
-    // The first pair whose key the probe matches, in the words of a test and in those of the key that matches.
+    // The same without a count on the way, which costs less where keys are texts: the scan of every call by a probe that
+    // reads. Where it ended is told by how many keys are left.
+    #[inline]
+    fn first_index_by_rest<P: Probe<K>>(&self, probe: &P) -> Option<usize>
+        ensures { result ≡ index_by (P.matches probe.now) self.now }
+    {
+        let mut keys = self.keys();
+        while let Some(key) = keys.next() {
+            if probe.matches(key) {
+                return Some(self.len() - keys.len() - 1);
+            }
+        }
+        None
+    }
+
+    // The first pair whose key the probe matches.
+    #[inline]
+    fn first<P: Probe<K>>(&self, probe: &P) -> Option<(&K, &V)>
+        ensures { option_map deref_pair result ≡ lookup_entry (P.matches probe.now) self.now }
+    {
+        let index = self.first_index_by_rest(probe)?;
+        Some(self.pair_at(index))
+    }
+
+    // The same, in the words of a test and in those of the key that matches.
     #[inline]
     pub(crate) fn find<P: Probe<K>>(&self, probe: &P) -> Option<(&K, &V)>
         ensures pair { option_map deref_pair result ≡ lookup_entry (P.matches probe.now) self.now }
@@ -70,11 +81,11 @@ impl<K: Eq, V, const N: usize> Map<K, V, N> {
 
     // The pair at `index`.
     #[inline]
-    pub(crate) fn pair_at(&self, index: usize) -> &(K, V)
+    pub(crate) fn pair_at(&self, index: usize) -> (&K, &V)
         requires { index < length self.now }
-        ensures { slice_get self.now index ≡ Some result.now }
+        ensures { slice_get self.now index ≡ Some (result.0.now, result.1.now) }
     {
-        self.pairs.item_at(index)
+        self.pairs.pair_at(index)
     }
 
     // The value at `index`, for writing.
@@ -84,7 +95,7 @@ impl<K: Eq, V, const N: usize> Map<K, V, N> {
         ensures* writes_back { sem 𝓛 (lends_value_at K.row V.row N.row K.eq self.entry index result) }
         ensures value { option_map (λ p. p.1) (slice_get self.old index) ≡ Some result.now }
     {
-        &mut self.pairs.item_at_mut(index).1
+        self.pairs.value_at(index)
     }
 
     // Calls `visit` at the pair at `index`.
@@ -98,8 +109,7 @@ impl<K: Eq, V, const N: usize> Map<K, V, N> {
         requires callable { IfSome (slice_get self.old index) (λ p. AcceptsPair F.FnMut visit.old p.0 p.1) }
         ensures { VisitsAt (CalledOnPair F.FnMut) visit.old self.old index result visit.new self.new }
     {
-        let pair = self.pairs.item_at_mut(index);
-        visit(&pair.0, &mut pair.1)
+        self.pairs.visit_at(index, visit)
     }
 
     // Writes `value` at `index`, and answers the old value.
@@ -129,7 +139,7 @@ impl<K: Eq, V, const N: usize> Map<K, V, N> {
         ensures old { pair K.eq self.old key ≡ Some result }
         ensures pairs { self.new ≡ put_key K.eq self.old key value }
     {
-        mem::replace(self.pairs.item_at_mut(index), (key, value))
+        self.pairs.replace_at(index, key, value)
     }
 }
 
@@ -143,7 +153,7 @@ impl<K: Eq + Drop, V: Drop, const N: usize> Map<K, V, N> {
         ensures put { self.new ≡ put K.eq self.old key value }
         ensures put_key { self.new ≡ put_key K.eq self.old key value }
     {
-        self.pairs.push((key, value));
+        self.pairs.push(key, value);
     }
 
     // Takes the first pair out whose key the probe matches; the last pair moves there.

@@ -16,7 +16,7 @@ impl<K: Eq, V, const N: usize> Map<K, V, N> {
         ensures { option_copied result ≡ at K.eq self.now key.now }
     {
         let index = self.index_of(key)?;
-        Some(&self.pair_at(index).1)
+        Some(self.pair_at(index).1)
     }
 
     /// The value at `key`, for writing, or `None` where the key is missing, by one scan. Once the borrow ends the map
@@ -39,8 +39,7 @@ impl<K: Eq, V, const N: usize> Map<K, V, N> {
         ensures { option_map deref_pair result ≡ pair K.eq self.now key.now }
     {
         let index = self.index_of(key)?;
-        let (key, value) = self.pair_at(index);
-        Some((key, value))
+        Some(self.pair_at(index))
     }
 
     /// Whether some stored key equals `key`, by one scan.
@@ -67,7 +66,7 @@ impl<K: Eq, V, const N: usize> Map<K, V, N> {
         ensures { at K.eq self.now key.now ≡ Some result.now }
     {
         match self.index_of(key) {
-            Some(index) => &self.pair_at(index).1,
+            Some(index) => self.pair_at(index).1,
             None => unreachable!(),
         }
     }

@@ -17,7 +17,8 @@ impl<K: Eq, V, const N: usize> Map<K, V, N> {
         ensures answer { result ≡ self.now }
         ensures runs { ShowsInOrder (deref_pair {K = K} {X = V}) }
     {
-        Iter::over(self.pairs.as_slice())
+        let (keys, values) = self.pairs.as_slices();
+        Iter::over(keys, values)
     }
 
     /// The keys from the front.
@@ -26,7 +27,7 @@ impl<K: Eq, V, const N: usize> Map<K, V, N> {
         ensures answer { result ≡ keys_of self.now }
         ensures runs { ShowsInOrder (deref {X = K}) }
     {
-        Keys::over(self.pairs.as_slice())
+        Keys::over(self.pairs.keys())
     }
 
     /// The values from the front.
@@ -35,7 +36,7 @@ impl<K: Eq, V, const N: usize> Map<K, V, N> {
         ensures answer { result ≡ values_of self.now }
         ensures runs { ShowsInOrder (deref {X = V}) }
     {
-        Values::over(self.pairs.as_slice())
+        Values::over(self.pairs.values())
     }
 
     /// The keys by value, from the end. What isn't taken is dropped with the walk.
@@ -45,7 +46,8 @@ impl<K: Eq, V, const N: usize> Map<K, V, N> {
         ensures runs { GivesInOrder K }
     {
         let Map { pairs } = self;
-        IntoKeys::over(pairs.into_array_vec())
+        let (keys, values) = pairs.into_array_vecs();
+        IntoKeys::over(keys, values)
     }
 
     /// The values by value, from the end. What isn't taken is dropped with the walk.
@@ -55,7 +57,8 @@ impl<K: Eq, V, const N: usize> Map<K, V, N> {
         ensures runs { GivesInOrder V }
     {
         let Map { pairs } = self;
-        IntoValues::over(pairs.into_array_vec())
+        let (keys, values) = pairs.into_array_vecs();
+        IntoValues::over(keys, values)
     }
 }
 
@@ -70,7 +73,8 @@ impl<K: Eq + Drop, V: Drop, const N: usize> Map<K, V, N> {
     {
         let _content = self.len();
         let Map { pairs } = mem::take(self);
-        Drain::over(pairs.into_array_vec())
+        let (keys, values) = pairs.into_array_vecs();
+        Drain::over(keys, values)
     }
 }
 
@@ -84,7 +88,8 @@ impl<K: Eq + Drop, V: Drop, const N: usize> IntoIterator for Map<K, V, N> {
 
     fn into_iter(self) -> IntoIter<K, V, N> {
         let Map { pairs } = self;
-        IntoIter::over(pairs.into_array_vec())
+        let (keys, values) = pairs.into_array_vecs();
+        IntoIter::over(keys, values)
     }
 }
 

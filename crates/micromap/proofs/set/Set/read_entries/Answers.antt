@@ -1,3 +1,8 @@
+use Rattle.std.proofs.Common.{ap}
+use Rattle.std.specs.Map.{keys_of}
+use Rattle.std.specs.Result.{result_map_both}
+use Rattle.std.proofs.lemmas.Map.Entries.{length-keys_of}
+use Rattle.micromap_core.specs.Pairs.{IsContent}
 use Rattle.micromap.proofs.EntryItems.{same_error, set_reads_all, set_reads_up_to, set_reads_to_misfit}
 use Rattle.micromap.proofs.set.Set.read_entries.Goals as goal
 
@@ -9,3 +14,9 @@ returns-in-Err-clause-failed g c e is = set_reads_up_to g.T.PartialEq.eq g.row.N
 
 pub returns-in-Err-clause-too_many : goal.returns-in-Err-clause-too_many
 returns-in-Err-clause-too_many g c is = set_reads_to_misfit g.T.PartialEq.eq g.row.N (c.in-Err.ensures.too_many (same_error is))
+
+pub returns-in-Ok-clause-round_trip : goal.returns-in-Ok-clause-round_trip
+returns-in-Ok-clause-round_trip g c items same =
+    let pairs = g.S.EntrySource.left c.args.source.now in
+    let content : IsContent g.T.PartialEq.eq g.row.N pairs = record { unique = items.unique; bounded = rw (length-keys_of pairs) at items.bounded; lawful = items.lawful } in
+    ap (λ r. result_map_both keys_of (λ e. e) r) (c.in-Ok.ensures.round_trip content same)

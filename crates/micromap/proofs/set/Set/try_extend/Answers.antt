@@ -1,4 +1,4 @@
-use Rattle.std.proofs.Common.{sym, ◌∙◌, rules}
+use Rattle.std.proofs.Common.{sym, ◌∙◌, arith}
 use Rattle.micromap.specs.Items.{add, item_fits}
 use Rattle.micromap_core.proofs.BuildLemmas.{has_put_more, puts_up_to, puts_all, run_puts, run_stops}
 use Rattle.micromap.proofs.set.Set.try_extend.Goals as goal
@@ -7,10 +7,11 @@ pub loop-x-preserved : goal.loop-x-preserved
 loop-x-preserved g c =
     let l = c.loop-x in
     let eq = g.T.PartialEq.eq in
+    let goes = c.in-Some.ensures.goes.on l.invariant.finite in
     record {
-      can = search rules;
-      finite = search rules;
-      counted = search rules;
+      can = goes.0;
+      finite = goes.1;
+      counted = omega (arith, goes.2, l.invariant.counted);
       put = has_put_more (item_fits eq g.row.N) (add eq) c.args.self.now l.yielded l.at l.self c.put.new.self c.in-Some.x l.invariant.put c.put.ensures.items (sym c.put.ensures.answer ∙ c.if-not-put.false);
     }
 

@@ -1,6 +1,9 @@
-use Rattle.std.proofs.Common.{rules, ◌≤◌, length, subst}
+use Rattle.std.proofs.Common.{rules, ◌≤◌, length, ap, subst, ◌∙◌}
 use Rattle.micromap_core.proofs.Equalities.{lawful}
 use Rattle.micromap_core.proofs.map.Map.len.Goals as goal
+
+pub returns-clause-answer : goal.returns-clause-answer
+returns-clause-answer g c = c.len.ensures.answer ∙ ap length c.self.view_is
 
 pub returns-clause-content : goal.returns-clause-content
 returns-clause-content g c = record {

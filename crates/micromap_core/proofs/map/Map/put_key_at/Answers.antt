@@ -1,24 +1,24 @@
-use Rattle.std.proofs.Common.{◌<◌, Some, length, ap, sym, ◌∙◌, rules}
+use Rattle.std.proofs.Common.{◌<◌, length, sym, ◌∙◌, rules}
 use Rattle.micromap_core.proofs.FoundLemmas.{found_at}
 use Rattle.micromap_core.proofs.PairsLemmas.{IsUnique-set_key, slice_set-put_key}
 use Rattle.micromap_core.proofs.map.Map.put_key_at.Goals as goal
 
-pub item_at_mut-requires : goal.item_at_mut-requires
-item_at_mut-requires g c =
+pub replace_at-requires : goal.replace_at-requires
+replace_at-requires g c =
     let within : c.args.index < length c.self.inside.pairs = (found_at (g.K.PartialEq.eq c.args.key) c.self.inside.pairs c.args.index (rw c.self.view_is c.requires)).within in
     search rules
 
 pub invariant_of-self : goal.invariant_of-self
 invariant_of-self g c =
     let found = found_at (g.K.PartialEq.eq c.args.key) c.self.inside.pairs c.args.index (rw c.self.view_is c.requires) in
-    rw c.replace.ensures.after (IsUnique-set_key g.K.PartialEq.eq g.met.K.Eq.laws c.self.inside.pairs c.self.invariant c.args.index found.pair c.args.key c.args.value found.here found.passes)
+    rw c.replace_at.ensures.pairs (IsUnique-set_key g.K.PartialEq.eq g.met.K.Eq.laws c.self.inside.pairs c.self.invariant c.args.index found.pair c.args.key c.args.value found.here found.passes)
 
 pub returns-clause-old : goal.returns-clause-old
 returns-clause-old g c =
     let found = found_at (g.K.PartialEq.eq c.args.key) c.self.inside.pairs c.args.index (rw c.self.view_is c.requires) in
-    rw (← c.self.view_is) (found.entry ∙ sym found.here ∙ c.item_at_mut.ensures.answer ∙ ap Some (sym c.replace.ensures.value))
+    rw (← c.self.view_is) (found.entry ∙ sym found.here ∙ c.replace_at.ensures.old)
 
 pub returns-clause-pairs : goal.returns-clause-pairs
 returns-clause-pairs g c =
     let found = found_at (g.K.PartialEq.eq c.args.key) c.self.inside.pairs c.args.index (rw c.self.view_is c.requires) in
-    rw (c.replace.ensures.after, ← c.self.view_is) (slice_set-put_key g.K.PartialEq.eq c.args.key c.self.inside.pairs c.args.index found c.args.value)
+    rw (c.replace_at.ensures.pairs, ← c.self.view_is) (slice_set-put_key g.K.PartialEq.eq c.args.key c.self.inside.pairs c.args.index found c.args.value)

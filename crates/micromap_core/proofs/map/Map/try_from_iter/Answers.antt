@@ -1,4 +1,4 @@
-use Rattle.std.proofs.Common.{◌≡◌, true, false, [], is_some, ap, sym, ◌∙◌, rules}
+use Rattle.std.proofs.Common.{◌≡◌, true, false, [], is_some, ap, sym, ◌∙◌, arith}
 use Rattle.micromap_core.specs.Build.{pair_fits, put_pair}
 use Rattle.micromap_core.specs.Pairs.{at}
 use Rattle.micromap_core.proofs.BuildLemmas.{has_put_more, puts_up_to, puts_all, run_puts, run_stops}
@@ -12,10 +12,11 @@ loop-key-preserved g c =
     let eq = g.K.PartialEq.eq in
     let p : g.row.K.Denot × g.row.V.Denot = (c.in-Some.key, c.in-Some.value) in
     let fit : pair_fits eq g.row.N l.map p ≡ true = sym (is_some-if _ (at eq l.map p.0)) ∙ ap is_some (sym c.checked_insert.ensures.answer) ∙ c.if-is_none.ensures in
+    let goes = c.in-Some.ensures.goes.on l.invariant.finite in
     record {
-      can = search rules;
-      finite = search rules;
-      counted = search rules;
+      can = goes.0;
+      finite = goes.1;
+      counted = omega (arith, goes.2, l.invariant.counted);
       put = has_put_more (pair_fits eq g.row.N) (put_pair eq) [] l.yielded l.at l.map c.checked_insert.new.self p l.invariant.put c.checked_insert.ensures.pairs fit;
     }
 

@@ -1,16 +1,14 @@
-use Rattle.std.proofs.Common.{refl}
+use Rattle.std.proofs.Common.{rules}
 use Rattle.micromap_core.proofs.PairsLemmas.{IsUnique-set}
 use Rattle.micromap_core.proofs.map.Map.visit_at.Goals as goal
 
 pub invariant_of-self : goal.invariant_of-self
 invariant_of-self g c =
-    IsUnique-set g.K.PartialEq.eq g.met.K.Eq.laws c.self.inside.pairs c.self.invariant c.args.index c.item_at_mut-pair.result.now c.visit.new.arg3 c.item_at_mut-pair.ensures.answer
+    let made = c.visit_at.ensures in
+    rw made.pairs (IsUnique-set g.K.PartialEq.eq g.met.K.Eq.laws c.self.inside.pairs c.self.invariant c.args.index made.pair made.value made.here)
 
 pub returns : goal.returns
-returns g c = record {
-  pair = c.item_at_mut-pair.result.now;
-  here = rw (← c.self.view_is) c.item_at_mut-pair.ensures.answer;
-  value = c.visit.new.arg3;
-  called = record { key = _; shows = refl; called = record { value = _; shows = refl; left = _; called = c.visit.ensures; leaves = refl } };
-  pairs = rw c.self.view_is refl;
-}
+returns g c = rw (← c.self.view_is) c.visit_at.ensures
+
+pub visit_at-requires : goal.visit_at-requires
+visit_at-requires g c = (search rules, (rw c.self.view_is c.requires.within, rw c.self.view_is c.requires.callable))

@@ -1,6 +1,15 @@
-use Rattle.std.proofs.Common.{rules}
-use Rattle.micromap_core.proofs.StreamLemmas.{still_faultless, writing_more, writing_ends, writing_fails}
+use Rattle.std.proofs.Common.{refl, rules}
+use Rattle.std.proofs.lemmas.Result.{MatchResult-from_err}
+use Rattle.micromap_core.proofs.StreamLemmas.{still_faultless, writing_begins, writing_more, writing_ends, writing_fails}
 use Rattle.micromap_core.proofs.map.Map.write_entries.Goals as goal
+
+pub loop-key-init : goal.loop-key-init
+loop-key-init g c = record {
+  can = search rules;
+  finite = search rules;
+  faultless = record { count = refl; last = refl };
+  writing = rw c.into_iter-key-iterator.ensures.into_iter_gives.0 (writing_begins _ _);
+}
 
 pub loop-key-preserved : goal.loop-key-preserved
 loop-key-preserved g c = record {
@@ -12,8 +21,7 @@ loop-key-preserved g c = record {
 
 pub returns-in_err-entry-clause-beginning : goal.returns-in_err-entry-clause-beginning
 returns-in_err-entry-clause-beginning g c =
-    let fails = writing_fails c.loop-key.invariant.writing c.in-Some.ensures.steps c.in_err-entry.ensures.kept in
-    search rules
+    MatchResult-from_err _ _ _ c.from_residual.ensures.0 (λ _. writing_fails c.loop-key.invariant.writing c.in-Some.ensures.steps c.in_err-entry.ensures.kept)
 
 pub returns-clause-whole : goal.returns-clause-whole
 returns-clause-whole g c = writing_ends c.loop-key.invariant.writing c.in-None.ensures.steps.0

@@ -1,6 +1,6 @@
 use Rattle.std.proofs.Common.{Some, Ok, rules}
 use Rattle.std.specs.Fmt.{DisplaysOnOk, formatter_spec}
-use Rattle.micromap_core.proofs.PrintLemmas.{plain_append, WritesAs, styled_append, with_options, styled_from, printing_begins, printing_more, printing_ends}
+use Rattle.micromap_core.proofs.PrintLemmas.{plain_append, WritesAs, styled_append, with_options, styled_from, failed_plain, failed_styled, printing_begins, printing_more, printing_ends}
 use Rattle.micromap.proofs.set.print.SetDisplay.fmt.Goals as goal
 
 pub loop-item-init : goal.loop-item-init
@@ -47,3 +47,16 @@ returns-clause-styled g c =
     let spec = formatter_spec c.args.f.now in
     styled_from took c.args.f.now _ _ _
     (printing_ends (WritesAs took c.args.f.now) (λ x. g.T.Display.styled_output x spec) _ _ _ _ _ _ _ c.loop-item.invariant.styled (search rules) (λ same. c.write_str-2.ensures.styled))
+
+-- a failed call says nothing of a text
+pub returns-in_err-write_str-2-clause-writes : goal.returns-in_err-write_str-2-clause-writes
+returns-in_err-write_str-2-clause-writes g c = failed_plain g.W.Write.write_str_gives c.args.f.now _ _ _ c.from_residual-in_err-write_str-2.ensures.0
+
+pub returns-in_err-write_str-2-clause-styled : goal.returns-in_err-write_str-2-clause-styled
+returns-in_err-write_str-2-clause-styled g c = failed_styled g.W.Write.write_str_gives c.args.f.now _ _ _ c.from_residual-in_err-write_str-2.ensures.0
+
+pub returns-in_err-fmt-clause-writes : goal.returns-in_err-fmt-clause-writes
+returns-in_err-fmt-clause-writes g c = failed_plain g.W.Write.write_str_gives c.args.f.now _ _ _ c.from_residual-in_err-fmt.ensures.0
+
+pub returns-in_err-fmt-clause-styled : goal.returns-in_err-fmt-clause-styled
+returns-in_err-fmt-clause-styled g c = failed_styled g.W.Write.write_str_gives c.args.f.now _ _ _ c.from_residual-in_err-fmt.ensures.0

@@ -2,7 +2,7 @@ use Rattle.std.proofs.Common.{Some, Ok, rules}
 use Rattle.std.specs.Fmt.{◌++?◌}
 use Rattle.std.proofs.Padding.{displays_at_plain}
 use Rattle.micromap_core.specs.Print.{pair_text, map_text}
-use Rattle.micromap_core.proofs.PrintLemmas.{WritesAs, styled_append, with_options, styled_from, unstyled_writes, printing_begins, printing_more, printing_ends}
+use Rattle.micromap_core.proofs.PrintLemmas.{WritesAs, styled_append, with_options, styled_from, unstyled_writes, failed_styled, printing_begins, printing_more, printing_ends}
 use Rattle.micromap_core.proofs.map.print.MapDisplay.fmt.Goals as goal
 
 pub loop-key-init : goal.loop-key-init
@@ -36,3 +36,11 @@ returns-clause-styled g c =
 pub returns-clause-writes : goal.returns-clause-writes
 returns-clause-writes g c =
     displays_at_plain g.W.Write.write_str_gives _ _ _ (map_text g.K.Display.output g.V.Display.output c.args.self.now) (returns-clause-styled g c)
+
+-- a failed call says nothing of a text
+pub returns-in_err-write-clause-styled : goal.returns-in_err-write-clause-styled
+returns-in_err-write-clause-styled g c = failed_styled g.W.Write.write_str_gives c.args.f.now _ _ _ c.from_residual-in_err-write.ensures.0
+
+pub returns-in_err-write-clause-writes : goal.returns-in_err-write-clause-writes
+returns-in_err-write-clause-writes g c =
+    displays_at_plain g.W.Write.write_str_gives _ _ _ (map_text g.K.Display.output g.V.Display.output c.args.self.now) (returns-in_err-write-clause-styled g c)

@@ -1,6 +1,6 @@
 use Rattle.std.proofs.lemmas.List.{length-append}
 use Rattle.micromap.specs.Operations.{symmetric_left}
-use Rattle.micromap.proofs.OperationSteps.{upper_sum}
+use Rattle.micromap.proofs.OperationSteps.{lower_sum, upper_sum}
 use Rattle.micromap.proofs.set.operations.symmetric_difference.SymmetricDifferenceInSetSetIterator.size_hint.Goals as goal
 
 pub returns-clause-upper : goal.returns-clause-upper
@@ -9,3 +9,7 @@ returns-clause-upper g c =
     let first = rw c.size_hint.ensures.exact at c.size_hint.ensures.upper in
     let second = rw c.size_hint-2.ensures.exact at c.size_hint-2.ensures.upper in
     rw (← c.self.view_is, c.hint_of_both.ensures, c.size_hint.ensures.exact, c.size_hint-2.ensures.exact) (upper_sum _ _ _ _ _ first.1 second.1 (length-append _ _))
+
+pub returns-clause-lower : goal.returns-clause-lower
+unfolding symmetric_left
+returns-clause-lower g c = λ _. rw (← c.self.view_is, c.hint_of_both.ensures) (lower_sum _ _ _ _ _ (c.size_hint.ensures.lower tt) (c.size_hint-2.ensures.lower tt) (length-append _ _))

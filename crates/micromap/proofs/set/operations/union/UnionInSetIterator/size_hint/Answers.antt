@@ -1,0 +1,11 @@
+use Rattle.std.proofs.lemmas.List.{length-append}
+use Rattle.micromap.specs.Operations.{union_left}
+use Rattle.micromap.proofs.OperationSteps.{upper_sum}
+use Rattle.micromap.proofs.set.operations.union.UnionInSetIterator.size_hint.Goals as goal
+
+pub returns-clause-upper : goal.returns-clause-upper
+unfolding union_left
+returns-clause-upper g c =
+    let first = rw c.size_hint.ensures.exact at c.size_hint.ensures.upper in
+    let second = rw c.size_hint-2.ensures.exact at c.size_hint-2.ensures.upper in
+    rw (← c.self.view_is, c.hint_of_both.ensures, c.size_hint.ensures.exact, c.size_hint-2.ensures.exact) (upper_sum _ _ _ _ _ first.1 second.1 (length-append _ _))

@@ -1,0 +1,100 @@
+-- Facts about two columns of one length, and the pairs that they are.
+use Rattle.std.proofs.Common.{◌≡◌, ℕ, zero, suc, ◌-◌, ◌<◌, List, [], ◌∷◌, ◌++◌, All, length, drop, take, Option, Some, None, slice_get, slice_set, slice_index_or, refl, ap, ◌∙◌, arith}
+use Rattle.std.specs.Option.{option_map, option_map_or}
+use Rattle.std.specs.List.{zip, AllZip}
+use Rattle.std.proofs.lemmas.Grind.{common_steps}
+use Rattle.micromap_walk.proofs.ZipLemmas.{length_zip, zip_append}
+use Rattle.micromap_core.specs.Clones.{IsPairClone}
+use Rattle.micromap_core.specs.Pairs.{close_gap, with_value_at, without_at}
+
+module _ {K V : Type 0} where
+  -- the pair at an index
+  pub get_zip : (ks : List K) (vs : List V) (i : ℕ) (k : K) (v : V) → slice_get ks i ≡ Some k → slice_get vs i ≡ Some v → slice_get (zip ks vs) i ≡ Some (k, v)
+  get_zip [] vs i k v key value = grind (arith, common_steps, key)
+  get_zip (a ∷ ks) [] i k v key value = grind (arith, common_steps, value)
+  get_zip (a ∷ ks) (b ∷ vs) zero k v key value = grind (arith, common_steps, key, value)
+  get_zip (a ∷ ks) (b ∷ vs) (suc i) k v key value = get_zip ks vs i k v key value
+
+  pub set_zip : (ks : List K) (vs : List V) (i : ℕ) (k : K) (v : V) → length ks ≡ length vs → zip (slice_set ks i k) (slice_set vs i v) ≡ slice_set (zip ks vs) i (k, v)
+  set_zip [] vs i k v same = refl
+  set_zip (a ∷ ks) [] i k v same = absurd (omega (arith, same))
+  set_zip (a ∷ ks) (b ∷ vs) zero k v same = refl
+  set_zip (a ∷ ks) (b ∷ vs) (suc i) k v same = ap (λ l. (a, b) ∷ l) (set_zip ks vs i k v (omega (arith, same)))
+
+  zip_take : (n : ℕ) (ks : List K) (vs : List V) → zip (take n ks) (take n vs) ≡ take n (zip ks vs)
+  zip_take zero ks vs = refl
+  zip_take (suc n) [] vs = refl
+  zip_take (suc n) (k ∷ ks) [] = refl
+  zip_take (suc n) (k ∷ ks) (v ∷ vs) = ap (λ l. (k, v) ∷ l) (zip_take n ks vs)
+
+  zip_drop : (n : ℕ) (ks : List K) (vs : List V) → length ks ≡ length vs → zip (drop n ks) (drop n vs) ≡ drop n (zip ks vs)
+  zip_drop zero ks vs same = refl
+  zip_drop (suc n) [] vs same = refl
+  zip_drop (suc n) (k ∷ ks) [] same = absurd (omega (arith, same))
+  zip_drop (suc n) (k ∷ ks) (v ∷ vs) same = zip_drop n ks vs (omega (arith, same))
+
+  zip_close_gap : (ks : List K) (vs : List V) → length ks ≡ length vs → zip (close_gap ks) (close_gap vs) ≡ close_gap (zip ks vs)
+  zip_close_gap ks vs same =
+      rw (← same, length_zip ks vs same) (zip_append (drop (length ks - 1) ks) (take (length ks - 1) ks) (drop (length ks - 1) vs) (take (length ks - 1) vs) (grind (arith, common_steps, same))
+      ∙ ap (λ l. l ++ zip (take (length ks - 1) ks) (take (length ks - 1) vs)) (zip_drop (length ks - 1) ks vs same)
+      ∙ ap (λ l. drop (length ks - 1) (zip ks vs) ++ l) (zip_take (length ks - 1) ks vs))
+
+  -- without the pair at an index
+  pub zip_without_at : (ks : List K) (vs : List V) (i : ℕ) → length ks ≡ length vs → zip (without_at ks i) (without_at vs i) ≡ without_at (zip ks vs) i
+  unfolding without_at
+  zip_without_at ks vs i same =
+      zip_append (take i ks) (close_gap (drop (suc i) ks)) (take i vs) (close_gap (drop (suc i) vs)) (grind (arith, common_steps, same))
+      ∙ ap (λ l. l ++ zip (close_gap (drop (suc i) ks)) (close_gap (drop (suc i) vs))) (zip_take i ks vs)
+      ∙ ap (λ l. take i (zip ks vs) ++ l) (zip_close_gap (drop (suc i) ks) (drop (suc i) vs) (grind (arith, common_steps, same)) ∙ ap close_gap (zip_drop (suc i) ks vs same))
+
+  -- clones of both columns are clones of the pairs
+  pub zip_clones : (C : K → K → Type 0) (D : V → V → Type 0) (ks ls : List K) (vs ws : List V) → length ks ≡ length vs → AllZip C ks ls → AllZip D vs ws → AllZip (IsPairClone C D) (zip ks vs) (zip ls ws)
+  zip_clones C D [] [] vs ws same keys values = by vs ws values
+    where
+      by : (vs ws : List V) → AllZip D vs ws → AllZip (IsPairClone C D) (zip [] vs) (zip [] ws)
+      by vs ws values = tt
+  zip_clones C D [] (l ∷ ls) vs ws same keys values = absurd keys
+  zip_clones C D (k ∷ ks) [] vs ws same keys values = absurd keys
+  zip_clones C D (k ∷ ks) (l ∷ ls) [] ws same keys values = absurd (omega (arith, same))
+  zip_clones C D (k ∷ ks) (l ∷ ls) (v ∷ vs) [] same keys values = absurd values
+  zip_clones C D (k ∷ ks) (l ∷ ls) (v ∷ vs) (w ∷ ws) same keys values = ((keys.0, values.0), zip_clones C D ks ls vs ws (omega (arith, same)) keys.1 values.1)
+
+  -- the value at an index, and another one there
+  pub value_zip : (ks : List K) (vs : List V) (i : ℕ) → length ks ≡ length vs → option_map (λ p. p.1) (slice_get (zip ks vs) i) ≡ slice_get vs i
+  value_zip [] [] i same = refl
+  value_zip [] (v ∷ vs) i same = absurd (omega (arith, same))
+  value_zip (k ∷ ks) [] i same = absurd (omega (arith, same))
+  value_zip (k ∷ ks) (v ∷ vs) zero same = refl
+  value_zip (k ∷ ks) (v ∷ vs) (suc i) same = value_zip ks vs i (omega (arith, same))
+
+  pub set_value_zip : (ks : List K) (vs : List V) (i : ℕ) (w : V) → length ks ≡ length vs → zip ks (slice_set vs i w) ≡ with_value_at (zip ks vs) i w
+  set_value_zip [] [] i w same = refl
+  set_value_zip [] (v ∷ vs) i w same = absurd (omega (arith, same))
+  set_value_zip (k ∷ ks) [] i w same = absurd (omega (arith, same))
+  set_value_zip (k ∷ ks) (v ∷ vs) zero w same = refl
+  set_value_zip (k ∷ ks) (v ∷ vs) (suc i) w same =
+      ap (λ l. (k, v) ∷ l) (set_value_zip ks vs i w (omega (arith, same))) ∙ by (slice_get (zip ks vs) i)
+    where
+      by : (o : Option (K × V)) → (k, v) ∷ option_map_or (λ p. slice_set (zip ks vs) i (p.0, w)) o (zip ks vs) ≡ option_map_or (λ p. slice_set ((k, v) ∷ zip ks vs) (suc i) (p.0, w)) o ((k, v) ∷ zip ks vs)
+      by None = refl
+      by (Some p) = refl
+
+  -- the columns stay as long as each other
+  pub equal_without_at : (ks : List K) (vs : List V) (i : ℕ) → length ks ≡ length vs → length (without_at ks i) ≡ length (without_at vs i)
+  unfolding without_at
+  equal_without_at ks vs i same = grind (arith, common_steps, same)
+
+  pub equal_push : (ks : List K) (vs : List V) (k : K) (v : V) → length ks ≡ length vs → length (ks ++ k ∷ []) ≡ length (vs ++ v ∷ [])
+  equal_push ks vs k v same = grind (arith, common_steps, same)
+
+  -- what holds of each pair's key and value holds of the columns
+  pub all_columns : (P : K → Type 0) (Q : V → Type 0) (ks : List K) (vs : List V) → length ks ≡ length vs → All (λ p. P p.0 × Q p.1) (zip ks vs) → All P ks × All Q vs
+  all_columns P Q [] [] same all = (λ i d within. absurd (omega (arith, within)), λ i d within. absurd (omega (arith, within)))
+  all_columns P Q [] (v ∷ vs) same all = absurd (omega (arith, same))
+  all_columns P Q (k ∷ ks) [] same all = absurd (omega (arith, same))
+  all_columns P Q (k ∷ ks) (v ∷ vs) same all =
+      let first : P k × Q v = all 0 (k, v) (omega arith) in
+      let rest : All P ks × All Q vs = all_columns P Q ks vs (omega (arith, same)) (λ i d within. all (suc i) d (omega (arith, within))) in (
+        λ i d within. elim i as (λ j. j < length (k ∷ ks) → P (slice_index_or (k ∷ ks) j d)) [ zero ↦ λ l. first.0 | suc j ↦ λ l. rest.0 j d (omega (arith, l)) ] within,
+        λ i d within. elim i as (λ j. j < length (v ∷ vs) → Q (slice_index_or (v ∷ vs) j d)) [ zero ↦ λ l. first.1 | suc j ↦ λ l. rest.1 j d (omega (arith, l)) ] within,
+      )

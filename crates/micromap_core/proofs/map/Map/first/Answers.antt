@@ -1,0 +1,16 @@
+use Rattle.std.proofs.Common.{sym, ◌∙◌, rules}
+use Rattle.micromap_core.proofs.FoundLemmas.{found_at, not_found}
+use Rattle.micromap_core.proofs.map.Map.first.Goals as goal
+
+pub returns-in_err-index : goal.returns-in_err-index
+returns-in_err-index g c =
+    let missing = not_found (g.P.Probe.matches c.args.probe.now) c.args.self.now (sym c.in_err-index.ensures) in
+    search (rules, missing.entry)
+
+pub pair_at-requires : goal.pair_at-requires
+pair_at-requires g c = (search rules, (found_at (g.P.Probe.matches c.args.probe.now) c.args.self.now c.in_ok-index.index (sym c.in_ok-index.ensures)).within)
+
+pub returns : goal.returns
+returns g c =
+    let found = found_at (g.P.Probe.matches c.args.probe.now) c.args.self.now c.in_ok-index.index (sym c.in_ok-index.ensures) in
+    sym c.pair_at.ensures ∙ found.here ∙ sym found.entry

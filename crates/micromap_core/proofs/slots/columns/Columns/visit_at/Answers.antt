@@ -1,0 +1,33 @@
+use Rattle.std.proofs.Common.{◌≡◌, length, Some, slice_get, refl, ap, subst, sym, ◌∙◌, arith, rules}
+use Rattle.std.specs.Option.{IfSome}
+use Rattle.micromap_walk.proofs.ZipLemmas.{length_zip}
+use Rattle.micromap_core.specs.Closures.{AcceptsPair}
+use Rattle.micromap_core.proofs.ColumnLemmas.{get_zip, set_value_zip}
+use Rattle.micromap_core.proofs.slots.columns.Columns.visit_at.Goals as goal
+
+pub item_at-requires : goal.item_at-requires
+item_at-requires g c =
+    let long : length c.args.self.now ≡ length c.self.inside.keys = ap length (sym c.self.view_is) ∙ length_zip _ _ c.self.invariant in
+    (search rules, omega (arith, long, c.requires.within))
+
+pub item_at_mut-requires : goal.item_at_mut-requires
+item_at_mut-requires g c =
+    let long : length c.args.self.now ≡ length c.self.inside.keys = ap length (sym c.self.view_is) ∙ length_zip _ _ c.self.invariant in
+    (search rules, omega (arith, long, c.requires.within, c.self.invariant))
+
+pub visit-requires : goal.visit-requires
+visit-requires g c =
+    let here : slice_get c.args.self.now c.args.index ≡ Some (c.item_at.result.now, c.item_at_mut.result.now) = rw (← c.self.view_is) (get_zip _ _ c.args.index _ _ c.item_at.ensures c.item_at_mut.ensures.answer) in
+    let callable : AcceptsPair g.F.FnMut c.args.visit.now c.item_at.result.now c.item_at_mut.result.now = subst (λ o. IfSome o (λ p. AcceptsPair g.F.FnMut c.args.visit.now p.0 p.1)) here c.requires.callable in
+    search (rules, callable)
+
+pub returns : goal.returns
+returns g c =
+    let here = get_zip _ _ c.args.index _ _ c.item_at.ensures c.item_at_mut.ensures.answer in
+    record {
+      pair = (c.item_at.result.now, c.item_at_mut.result.now);
+      here = rw (← c.self.view_is) here;
+      value = c.visit.new.arg3;
+      called = record { key = _; shows = refl; called = record { value = _; shows = refl; left = _; called = c.visit.ensures; leaves = refl } };
+      pairs = rw (← c.self.view_is) (set_value_zip _ _ c.args.index c.visit.new.arg3 c.self.invariant ∙ rw here refl);
+    }

@@ -1,0 +1,189 @@
+//! The keys and the values of a map, each in slots of their own: a pair is a key and the value at the same index.
+ghost use Rattle.std.specs.Prelude.{◌≡◌, ◌<◌, ◌≤◌, [], ◌∷◌, ◌++◌, length, All, Some, IsOk, IfOk, slice_get, slice_set};
+ghost use Rattle.std.specs.Borrow.{sem};
+ghost use Rattle.std.specs.List.{AllZip, zip};
+ghost use Rattle.std.specs.Map.{keys_of, values_of};
+ghost use Rattle.std.specs.Option.{IfSome, option_map};
+ghost use Rattle.micromap_walk.specs.Filled.{items_of, AreFilled};
+ghost use Rattle.micromap_core.specs.Clones.{IsPairClone};
+ghost use Rattle.micromap_core.specs.Closures.{AcceptsPair, CalledOnPair, VisitsAt};
+ghost use Rattle.micromap_core.specs.Columns.{lends_value_in};
+ghost use Rattle.micromap_core.specs.Pairs.{without_at};
+
+use super::Slots;
+use arrayvec::ArrayVec;
+use std::alloc::AllocError;
+use std::marker::Model;
+use std::mem;
+
+/// At most `N` pairs. A contract sees their list, from front to end.
+#[derive(Drop)]
+pub(crate) struct Columns<K, V, const N: usize> {
+    keys: Slots<K, N>,
+    values: Slots<V, N>,
+}
+
+impl<K, V, const N: usize> Model for Columns<K, V, N> {
+    ghost use Rattle.std.specs.Prelude.{List, ◌≡◌, length};
+    ghost use Rattle.std.specs.List.{zip};
+
+    ghost Value = { List (K × V) };
+
+    ghost view = { λ c. zip c.keys c.values };
+
+    ghost invariant = { λ c. length c.keys ≡ length c.values };
+}
+
+impl<K, V, const N: usize> Columns<K, V, N> {
+    /// No pair.
+    #[inline]
+    pub(crate) fn new() -> Self
+        ensures { result ≡ [] }
+    {
+        Columns {
+            keys: Slots::new(),
+            values: Slots::new(),
+        }
+    }
+
+    /// The number of pairs.
+    #[inline]
+    pub(crate) fn len(&self) -> usize
+        ensures answer { result ≡ length self.now }
+        ensures bounded { length self.now ≤ N }
+    {
+        self.keys.len()
+    }
+
+    /// The slots of the keys.
+    #[inline]
+    pub(crate) fn keys(&self) -> &[Option<K>]
+        ensures filled { AreFilled result.now }
+        ensures items { items_of result.now ≡ keys_of self.now }
+    {
+        self.keys.as_slice()
+    }
+
+    /// The slots of the values.
+    #[inline]
+    pub(crate) fn values(&self) -> &[Option<V>]
+        ensures filled { AreFilled result.now }
+        ensures items { items_of result.now ≡ values_of self.now }
+    {
+        self.values.as_slice()
+    }
+
+    /// The slots of both.
+    #[inline]
+    pub(crate) fn as_slices(&self) -> (&[Option<K>], &[Option<V>])
+        ensures keys { AreFilled result.0.now }
+        ensures values { AreFilled result.1.now }
+        ensures equal { length result.0.now ≡ length result.1.now }
+        ensures pairs { zip (items_of result.0.now) (items_of result.1.now) ≡ self.now }
+    {
+        (self.keys.as_slice(), self.values.as_slice())
+    }
+
+    /// The slots of both by value.
+    #[inline]
+    pub(crate) fn into_array_vecs(self) -> (ArrayVec<Option<K>, N>, ArrayVec<Option<V>, N>)
+        ensures keys { AreFilled result.0.items }
+        ensures values { AreFilled result.1.items }
+        ensures equal { length result.0.items ≡ length result.1.items }
+        ensures pairs { zip (items_of result.0.items) (items_of result.1.items) ≡ self }
+    {
+        let Columns { keys, values } = self;
+        (keys.into_array_vec(), values.into_array_vec())
+    }
+
+    /// The pair at `index`.
+    #[inline]
+    pub(crate) fn pair_at(&self, index: usize) -> (&K, &V)
+        requires { index < length self.now }
+        ensures { slice_get self.now index ≡ Some (result.0.now, result.1.now) }
+    {
+        (self.keys.item_at(index), self.values.item_at(index))
+    }
+
+    /// The value at `index`, for writing.
+    #[inline]
+    pub(crate) fn value_at(&mut self, index: usize) -> &mut V
+        requires { index < length self.old }
+        ensures* writes_back { sem 𝓛 (lends_value_in K.row V.row N.row self.entry index result) }
+        ensures value { option_map (λ p. p.1) (slice_get self.old index) ≡ Some result.now }
+    {
+        self.values.item_at_mut(index)
+    }
+
+    /// Calls `visit` at the pair at `index`.
+    #[inline]
+    pub(crate) fn visit_at<R, F: FnMut(&K, &mut V) -> R>(
+        &mut self,
+        index: usize,
+        visit: &mut F,
+    ) -> R
+        requires within { index < length self.old }
+        requires callable { IfSome (slice_get self.old index) (λ p. AcceptsPair F.FnMut visit.old p.0 p.1) }
+        ensures { VisitsAt (CalledOnPair F.FnMut) visit.old self.old index result visit.new self.new }
+    {
+        visit(self.keys.item_at(index), self.values.item_at_mut(index))
+    }
+
+    /// Writes the pair at `index`, and answers the old one.
+    #[inline]
+    pub(crate) fn replace_at(&mut self, index: usize, key: K, value: V) -> (K, V)
+        requires { index < length self.old }
+        ensures old { slice_get self.old index ≡ Some result }
+        ensures pairs { self.new ≡ slice_set self.old index (key, value) }
+    {
+        (
+            mem::replace(self.keys.item_at_mut(index), key),
+            mem::replace(self.values.item_at_mut(index), value),
+        )
+    }
+}
+
+impl<K: Drop, V: Drop, const N: usize> Columns<K, V, N> {
+    /// Puts a pair last.
+    #[inline]
+    pub(crate) fn push(&mut self, key: K, value: V)
+        requires { length self.old < N }
+        ensures { self.new ≡ self.old ++ (key, value) ∷ [] }
+    {
+        self.keys.push(key);
+        self.values.push(value);
+    }
+
+    /// Takes the pair at `index` out; the last one moves there.
+    #[inline]
+    pub(crate) fn swap_remove(&mut self, index: usize) -> (K, V)
+        requires { index < length self.old }
+        ensures answer { slice_get self.old index ≡ Some result }
+        ensures pairs { self.new ≡ without_at self.old index }
+    {
+        (self.keys.swap_remove(index), self.values.swap_remove(index))
+    }
+
+    /// Drops every pair.
+    #[inline]
+    pub(crate) fn clear(&mut self)
+        ensures { self.new ≡ [] }
+    {
+        self.keys.clear();
+        self.values.clear();
+    }
+}
+
+impl<K: Clone + Drop, V: Clone + Drop, const N: usize> Columns<K, V, N> {
+    /// The clones of the keys and then of the values, in the same order. `Err` comes only where a clone of one answers
+    /// so.
+    #[inline]
+    pub(crate) fn clone(&self) -> Result<Self, AllocError>
+        ensures clones { IfOk result (AllZip (IsPairClone K.is_clone V.is_clone) self.now) }
+        ensures succeeds { All (λ p. K.is_infallible p.0 × V.is_infallible p.1) self.now → IsOk result }
+    {
+        let keys = self.keys.clone()?;
+        let values = self.values.clone()?;
+        Ok(Columns { keys, values })
+    }
+}
