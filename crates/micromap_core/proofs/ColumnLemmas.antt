@@ -1,5 +1,5 @@
 -- Facts about two columns of one length, and the pairs that they are.
-use Rattle.std.proofs.Common.{◌≡◌, ℕ, zero, suc, ◌-◌, ◌<◌, List, [], ◌∷◌, ◌++◌, All, length, drop, take, Option, Some, None, slice_get, slice_set, slice_index_or, refl, ap, ◌∙◌, arith}
+use Rattle.std.proofs.Common.{◌≡◌, ℕ, zero, suc, ◌-◌, ◌<◌, List, [], ◌∷◌, ◌++◌, All, length, drop, take, Option, Some, None, slice_get, slice_set, slice_index_or, refl, ap, sym, ◌∙◌, arith}
 use Rattle.std.specs.Option.{option_map, option_map_or}
 use Rattle.std.specs.List.{zip, AllZip}
 use Rattle.std.proofs.lemmas.Grind.{common_steps}
@@ -8,6 +8,10 @@ use Rattle.micromap_core.specs.Clones.{IsPairClone}
 use Rattle.micromap_core.specs.Pairs.{close_gap, with_value_at, without_at}
 
 module _ {K V : Type 0} where
+  -- there are as many keys as pairs
+  pub as_long : (ks : List K) (vs : List V) (pairs : List (K × V)) → length ks ≡ length vs → zip ks vs ≡ pairs → length pairs ≡ length ks
+  as_long ks vs pairs same seen = ap length (sym seen) ∙ length_zip ks vs same
+
   -- the pair at an index
   pub get_zip : (ks : List K) (vs : List V) (i : ℕ) (k : K) (v : V) → slice_get ks i ≡ Some k → slice_get vs i ≡ Some v → slice_get (zip ks vs) i ≡ Some (k, v)
   get_zip [] vs i k v key value = grind (arith, common_steps, key)

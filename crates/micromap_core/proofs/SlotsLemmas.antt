@@ -21,3 +21,7 @@ module _ {X : Type 0} (slots : List (Option X)) (filled : AreFilled slots) where
   -- one more item at the end
   pub push_filled : (x : X) → slots ++ Some x ∷ [] ≡ map Some (items_of slots ++ x ∷ [])
   push_filled x = ap (λ s. s ++ Some x ∷ []) filled ∙ sym (map-append Some (items_of slots) (x ∷ []))
+
+-- filled slots with equally many items are as many
+pub equal_slots : {X Y : Type 0} (xs : List (Option X)) (ys : List (Option Y)) → AreFilled xs → AreFilled ys → length (items_of xs) ≡ length (items_of ys) → length xs ≡ length ys
+equal_slots xs ys filled filled_too same = sym (length_filled xs filled) ∙ same ∙ length_filled ys filled_too

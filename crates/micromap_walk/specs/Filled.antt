@@ -1,4 +1,4 @@
--- The slots that a map keeps its pairs in, where none is empty.
+-- The slots in which a map keeps its keys and its values, where none is empty.
 use Rattle.std.specs.Prelude.{◌≡◌, ◌≤◌, ℕ, List, drop, length, map, Option, Some}
 use Rattle.std.specs.List.{filter_map}
 
@@ -11,7 +11,7 @@ module _ {X : Type 0} where
   abbrev pub AreFilled : List (Option X) → Type 0
   AreFilled slots = slots ≡ map Some (items_of slots)
 
--- two columns of slots, of which as many in front were emptied, and none of the others
+-- two columns of as many slots, of which none behind those given is empty
 pub record AreLeft {X Y : Type 0} (given : ℕ) (xs : List (Option X)) (ys : List (Option Y)) : Type 0 where
   pub keys : AreFilled (drop given xs)
   pub values : AreFilled (drop given ys)

@@ -1,4 +1,4 @@
-//! What stands in a filled slot.
+//! What stands in a filled slot, and what the compiler is told where it doesn't see it by itself.
 ghost use Rattle.std.specs.Prelude.{◌≡◌, Some, IsSome};
 ghost use Rattle.std.specs.Borrow.{sem};
 ghost use Rattle.micromap_walk.specs.Lends.{lends_item};
@@ -49,5 +49,16 @@ pub fn into_item<X>(slot: Option<X>) -> X
     match slot {
         Some(item) => item,
         None => nowhere!(),
+    }
+}
+
+/// Tells the compiler that two numbers are equal, as the lengths of two columns, so that it can read the one for the
+/// other.
+#[inline]
+pub fn hint_equal(left: usize, right: usize)
+    requires { left ≡ right }
+{
+    if left != right {
+        nowhere!()
     }
 }

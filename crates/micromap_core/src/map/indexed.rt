@@ -1,4 +1,4 @@
-//! The pairs by their index, and the one scan that every call by a key or a probe makes.
+//! The pairs by their index, and the scans that the calls by a key or a probe make.
 ghost use Rattle.std.specs.Prelude.{◌≡◌, ◌∷◌, [], ◌++◌, ◌<◌, length, Some, None, IfNone, slice_get};
 ghost use Rattle.std.specs.Borrow.{sem};
 ghost use Rattle.std.specs.Map.{lookup, lookup_entry, lookup_key};
@@ -20,7 +20,16 @@ impl<K: Eq, V, const N: usize> Map<K, V, N> {
     fn first_index<P: Probe<K>>(&self, probe: &P) -> Option<usize>
         ensures { result ≡ index_by (P.matches probe.now) self.now }
     {
-        self.keys().position(|key| probe.matches(key))
+        let keys = self.keys();
+        let _bounded = keys.len();
+        let mut index = 0;
+        for key in keys {
+            if probe.matches(key) {
+                return Some(index);
+            }
+            index += 1;
+        }
+        None
     }
 
     // The same without a count on the way, which costs less where keys are texts: the scan of every call by a probe that

@@ -12,6 +12,7 @@ ghost use Rattle.micromap_core.specs.Pairs.{without_at};
 
 use super::Slots;
 use arrayvec::ArrayVec;
+use micromap_walk::slot::hint_equal;
 use std::alloc::AllocError;
 use std::marker::Model;
 use std::mem;
@@ -52,7 +53,10 @@ impl<K, V, const N: usize> Columns<K, V, N> {
         ensures answer { result ≡ length self.now }
         ensures bounded { length self.now ≤ N }
     {
-        self.keys.len()
+        let keys = self.keys.len();
+        let values = self.values.len();
+        hint_equal(keys, values);
+        keys
     }
 
     /// The slots of the keys.
@@ -150,7 +154,9 @@ impl<K: Drop, V: Drop, const N: usize> Columns<K, V, N> {
         requires { length self.old < N }
         ensures { self.new ≡ self.old ++ (key, value) ∷ [] }
     {
+        let len = self.len();
         self.keys.push(key);
+        hint_equal(self.values.len(), len);
         self.values.push(value);
     }
 
@@ -161,7 +167,11 @@ impl<K: Drop, V: Drop, const N: usize> Columns<K, V, N> {
         ensures answer { slice_get self.old index ≡ Some result }
         ensures pairs { self.new ≡ without_at self.old index }
     {
-        (self.keys.swap_remove(index), self.values.swap_remove(index))
+        let len = self.len();
+        let key = self.keys.swap_remove(index);
+        hint_equal(self.values.len(), len);
+        let value = self.values.swap_remove(index);
+        (key, value)
     }
 
     /// Drops every pair.

@@ -1,11 +1,13 @@
-use Rattle.std.proofs.Common.{◌≡◌, length, ap, sym, ◌∙◌, arith}
-use Rattle.micromap_walk.proofs.ZipLemmas.{length_zip}
+use Rattle.std.proofs.Common.{sym, ◌∙◌, arith}
+use Rattle.micromap_core.proofs.ColumnLemmas.{as_long}
 use Rattle.micromap_core.proofs.slots.columns.Columns.len.Goals as goal
 
 pub returns-clause-answer : goal.returns-clause-answer
-returns-clause-answer g c = c.len.ensures.answer ∙ sym (length_zip _ _ c.self.invariant) ∙ ap length c.self.view_is
+returns-clause-answer g c = c.len-keys.ensures.answer ∙ sym (as_long _ _ _ c.self.invariant c.self.view_is)
 
 pub returns-clause-bounded : goal.returns-clause-bounded
 returns-clause-bounded g c =
-    let long : length c.args.self.now ≡ length c.self.inside.keys = ap length (sym c.self.view_is) ∙ length_zip _ _ c.self.invariant in
-    omega (arith, long, c.len.ensures.bounded)
+    omega (arith, as_long _ _ _ c.self.invariant c.self.view_is, c.len-keys.ensures.bounded)
+
+pub hint_equal-requires : goal.hint_equal-requires
+hint_equal-requires g c = rw (c.len-keys.ensures.answer, c.len-values.ensures.answer) c.self.invariant

@@ -1,12 +1,10 @@
-use Rattle.std.proofs.Common.{◌≡◌, length, refl, ap, sym, ◌∙◌, arith, rules}
-use Rattle.micromap_walk.proofs.ZipLemmas.{length_zip}
-use Rattle.micromap_core.proofs.ColumnLemmas.{set_value_zip, value_zip}
+use Rattle.std.proofs.Common.{refl, ◌∙◌, arith, rules}
+use Rattle.micromap_core.proofs.ColumnLemmas.{as_long, set_value_zip, value_zip}
 use Rattle.micromap_core.proofs.slots.columns.Columns.value_at.Goals as goal
 
 pub item_at_mut-requires : goal.item_at_mut-requires
 item_at_mut-requires g c =
-    let long : length c.args.self.now ≡ length c.self.inside.keys = ap length (sym c.self.view_is) ∙ length_zip _ _ c.self.invariant in
-    (search rules, omega (arith, long, c.requires, c.self.invariant))
+    (search rules, omega (arith, as_long _ _ _ c.self.invariant c.self.view_is, c.requires, c.self.invariant))
 
 pub returns : goal.returns
 returns g c = (

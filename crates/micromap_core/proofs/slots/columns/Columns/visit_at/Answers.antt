@@ -1,19 +1,16 @@
-use Rattle.std.proofs.Common.{◌≡◌, length, Some, slice_get, refl, ap, subst, sym, ◌∙◌, arith, rules}
+use Rattle.std.proofs.Common.{◌≡◌, Some, slice_get, refl, subst, ◌∙◌, arith, rules}
 use Rattle.std.specs.Option.{IfSome}
-use Rattle.micromap_walk.proofs.ZipLemmas.{length_zip}
 use Rattle.micromap_core.specs.Closures.{AcceptsPair}
-use Rattle.micromap_core.proofs.ColumnLemmas.{get_zip, set_value_zip}
+use Rattle.micromap_core.proofs.ColumnLemmas.{as_long, get_zip, set_value_zip}
 use Rattle.micromap_core.proofs.slots.columns.Columns.visit_at.Goals as goal
 
 pub item_at-requires : goal.item_at-requires
 item_at-requires g c =
-    let long : length c.args.self.now ≡ length c.self.inside.keys = ap length (sym c.self.view_is) ∙ length_zip _ _ c.self.invariant in
-    (search rules, omega (arith, long, c.requires.within))
+    (search rules, omega (arith, as_long _ _ _ c.self.invariant c.self.view_is, c.requires.within))
 
 pub item_at_mut-requires : goal.item_at_mut-requires
 item_at_mut-requires g c =
-    let long : length c.args.self.now ≡ length c.self.inside.keys = ap length (sym c.self.view_is) ∙ length_zip _ _ c.self.invariant in
-    (search rules, omega (arith, long, c.requires.within, c.self.invariant))
+    (search rules, omega (arith, as_long _ _ _ c.self.invariant c.self.view_is, c.requires.within, c.self.invariant))
 
 pub visit-requires : goal.visit-requires
 visit-requires g c =
