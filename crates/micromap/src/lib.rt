@@ -6,6 +6,3 @@ pub mod set;
 
 pub use micromap_core::{Map, Overfull, Probe, Steps, Text, map, probe, steps, stream};
 pub use set::Set;
-
-#[cfg(test)]
-mod tests;

@@ -7,7 +7,6 @@ mod compared;
 mod counted;
 mod json;
 mod keyed;
-pub mod marked;
 mod operations;
 mod sets;
 mod streamed;

@@ -1,9 +1,9 @@
 //! What no contract says: values from outside, that a run comes through, and that a failed write ends it.
 use super::report::write_report;
 use super::rows::NUMBERS;
-use super::rows::marked::Marked;
 use super::{Call, lockstep, run_rows};
 use micromap::Map;
+use micromap_testing::Marked;
 use std::io::{self, Write};
 use std::test::Fail;
 
@@ -151,6 +151,17 @@ fn equal_keys_agree_whichever_is_stored(rt: HostRuntime) {
 fn room_alone_tells_empty_maps_apart(rt: HostRuntime) {
     let mut none: Map<u8, u8, 0> = Map::new();
     let mut some: Map<u8, u8, 3> = Map::new();
+    let calls = [
+        Call::Get(1),
+        Call::GetKeyValue(1),
+        Call::Remove(1),
+        Call::RemoveEntry(1),
+        Call::Contains(1),
+        Call::Len,
+        Call::IsEmpty,
+        Call::Clear,
+    ];
+    assert!(rt; lockstep(&mut none, &mut some, &calls));
     assert!(rt; !lockstep(&mut none, &mut some, &[Call::Insert(1, 1)]));
     assert_eq!(rt; none.differs_at(&some), Some(&1));
 }

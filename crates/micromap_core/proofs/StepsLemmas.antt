@@ -1,6 +1,7 @@
 -- The steps of a look-up from one pair to the next, and room for those of a comparison.
-use Rattle.std.proofs.Common.{◌≡◌, ℕ, suc, ◌+◌, ◌*◌, Bool, false, List, [], ◌∷◌, length, arith}
-use Rattle.micromap_core.specs.Steps.{look_up_steps}
+use Rattle.std.proofs.Common.{◌≡◌, ◌≢◌, ℕ, suc, ◌+◌, ◌*◌, Bool, false, if◌then◌else◌, List, [], ◌∷◌, length, ap, sym, ◌∙◌, arith, eq-eqb}
+use Rattle.std.proofs.lemmas.Bool.{ne_eqb}
+use Rattle.micromap_core.specs.Steps.{look_up_steps, walk_steps, comparison_steps}
 
 -- a first pair whose key differs is one step more
 pub look_up_past : {K V : Type 0} (eq : K → K → Bool) (p : K × V) (ps : List (K × V)) (k : K) → false ≡ eq k p.0 → look_up_steps eq (p ∷ ps) k ≡ suc (look_up_steps eq ps k)
@@ -14,3 +15,11 @@ most_steps (x ∷ left) n = n + most_steps left n
 pub most_steps-product : {X : Type 0} (left : List X) (n : ℕ) → most_steps left n ≡ length left * n
 most_steps-product [] n = omega arith
 most_steps-product (x ∷ left) n = omega (arith, most_steps-product left n)
+
+-- a comparison takes the steps of a walk where the lengths are equal, and else none
+module _ {K V : Type 0} (eq : K → K → Bool) (same : V → V → Bool) (first second : List (K × V)) (m n : ℕ) (one : m ≡ length first) (two : n ≡ length second) where
+  pub comparison_long : m ≡ n → comparison_steps eq same first second ≡ walk_steps eq same second first
+  comparison_long long = ap (λ b. if b then walk_steps eq same second first else 0) (eq-eqb (length first) (length second) (sym one ∙ long ∙ two))
+
+  pub comparison_short : m ≢ n → comparison_steps eq same first second ≡ 0
+  comparison_short apart = ap (λ b. if b then walk_steps eq same second first else 0) (ne_eqb (length first) (length second) (λ long. apart (one ∙ long ∙ sym two)))

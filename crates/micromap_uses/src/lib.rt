@@ -6,5 +6,3 @@ pub mod attributes;
 pub mod frame;
 pub mod graph;
 pub mod headers;
-#[cfg(test)]
-mod tests;

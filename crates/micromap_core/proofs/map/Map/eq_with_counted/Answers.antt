@@ -1,5 +1,7 @@
+use Rattle.std.proofs.Common.{arith}
 use Rattle.micromap_core.proofs.FairLemmas.{no_answered, yes_answered}
 use Rattle.micromap_core.proofs.OneSideLemmas.{answered_long, answered_short}
+use Rattle.micromap_core.proofs.StepsLemmas.{comparison_long, comparison_short}
 use Rattle.micromap_core.proofs.map.Map.eq_with_counted.Goals as goal
 
 pub returns-then-lengths-clause-answer : goal.returns-then-lengths-clause-answer
@@ -18,3 +20,11 @@ returns-else-lengths-clause-told_apart g c = no_answered g.K.PartialEq.eq g.V.Pa
 
 pub returns-then-lengths-clause-outlasts : goal.returns-then-lengths-clause-outlasts
 returns-then-lengths-clause-outlasts g c = yes_answered g.K.PartialEq.eq g.V.PartialEq.eq g.met.K.Eq.laws g.met.V.Eq.laws g.row.N g.row.M c.args.self.now c.args.other.now c.len.ensures.content.unique c.len-2.ensures.content.unique _ (returns-then-lengths-clause-answer g c)
+
+pub returns-then-lengths-clause-count : goal.returns-then-lengths-clause-count
+returns-then-lengths-clause-count g c =
+    omega (arith, c.is_within_counted.ensures.count, comparison_long g.K.PartialEq.eq g.V.PartialEq.eq c.args.self.now c.args.other.now c.len.result c.len-2.result c.len.ensures.answer c.len-2.ensures.answer c.if-lengths.true)
+
+pub returns-else-lengths-clause-count : goal.returns-else-lengths-clause-count
+returns-else-lengths-clause-count g c =
+    omega (arith, comparison_short g.K.PartialEq.eq g.V.PartialEq.eq c.args.self.now c.args.other.now c.len.result c.len-2.result c.len.ensures.answer c.len-2.ensures.answer c.if-lengths.false)

@@ -1,6 +1,0 @@
-use Rattle.std.proofs.Common.{rules}
-use Rattle.micromap.proofs.RetainItems.{items_kept_by}
-use Rattle.micromap.proofs.tests.set.keep_even.Goals as goal
-
-pub returns : goal.returns
-returns g c = items_kept_by _ c.retain.ensures.items (λ x b t said. search rules)

@@ -1,0 +1,58 @@
+//! The code of the README.
+use micromap::{Map, Set, Text};
+use std::alloc::AllocError;
+
+#[test]
+fn insertions(rt: HostRuntime) {
+    let mut map: Map<u64, &str, 2> = Map::new();
+    assert_eq!(rt; map.checked_insert(1, "foo"), Some(None));
+    assert_eq!(rt; map.checked_insert(2, "bar"), Some(None));
+    assert_eq!(rt; map.checked_insert(1, "baz"), Some(Some("foo")));
+    assert_eq!(rt; map.checked_insert(3, "qux"), None);
+    if map.fits(&2) {
+        assert_eq!(rt; map.insert(2, "bam"), Some("bar"));
+    }
+}
+
+#[test]
+fn look_ups_and_removals(rt: HostRuntime) {
+    let mut map: Map<u64, &str, 2> = Map::from([(1, "baz"), (2, "bam")]);
+    assert_eq!(rt; map.get(&1), Some(&"baz"));
+    if let Some(value) = map.get_mut(&2) {
+        *value = "bim";
+    }
+    assert_eq!(rt; map.remove(&1), Some("baz"));
+    assert_eq!(rt; map.get(&2), Some(&"bim"));
+}
+
+#[test]
+fn entries_and_closures(rt: HostRuntime) {
+    let mut counts: Map<char, u32, 13> = Map::new();
+    for letter in "sets".chars() {
+        if counts.fits(&letter) {
+            counts
+                .entry(letter)
+                .and_modify(|count| *count = count.saturating_add(1))
+                .or_insert(1);
+        }
+    }
+    counts.retain(|_, count| *count > 1);
+    assert!(rt; counts.into_iter().eq([('s', 2)]));
+}
+
+#[test]
+fn a_text_finds_its_key(rt: HostRuntime) -> Result<(), AllocError> {
+    let alloc = rt.alloc();
+    let mut ages: Map<String, u8, 4> = Map::new();
+    ages.checked_insert(String::from_str(alloc, "Ada")?, 7);
+    assert_eq!(rt; ages.get_by(&Text("Ada")), Some(&7));
+    Ok(())
+}
+
+#[test]
+fn a_set(rt: HostRuntime) {
+    let mut seen: Set<u8, 2> = Set::new();
+    assert_eq!(rt; seen.checked_insert(1), None);
+    assert_eq!(rt; seen.checked_insert(1), Some(1));
+    assert!(rt; seen.contains(&1));
+}

@@ -1,0 +1,5 @@
+//! Tests of reading and writing JSON.
+#![tactic(auto)]
+
+#[cfg(test)]
+mod tests;

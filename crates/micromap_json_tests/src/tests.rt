@@ -1,0 +1,3 @@
+//! What no contract says, a module for each subject.
+
+mod json;

@@ -1,0 +1,157 @@
+//! Pairs kept and values written by a closure, and three callers' proofs over the final list.
+ghost use Rattle.std.specs.Prelude.{◌≡◌, ◌==◌, ◌%◌, nat_eq, map};
+ghost use Rattle.std.specs.Set.{distinct_count};
+ghost use Rattle.micromap.specs.Closures.{updated_disjoint};
+ghost use Rattle.micromap.specs.Retain.{retained};
+
+use micromap::Map;
+
+// Keeps the pairs with an even key.
+fn keep_even<const N: usize>(pairs: &mut Map<u8, u8, N>)
+    ensures { pairs.new ≡ retained (λ p. p.0 % 2 == 0) pairs.old }
+{
+    pairs.retain(|key, _| *key % 2 == 0);
+}
+
+// Sets each value to its key.
+fn keys_as_values<const N: usize>(pairs: &mut Map<u8, u8, N>)
+    ensures { pairs.new ≡ map (λ p. (p.0, p.0)) pairs.old }
+{
+    pairs.update_all(|key, value| *value = *key);
+}
+
+// Sets the value of each key that is stored to its position.
+fn positions<const J: usize, const N: usize>(pairs: &mut Map<u8, usize, N>, keys: &[u8; J])
+    requires { distinct_count nat_eq keys.now ≡ J }
+    ensures { pairs.new ≡ updated_disjoint nat_eq (λ position _. position) pairs.old keys.now }
+{
+    pairs.update_disjoint(keys, |position, value| *value = position);
+}
+
+// The map with these keys, each its own value.
+fn numbered(keys: &[u8]) -> Map<u8, u8, 10> {
+    let mut map = Map::new();
+    for key in keys {
+        map.checked_insert(*key, *key);
+    }
+    map
+}
+
+// Whether a walk over `keys` that keeps those of `kept` visits them in the order of `visits`.
+fn retains(keys: &[u8], kept: &[u8], visits: &[u8]) -> bool {
+    let mut map = numbered(keys);
+    let mut number = 0usize;
+    let mut in_order = true;
+    map.retain(|key, _| {
+        in_order &= visits.get(number) == Some(key);
+        number = number.wrapping_add(1);
+        kept.contains(key)
+    });
+    in_order && number == keys.len() && map.keys().eq(kept)
+}
+
+#[test]
+fn each_pair_is_visited_once_in_turn(rt: HostRuntime) {
+    let visited: [(&[u8], &[u8], &[u8]); 6] = [
+        (&[1, 2, 3, 4, 5], &[4, 2], &[1, 5, 4, 2, 3]),
+        (
+            &[0, 1, 2, 3, 4, 5, 6, 7],
+            &[0, 6, 2, 4],
+            &[0, 1, 7, 6, 2, 3, 5, 4],
+        ),
+        (
+            &[9, 1, 2, 3, 4, 5, 6, 7, 8, 10],
+            &[10, 8, 2, 6, 4],
+            &[9, 10, 1, 8, 2, 3, 7, 6, 4, 5],
+        ),
+        (&[1, 2, 3], &[1, 2, 3], &[1, 2, 3]),
+        (&[1, 2, 3], &[], &[1, 3, 2]),
+        (&[], &[], &[]),
+    ];
+    for (keys, kept, visits) in visited {
+        assert!(rt; retains(keys, kept, visits));
+    }
+}
+
+#[test]
+fn a_kept_pair_has_the_value_that_its_call_left(rt: HostRuntime) {
+    let mut map = numbered(&[1, 2, 3, 4]);
+    map.retain(|_, value| {
+        *value = value.wrapping_add(1);
+        *value != 3
+    });
+    assert!(rt; map.into_iter().eq([(3, 4), (4, 5), (1, 2)]));
+    let mut map = numbered(&[1, 2, 3, 4, 5]);
+    keep_even(&mut map);
+    assert!(rt; map.into_keys().eq([2, 4]));
+}
+
+#[test]
+fn each_value_is_what_its_call_left(rt: HostRuntime) {
+    let mut map = numbered(&[3, 1, 2]);
+    map.update_all(|_, value| *value = value.wrapping_mul(2));
+    assert!(rt; map.values().copied().eq([6, 2, 4]));
+    keys_as_values(&mut map);
+    assert!(rt; map.values().copied().eq([3, 1, 2]));
+}
+
+#[test]
+fn no_key_finds_nothing(rt: HostRuntime) {
+    let mut map = numbered(&[1, 2]);
+    assert_eq!(rt; map.update_disjoint(&[], |_, value| *value = 9), []);
+    assert!(rt; map.values().copied().eq([1, 2]));
+    let mut slots: Map<u8, usize, 3> = Map::new();
+    for key in [1, 2, 3] {
+        slots.checked_insert(key, 7);
+    }
+    positions(&mut slots, &[3, 9, 1]);
+    assert!(rt; slots.values().copied().eq([2, 7, 0]));
+}
+
+#[test]
+fn more_keys_than_there_is_room_for(rt: HostRuntime) {
+    let mut map: Map<u8, usize, 2> = Map::new();
+    for key in [1, 2] {
+        map.checked_insert(key, 7);
+    }
+    let found = map.update_disjoint(&[9, 2, 8, 1], |position, value| *value = position);
+    assert_eq!(rt; found, [false, true, false, true]);
+    assert!(rt; map.values().copied().eq([3, 1]));
+}
+
+#[test]
+fn an_empty_map_calls_nothing(rt: HostRuntime) {
+    let mut map: Map<u8, u8, 0> = Map::new();
+    let mut called = false;
+    map.retain(|_, _| {
+        called = true;
+        true
+    });
+    map.update_all(|_, _| called = true);
+    assert!(rt; !called);
+}
+
+#[test]
+fn a_closure_counts_its_calls(rt: HostRuntime) {
+    let mut map = Map::from([(1, 10), (2, 20), (3, 30), (4, 40), (5, 50)]);
+    let mut visits = 0u8;
+    map.retain(|_, value: &mut u8| {
+        visits = visits.wrapping_add(1);
+        *value = value.wrapping_add(visits);
+        visits % 2 == 1
+    });
+    assert_eq!(rt; visits, 5);
+    assert!(rt; map.drain().eq([(1, 11), (5, 53), (4, 45)]));
+}
+
+#[test]
+fn a_closure_adds_up(rt: HostRuntime) {
+    let mut map = Map::from([(1, 10), (2, 20), (3, 30)]);
+    let mut total = 0u8;
+    map.update_all(|_, value: &mut u8| {
+        total = value.wrapping_add(total);
+        *value = total;
+    });
+    assert_eq!(rt; total, 60);
+    assert!(rt; map.drain().eq([(1, 10), (2, 30), (3, 60)]));
+}

@@ -1,0 +1,48 @@
+-- What the calls that name a key leave in a map of capacity N.
+use Rattle.std.specs.Prelude.{ℕ, ℤ, Bool, List, if◌then◌else◌, nat_eq}
+use Rattle.std.specs.Int.{int_wrapping_add, w32}
+use Rattle.std.specs.Option.{option_map_or, unwrap_or}
+use Rattle.std.specs.Ordering.{on}
+use Rattle.micromap.specs.Pairs.{at, has, fits, put, put_key, take_out}
+use Rattle.micromap_testing.specs.declared.marked.Marked.{Marked}
+use Rattle.micromap_replay.specs.declared.calls.map.KeyedCall.{KeyedCall}
+use Rattle.micromap_replay.specs.declared.calls.map.KeyedCall.TheVariants.{Insert, InsertKeyValue, CheckedInsert, Get, GetKeyValue, ContainsKey, GetMut, Remove, RemoveEntry, Index}
+use Rattle.micromap_replay.specs.declared.calls.map.EntryCall.{EntryCall}
+use Rattle.micromap_replay.specs.declared.calls.map.EntryCall.TheVariants.{OrInsert, AndModifyOrInsert, InsertEntry, OccupiedInsert, OccupiedRemove, OccupiedRemoveEntry, VacantInsert, VacantIntoKey}
+
+-- keys are equal where their ids are
+abbrev pub same_id : Marked → Marked → Bool
+same_id = on (λ k. k.id) nat_eq
+
+module _ (N : ℕ) (pairs : List (Marked × ℤ)) where
+  -- with v as the value at k, where it fits
+  abbrev pub put_if_fits : Marked → ℤ → List (Marked × ℤ)
+  put_if_fits k v = if fits same_id N pairs k then put same_id pairs k v else pairs
+
+  -- with c added to the value at k, where there is one
+  abbrev pub raised : Marked → ℤ → List (Marked × ℤ)
+  raised k c = option_map_or (λ v. put same_id pairs k (int_wrapping_add w32 v c)) (at same_id pairs k) pairs
+
+  -- what a call that names its key leaves
+  abbrev pub after_keyed : KeyedCall → List (Marked × ℤ)
+  after_keyed (Insert k v) = put_if_fits k v
+  after_keyed (InsertKeyValue k v) = if fits same_id N pairs k then put_key same_id pairs k v else pairs
+  after_keyed (CheckedInsert k v) = put_if_fits k v
+  after_keyed (Get k) = pairs
+  after_keyed (GetKeyValue k) = pairs
+  after_keyed (ContainsKey k) = pairs
+  after_keyed (GetMut k c) = raised k c
+  after_keyed (Remove k) = take_out same_id pairs k
+  after_keyed (RemoveEntry k) = take_out same_id pairs k
+  after_keyed (Index k) = pairs
+
+  -- what a call of the entry of its key leaves
+  abbrev pub after_entry : EntryCall → List (Marked × ℤ)
+  after_entry (OrInsert k v) = put_if_fits k (unwrap_or (at same_id pairs k) v)
+  after_entry (AndModifyOrInsert k c v) = if has same_id pairs k then raised k c else put_if_fits k v
+  after_entry (InsertEntry k v) = put_if_fits k v
+  after_entry (OccupiedInsert k v) = if has same_id pairs k then put same_id pairs k v else pairs
+  after_entry (OccupiedRemove k) = take_out same_id pairs k
+  after_entry (OccupiedRemoveEntry k) = take_out same_id pairs k
+  after_entry (VacantInsert k v) = if has same_id pairs k then pairs else put_if_fits k v
+  after_entry (VacantIntoKey k) = pairs

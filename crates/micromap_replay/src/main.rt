@@ -1,0 +1,103 @@
+//! Performs the calls that stand on its standard input on maps and sets of the library, and writes for each its answer
+//! and the content after it. `LANGUAGE.md` says how calls and answers are written.
+#![tactic(auto)]
+
+mod answer;
+mod calls;
+mod case;
+mod perform;
+mod words;
+
+use answer::Reply;
+use case::Case;
+use std::alloc::Global;
+use std::fmt;
+use std::io::{self, BufRead, BufReader, BufWriter, Write};
+use std::process::ExitCode;
+use words::Fault;
+
+/// The most bytes of a line, without its end.
+const LONGEST_LINE: usize = 200;
+
+/// Why a replay ends before the calls do.
+#[derive(Drop)]
+enum Stop {
+    /// The line of this number has no answer.
+    Line(u64, Fault),
+    Read(io::Error),
+    Write(io::Error),
+}
+
+impl fmt::Display for Stop {
+    fn fmt<W: fmt::Write>(&self, f: &mut fmt::Formatter<W>) -> fmt::Result {
+        match self {
+            Stop::Line(number, Fault::Unreadable) => {
+                write!(f, "line {number} is not of the language")
+            }
+            Stop::Line(number, Fault::Memory) => {
+                write!(f, "there is no memory for the answer to line {number}")
+            }
+            Stop::Read(error) => write!(f, "the calls can't be read: {error}"),
+            Stop::Write(error) => write!(f, "the answers can't be written: {error}"),
+        }
+    }
+}
+
+// The reply to a line, which begins a case or is a call on the one that goes on.
+fn reply(alloc: Global, case: &mut Option<Case>, line: &[u8]) -> Result<Reply, Fault> {
+    let line = text(line).ok_or(Fault::Unreadable)?;
+    if let Some(begun) = Case::begin(line) {
+        case.insert(begun).reply(alloc, None)
+    } else if let Some(case) = case {
+        case.reply(alloc, Some(line))
+    } else {
+        Err(Fault::Unreadable)
+    }
+}
+
+// The text of a line before its end, or `None` where it is too long or has no end.
+fn text(line: &[u8]) -> Option<&str> {
+    let line = line.strip_suffix(b"\n")?;
+    if line.len() <= LONGEST_LINE {
+        str::from_utf8(line).ok()
+    } else {
+        None
+    }
+}
+
+// Replies to each line in turn, up to the first that has no answer.
+fn replay<R: BufRead, W: Write>(alloc: Global, calls: &mut R, answers: &mut W) -> Result<(), Stop> {
+    let mut case = None;
+    let mut line = Vec::new(alloc);
+    for number in 1..u64::MAX {
+        line.clear();
+        if calls.read_until(b'\n', &mut line).map_err(Stop::Read)? == 0 {
+            break;
+        }
+        match reply(alloc, &mut case, &line) {
+            Ok(reply) => writeln!(answers, "{reply}").map_err(Stop::Write)?,
+            Err(fault) => return Err(Stop::Line(number, fault)),
+        }
+    }
+    Ok(())
+}
+
+// Replays the calls on the standard input to the standard output.
+fn run(rt: &HostRuntime) -> Result<(), Stop> {
+    let alloc = rt.alloc();
+    let mut calls = BufReader::new(alloc, rt.reader()).map_err(Stop::Read)?;
+    let mut answers = BufWriter::new(alloc, io::writer(rt)).map_err(Stop::Write)?;
+    let end = replay(alloc, &mut calls, &mut answers);
+    answers.flush().map_err(Stop::Write)?;
+    end
+}
+
+fn main(rt: HostRuntime) -> ExitCode {
+    match run(&rt) {
+        Ok(()) => ExitCode::SUCCESS,
+        Err(stop) => {
+            let _ = eprintln!(rt; "{stop}");
+            ExitCode::FAILURE
+        }
+    }
+}

@@ -1,0 +1,140 @@
+//! The operations on two sets as a user calls them, and callers' proofs.
+ghost use Rattle.std.specs.Prelude.{◌≡◌, ◌==◌, ◌%◌, ◌<◌, ◌^◌, filter, length, nat_eq, sum, Ok, IfOk};
+ghost use Rattle.micromap.specs.Operations.{difference, intersection, union};
+
+use micromap::{Overfull, Set};
+use micromap_testing::{Marked, holds};
+use std::alloc::{AllocError, Global};
+
+// The sum of the numbers that are in either set: each of them is met once.
+fn total<const N: usize, const M: usize>(a: &Set<u8, N>, b: &Set<u8, M>) -> u64
+    requires { sum (union nat_eq a.now b.now) < 2 ^ 64 }
+    ensures { result ≡ sum (union nat_eq a.now b.now) }
+{
+    let mut total = 0;
+    for x in a.union(b) {
+        total += u64::from(*x);
+    }
+    total
+}
+
+// How many of the first numbers the second set lacks.
+fn missing<const N: usize, const M: usize>(a: &Set<u8, N>, b: &Set<u8, M>) -> usize
+    ensures { result ≡ length (difference nat_eq a.now b.now) }
+{
+    a.difference(b).count()
+}
+
+// The even numbers of either set.
+fn evens<const N: usize, const M: usize>(
+    alloc: Global,
+    a: &Set<u8, N>,
+    b: &Set<u8, M>,
+) -> Result<Vec<u8>, AllocError>
+    ensures { IfOk result (λ v. v.items ≡ filter (λ x. x % 2 == 0) (union nat_eq a.now b.now)) }
+{
+    a.union(b).copied().filter(|x| *x % 2 == 0).collect(alloc)
+}
+
+// The numbers of either set, as a set of any capacity that holds them.
+fn joined<const N: usize, const M: usize, const L: usize>(
+    a: &Set<u8, N>,
+    b: &Set<u8, M>,
+) -> Result<Set<u8, L>, Overfull>
+    ensures { IfOk result (λ set. set ≡ union nat_eq a.now b.now) }
+{
+    Set::try_from_iter(a.union(b).copied())
+}
+
+// The nodes that are next to both of two nodes, where each has the set of the nodes next to it.
+fn common_neighbours<const N: usize, const M: usize>(
+    first: &Set<u8, N>,
+    second: &Set<u8, M>,
+) -> Result<Set<u8, N>, AllocError>
+    ensures { result ≡ Ok (intersection nat_eq first.now second.now) }
+{
+    first.bitand(second)
+}
+
+// A reference that outlives the two sets.
+fn first_missing<'a, const N: usize, const M: usize>(
+    ours: Set<&'a i32, N>,
+    theirs: Set<&'a i32, M>,
+) -> Option<&'a i32> {
+    ours.difference_ref(&theirs).next()
+}
+
+#[test]
+fn equal_items_come_from_one_side(rt: HostRuntime) {
+    let a = Set::from([Marked::new(1, 'x'), Marked::new(2, 'x')]);
+    let b = Set::from([Marked::new(2, 'y'), Marked::new(3, 'y')]);
+    assert!(rt; a.intersection(&b).map(|item| item.fields()).eq([(2, 'x')]));
+    assert!(rt;
+        a.union(&b)
+            .map(|item| item.fields())
+            .eq([(2, 'y'), (3, 'y'), (1, 'x')])
+    );
+    assert!(rt;
+        a.bitand(&b).is_ok_and(|both| both.iter().map(|item| item.fields()).eq([(2, 'x')]))
+    );
+}
+
+#[test]
+fn a_reference_outlives_its_sets(rt: HostRuntime) {
+    let [one, two, again] = &[1, 2, 1];
+    assert_eq!(rt;
+        first_missing(Set::from([one, two]), Set::from([again])),
+        Some(&2)
+    );
+}
+
+// Whether the first set without the second has these items, and what both have those.
+fn clones<const N: usize, const M: usize>(
+    first: &Set<i32, N>,
+    second: &Set<i32, M>,
+    less: &[i32],
+    both: &[i32],
+) -> bool {
+    first.sub(second).is_ok_and(|set| holds(&set, less))
+        && first.bitand(second).is_ok_and(|set| holds(&set, both))
+}
+
+#[test]
+fn sets_of_clones(rt: HostRuntime) {
+    let none: Set<i32, 0> = Set::new();
+    let a = Set::from([1, 2, 3]);
+    assert!(rt; clones(&a, &none, &[1, 2, 3], &[]));
+    assert!(rt; clones(&none, &a, &[], &[]));
+    assert!(rt; clones(&a, &a, &[], &[1, 2, 3]));
+    assert!(rt; clones(&a, &Set::from([4, 5, 6]), &[1, 2, 3], &[]));
+    let next = common_neighbours(&Set::from([9, 4, 2]), &Set::from([2, 4, 6]));
+    assert!(rt; next.is_ok_and(|set| holds(&set, &[4, 2])));
+}
+
+// The sets of the crate's documentation.
+#[test]
+fn a_union_becomes_a_set(rt: HostRuntime) -> Result<(), Overfull> {
+    let a = Set::from([1, 2, 3]);
+    let b: Set<u8, 4> = Set::try_from_iter([5, 1, 2, 4].into_iter())?;
+    let both: Set<u8, 7> = joined(&a, &b)?;
+    assert!(rt; both.iter().eq(&[5, 1, 2, 4, 3]));
+    assert_eq!(rt; both.capacity(), 7);
+    assert!(rt; a.sub(&b).is_ok_and(|set| set.iter().eq(&[3])));
+    assert!(rt; joined::<3, 4, 4>(&a, &b).is_err());
+    Ok(())
+}
+
+#[test]
+fn loops_and_chains(rt: HostRuntime) -> Result<(), AllocError> {
+    let a = Set::from([1, 2, 3]);
+    let b = Set::from([2, 3, 4, 6]);
+    assert_eq!(rt; missing(&a, &b), 1);
+    assert!(rt; evens(rt.alloc(), &a, &b)?.iter().eq(&[2, 4, 6]));
+    let mut met = 0;
+    for x in a.difference(&b) {
+        assert_eq!(rt; met, 0);
+        met = *x;
+    }
+    assert_eq!(rt; met, 1);
+    Ok(())
+}

@@ -1,0 +1,248 @@
+//! The set as a user meets it, and two callers' proofs over its items.
+ghost use Rattle.std.specs.Prelude.{◌≡◌, ◌==◌, ◌%◌, if◌then◌else◌, nat_eq};
+ghost use Rattle.micromap.specs.Items.{add, item_fits};
+ghost use Rattle.micromap.specs.Retain.{retained};
+
+use micromap::{Set, Text};
+use micromap_testing::{Digit, Id, Marked, gives, holds};
+use std::alloc::{AllocError, Global};
+
+// Puts a number, where there is room for it.
+fn note<const N: usize>(seen: &mut Set<u8, N>, number: u8)
+    ensures { seen.new ≡ (if item_fits nat_eq N seen.old number then add nat_eq seen.old number else seen.old) }
+{
+    seen.checked_insert(number);
+}
+
+// The numbers of a slice, where there is room for them.
+fn numbers<const N: usize>(items: &[u8]) -> Set<u8, N> {
+    let mut set = Set::new();
+    for item in items {
+        note(&mut set, *item);
+    }
+    set
+}
+
+#[test]
+fn a_full_set_takes_a_stored_item_alone(rt: HostRuntime) {
+    let mut set: Set<u8, 3> = numbers(&[1, 2, 3]);
+    assert!(rt; set.fits(&2));
+    assert_eq!(rt; set.replace(2), Some(2));
+    assert_eq!(rt; set.checked_insert(4), None);
+    assert!(rt; !set.fits(&4));
+    assert!(rt; set.fits(&2));
+    assert!(rt; !set.insert_unchecked(2));
+    assert!(rt; holds(&set, &[1, 2, 3]));
+    set.clear();
+    assert!(rt; set.is_empty());
+}
+
+#[test]
+fn a_stored_item_stays_but_in_replace(rt: HostRuntime) {
+    let mut set: Set<Marked, 1> = Set::default();
+    assert!(rt; set.checked_insert(Marked::new(1, 'x')).is_none());
+    let back = set.checked_insert(Marked::new(1, 'y'));
+    assert_eq!(rt; back.map(|item| item.mark), Some('y'));
+    let (third, last) = (Marked::new(1, 'z'), Marked::new(1, 'w'));
+    assert_eq!(rt; set.get(&third).map(|item| item.mark), Some('x'));
+    assert!(rt; set.fits(&third));
+    let old = set.replace(third);
+    assert_eq!(rt; old.map(|item| item.mark), Some('x'));
+    assert_eq!(rt; set.get(&last).map(|item| item.mark), Some('z'));
+    assert!(rt; set.fits(&last));
+    assert!(rt; !set.insert(last));
+    assert_eq!(rt; set.get(&last).map(|item| item.mark), Some('z'));
+}
+
+// A set of these texts, which all fit.
+fn texts<const N: usize>(alloc: Global, items: &[&str]) -> Result<Set<String, N>, AllocError> {
+    let mut set = Set::new();
+    for item in items {
+        set.checked_insert(String::from_str(alloc, *item)?);
+    }
+    Ok(set)
+}
+
+// Whether the set has just these texts, from the front.
+fn lists<const N: usize>(set: &Set<String, N>, items: &[&str]) -> bool {
+    gives(set.iter().map(|text| text.as_str()), items)
+}
+
+#[test]
+fn texts_find_their_items(rt: HostRuntime) -> Result<(), AllocError> {
+    let mut set = texts::<4>(rt.alloc(), &["a", "b", "c"])?;
+    let taken = set.take_by(&Text("a"));
+    assert!(rt; taken.is_some_and(|text| text.as_str() == "a"));
+    assert!(rt; lists(&set, &["c", "b"]));
+    assert!(rt; !set.remove_by(&Text("a")));
+    assert!(rt; set.contains_by(&Text("b")));
+    assert!(rt;
+        set.get_by(&Text("c"))
+            .is_some_and(|text| text.as_str() == "c")
+    );
+    Ok(())
+}
+
+#[test]
+fn a_probe_finds_the_stored_item_or_leaves_the_set(rt: HostRuntime) {
+    let mut set: Set<Marked, 2> = Set::new();
+    set.checked_insert(Marked::new(1, 'x'));
+    set.checked_insert(Marked::new(2, 'y'));
+    assert_eq!(rt; set.get_by(&Id(2)).map(|item| item.mark), Some('y'));
+    assert!(rt; set.contains_by(&Digit('2')));
+    assert!(rt; set.get_by(&Digit('3')).is_none());
+    assert!(rt; !set.contains_by(&Id(3)));
+    assert!(rt; set.take_by(&Id(3)).is_none());
+    assert!(rt; !set.remove_by(&Digit('3')));
+    assert!(rt; gives(set.iter().map(|item| item.fields()), &[(1, 'x'), (2, 'y')]));
+    let taken = set.take_by(&Digit('1'));
+    assert_eq!(rt; taken.map(|item| item.fields()), Some((1, 'x')));
+    assert!(rt; set.remove_by(&Id(2)));
+    assert!(rt; set.is_empty());
+}
+
+// Puts an item that fits, and answers whether it is new.
+fn put<const N: usize>(set: &mut Set<i32, N>, item: i32) -> bool {
+    set.fits(&item) && set.insert(item)
+}
+
+// Whether the first of ten items goes, comes back at the end, and goes again.
+fn first_goes_and_comes(set: &mut Set<i32, 10>) -> bool {
+    set.take(&0) == Some(0)
+        && holds(set, &[9, 1, 2, 3, 4, 5, 6, 7, 8])
+        && !set.contains(&10)
+        && !set.remove(&0)
+        && put(set, 0)
+        && holds(set, &[9, 1, 2, 3, 4, 5, 6, 7, 8, 0])
+        && set.remove(&0)
+        && holds(set, &[9, 1, 2, 3, 4, 5, 6, 7, 8])
+}
+
+#[test]
+fn a_long_run_on_one_set(rt: HostRuntime) {
+    let mut set: Set<i32, 10> = Set::new();
+    for number in 0..10 {
+        assert!(rt; put(&mut set, number));
+    }
+    assert!(rt; holds(&set, &[0, 1, 2, 3, 4, 5, 6, 7, 8, 9]));
+    assert!(rt; first_goes_and_comes(&mut set));
+    assert!(rt; put(&mut set, 10));
+    assert!(rt; holds(&set, &[9, 1, 2, 3, 4, 5, 6, 7, 8, 10]));
+    assert_eq!(rt; set.get(&10), Some(&10));
+    assert_eq!(rt; set.get(&11), None);
+    set.retain(|x| *x % 2 == 0);
+    assert!(rt; holds(&set, &[10, 8, 2, 6, 4]));
+    let mut items = set.iter();
+    assert_eq!(rt; items.next(), Some(&10));
+    assert!(rt; gives(items, &[&8, &2, &6, &4]));
+    assert!(rt; gives(set.into_iter(), &[4, 6, 2, 8, 10]));
+}
+
+#[test]
+fn each_walk_over_a_set_gives_every_item_and_stays_at_its_end(rt: HostRuntime) {
+    let mut set: Set<u8, 3> = numbers(&[3, 1, 2]);
+    assert!(rt; gives(set.iter(), &[&3, &1, &2]));
+    let drained = set.drain();
+    assert!(rt; set.is_empty());
+    assert_eq!(rt; drained.len(), 3);
+    assert!(rt; gives(drained, &[3, 1, 2]));
+    assert!(rt; gives(set.iter(), &[]));
+    assert!(rt; gives(set.into_iter(), &[]));
+    let mut none: Set<u8, 0> = Set::new();
+    assert!(rt; gives(none.iter(), &[]));
+    assert!(rt; gives(none.drain(), &[]));
+    assert!(rt; gives(none.into_iter(), &[]));
+}
+
+#[test]
+fn a_cloned_walk_over_a_set_goes_on_from_the_same_position(
+    rt: HostRuntime,
+) -> Result<(), AllocError> {
+    let set: Set<u8, 3> = numbers(&[3, 1, 2]);
+    let mut items = set.iter();
+    assert_eq!(rt; items.next(), Some(&3));
+    assert_eq!(rt; items.len(), 2);
+    assert!(rt; gives(items.clone()?, &[&1, &2]));
+    assert!(rt; gives(items, &[&1, &2]));
+    Ok(())
+}
+
+#[test]
+fn a_loop_lends_each_item_or_gives_it_away(rt: HostRuntime) {
+    let set: Set<u8, 3> = numbers(&[1, 2, 3]);
+    let mut last = 0u8;
+    for item in &set {
+        assert_eq!(rt; *item, last.wrapping_add(1));
+        last = *item;
+    }
+    assert_eq!(rt; last, 3);
+    for item in set {
+        assert_eq!(rt; item, last);
+        last = item.wrapping_sub(1);
+    }
+    assert_eq!(rt; last, 0);
+}
+
+#[test]
+fn sets_within_and_apart(rt: HostRuntime) {
+    let upper: Set<u32, 3> = Set::from([1, 2, 3]);
+    let mut set: Set<u32, 5> = Set::new();
+    assert!(rt; set.is_subset(&upper));
+    assert!(rt; set.is_disjoint(&upper));
+    set.checked_insert(2);
+    assert!(rt; set.is_subset(&upper));
+    assert!(rt; !set.is_disjoint(&upper));
+    set.checked_insert(4);
+    assert!(rt; !set.is_subset(&upper));
+    let lower: Set<u32, 2> = Set::from([1, 2]);
+    let mut set: Set<u32, 5> = Set::new();
+    set.checked_insert(0);
+    set.checked_insert(1);
+    assert!(rt; !set.is_superset(&lower));
+    set.checked_insert(2);
+    assert!(rt; set.is_superset(&lower));
+}
+
+// Keeps the even numbers.
+fn keep_even<const N: usize>(set: &mut Set<u8, N>)
+    ensures { set.new ≡ retained (λ x. x % 2 == 0) set.old }
+{
+    set.retain(|x| *x % 2 == 0);
+}
+
+// Whether a walk over `items` that keeps those of `kept` visits them in the order of `visits`.
+fn retains(items: &[u8], kept: &[u8], visits: &[u8]) -> bool {
+    let mut set: Set<u8, 10> = numbers(items);
+    let mut number = 0usize;
+    let mut in_order = true;
+    set.retain(|item| {
+        in_order &= visits.get(number) == Some(item);
+        number = number.wrapping_add(1);
+        kept.contains(item)
+    });
+    in_order && number == items.len() && holds(&set, kept)
+}
+
+#[test]
+fn each_item_is_visited_once_in_turn(rt: HostRuntime) {
+    let visited: [(&[u8], &[u8], &[u8]); 4] = [
+        (&[1, 2, 3, 4, 5], &[4, 2], &[1, 5, 4, 2, 3]),
+        (
+            &[9, 1, 2, 3, 4, 5, 6, 7, 8, 10],
+            &[10, 8, 2, 6, 4],
+            &[9, 10, 1, 8, 2, 3, 7, 6, 4, 5],
+        ),
+        (&[1, 2, 3], &[1, 2, 3], &[1, 2, 3]),
+        (&[1, 2, 3], &[], &[1, 3, 2]),
+    ];
+    for (items, kept, visits) in visited {
+        assert!(rt; retains(items, kept, visits));
+    }
+}
+
+#[test]
+fn even_items_are_kept(rt: HostRuntime) {
+    let mut set: Set<u8, 5> = numbers(&[1, 2, 3, 4, 5]);
+    keep_even(&mut set);
+    assert!(rt; holds(&set, &[4, 2]));
+}

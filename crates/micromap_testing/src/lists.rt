@@ -1,0 +1,34 @@
+//! Whether an iterator, or a set, has just the items that are expected.
+
+use micromap::Set;
+use std::iter::FusedIterator;
+
+/// Whether the set has just these items, from the front.
+pub fn holds<T: Eq, const N: usize>(set: &Set<T, N>, items: &[T]) -> bool {
+    set.len() == items.len() && set.iter().eq(items)
+}
+
+/// Whether the iterator yields just these items in this order, says before each how many are left, and stays at its
+/// end.
+pub fn gives<I: FusedIterator>(mut iterator: I, items: &[I::Item]) -> bool
+where
+    I::Item: PartialEq + Drop,
+    requires { (left : I) → I.can_next left }
+{
+    for (given, item) in items.iter().enumerate() {
+        let left = items.len() - given;
+        if iterator.size_hint() != (left, Some(left)) {
+            return false;
+        }
+        match iterator.next() {
+            Some(next) if next == *item => {}
+            _ => return false,
+        }
+    }
+    for _ in 0..3 {
+        if iterator.size_hint() != (0, Some(0)) || iterator.next().is_some() {
+            return false;
+        }
+    }
+    true
+}

@@ -1,0 +1,14 @@
+//! Whether a value is printed as expected. Where a request for memory is refused it is not.
+
+use std::alloc::Global;
+use std::fmt::{Debug, Display};
+
+/// Whether `Display` prints just this text.
+pub fn displays<T: Display>(alloc: Global, value: &T, text: &str) -> bool {
+    format!(in alloc; "{value}").is_ok_and(|printed| printed.as_str() == text)
+}
+
+/// Whether `Debug` prints just this text.
+pub fn debugs<T: Debug>(alloc: Global, value: &T, text: &str) -> bool {
+    format!(in alloc; "{value:?}").is_ok_and(|printed| printed.as_str() == text)
+}

@@ -1,0 +1,55 @@
+//! A list of three attributes.
+use micromap::Map;
+use micromap_uses::attributes::{Attributes, remove, rename, set, text, value_or};
+use std::alloc::Global;
+
+// Whether there was room for an attribute, or `None` where memory was lacking.
+fn put(alloc: Global, list: &mut Attributes<3>, name: &str, value: &str) -> Option<bool> {
+    set(alloc, list, name, value).ok()
+}
+
+// Whether an attribute had this name, and has another now.
+fn renamed(alloc: Global, list: &mut Attributes<3>, from: &str, to: &str) -> Option<bool> {
+    match String::from_str(alloc, to) {
+        Ok(to) => Some(rename(list, from, to)),
+        Err(_) => None,
+    }
+}
+
+// Whether the list has this text.
+fn reads(alloc: Global, list: &Attributes<3>, expected: &str) -> bool {
+    text(alloc, list).is_ok_and(|text| text.as_str() == expected)
+}
+
+// A list with all the attributes that there is room for.
+fn full(alloc: Global) -> Attributes<3> {
+    let mut list = Map::new();
+    for (name, value) in [("id", "a"), ("class", "wide"), ("href", "/"), ("id", "b")] {
+        put(alloc, &mut list, name, value);
+    }
+    list
+}
+
+#[test]
+fn attributes_stand_in_the_order_in_which_they_came(rt: HostRuntime) {
+    let alloc = rt.alloc();
+    let mut list = full(alloc);
+    assert!(rt; reads(alloc, &list, "{id: b, class: wide, href: /}"));
+    assert_eq!(rt; put(alloc, &mut list, "alt", ""), Some(false));
+    assert_eq!(rt; put(alloc, &mut list, "href", "#"), Some(true));
+    assert_eq!(rt; value_or(&list, "href", "none"), "#");
+    assert_eq!(rt; value_or(&list, "alt", "none"), "none");
+}
+
+// The last attribute goes to the index of the one that is taken out, and the new name behind it.
+#[test]
+fn a_renamed_attribute_goes_last(rt: HostRuntime) {
+    let alloc = rt.alloc();
+    let mut list = full(alloc);
+    assert_eq!(rt; renamed(alloc, &mut list, "id", "name"), Some(true));
+    assert_eq!(rt; renamed(alloc, &mut list, "id", "alt"), Some(false));
+    assert!(rt; reads(alloc, &list, "{href: /, class: wide, name: b}"));
+    assert!(rt; remove(&mut list, "class"));
+    assert!(rt; !remove(&mut list, "class"));
+    assert!(rt; reads(alloc, &list, "{href: /, name: b}"));
+}

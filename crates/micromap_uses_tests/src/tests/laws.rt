@@ -1,0 +1,170 @@
+//! Callers that are proved by the laws of the map and the set alone: one line names the laws, and no proof is written.
+ghost use Rattle.std.specs.Prelude.{◌≡◌, ◌≤◌, ◌+◌, ◌&&◌, IfOk, Some, None, IsTrue, is_some, length, nat_eq, not, if◌then◌else◌};
+ghost use Rattle.std.specs.Option.{option_map_or};
+ghost use Rattle.std.specs.Ordering.{on};
+ghost use Rattle.std.specs.String.{string_bytes, string_eq};
+ghost use Rattle.micromap.specs.Items.{add, contains, item_fits, take_item};
+ghost use Rattle.micromap.specs.Pairs.{at, fits, has, put, take_out};
+ghost use Rattle.micromap.specs.Probe.{at_matched, is_text, put_matched, take_out_matched};
+ghost use Rattle.micromap.specs.Texts.{item_texts, key_texts, same_text, texts};
+
+use micromap::{Map, Set, Text};
+use micromap_testing::Marked;
+use std::alloc::{AllocError, Global};
+
+// Gives a name a value where it has none, and answers whether it has one now.
+#[tactic(auto, using(micromap_core::proofs::MapLaws::map_laws))]
+fn set_default<const N: usize>(
+    map: &mut Map<String, String, N>,
+    name: String,
+    value: String,
+) -> bool
+    ensures answer { result ≡ fits string_eq N map.old name }
+    ensures pairs { map.new ≡ (if fits string_eq N map.old name && not (has string_eq map.old name) then put string_eq map.old name value else map.old) }
+{
+    if map.contains_key(&name) {
+        return true;
+    }
+    map.checked_insert(name, value).is_some()
+}
+
+// Writes the value of a name that is there.
+#[tactic(auto, using(micromap_core::proofs::MapLaws::map_laws))]
+fn overwrite<const N: usize>(map: &mut Map<String, String, N>, name: &str, value: String) -> bool
+    ensures answer { result ≡ is_some (at_matched string_eq (is_text name.now) map.old) }
+    ensures pairs { map.new ≡ put_matched string_eq (is_text name.now) map.old value }
+{
+    match map.get_mut_by(&Text(name)) {
+        Some(stored) => {
+            *stored = value;
+            true
+        }
+        None => false,
+    }
+}
+
+// Moves the value of one name to another, which goes to its index or to the end.
+#[tactic(auto, using(micromap_core::proofs::MapLaws::map_laws))]
+fn rename<const N: usize>(map: &mut Map<String, String, N>, from: &str, to: String) -> bool
+    ensures answer { result ≡ is_some (at_matched string_eq (is_text from.now) map.old) }
+    ensures pairs { map.new ≡ option_map_or (λ v. put string_eq (take_out_matched string_eq (is_text from.now) map.old) to v) (at_matched string_eq (is_text from.now) map.old) map.old }
+{
+    match map.remove_by(&Text(from)) {
+        Some(value) => {
+            map.insert(to, value);
+            true
+        }
+        None => false,
+    }
+}
+
+// Two puts, and a look-up of the first key.
+#[tactic(auto, using(micromap_core::proofs::MapLaws::map_laws))]
+fn put_two(map: &mut Map<u8, u8, 8>, a: u8, b: u8) -> Option<u8>
+    requires { length map.old ≤ 6 }
+    ensures { result ≡ (if nat_eq b a then Some 2 else Some 1) }
+{
+    map.insert(a, 1);
+    map.insert(b, 2);
+    map.get(&a).copied()
+}
+
+// Puts at one key and reads another.
+#[tactic(auto, using(micromap_core::proofs::MapLaws::map_laws))]
+fn put_then_read(map: &mut Map<String, u8, 8>, a: String, b: &String) -> Option<u8>
+    requires { IsTrue (fits string_eq 8 map.old a) }
+    ensures { result ≡ (if string_eq b.now a then Some 1 else at string_eq map.old b.now) }
+{
+    map.insert(a, 1);
+    map.get(b).copied()
+}
+
+// Puts and reads at keys that are equal by their id.
+#[tactic(auto, using(micromap_core::proofs::MapLaws::on_laws))]
+fn put_marked(map: &mut Map<Marked, u8, 8>, a: Marked, b: &Marked) -> Option<u8>
+    requires { IsTrue (fits (on (λ k. k.id) nat_eq) 8 map.old a) }
+    ensures { result ≡ (if nat_eq a.id b.now.id then Some 1 else at (on (λ k. k.id) nat_eq) map.old b.now) }
+{
+    map.insert(a, 1);
+    map.get(b).copied()
+}
+
+// Puts and reads at keys of any type.
+#[tactic(auto, using(micromap_core::proofs::MapLaws::bound_laws))]
+fn put_any<K: Eq + Drop>(map: &mut Map<K, u8, 8>, a: K, b: &K) -> Option<u8>
+    requires { IsTrue (fits K.eq 8 map.old a) }
+    ensures { result ≡ (if K.eq a b.now then Some 1 else at K.eq map.old b.now) }
+{
+    map.insert(a, 1);
+    map.get(b).copied()
+}
+
+// Takes a name out, which isn't found any more.
+#[tactic(auto, using(micromap_core::proofs::MapLaws::map_laws))]
+fn take_then_read<const N: usize>(map: &mut Map<String, u8, N>, name: &str) -> Option<u8>
+    ensures { result ≡ None }
+{
+    map.remove_by(&Text(name));
+    map.get_by(&Text(name)).copied()
+}
+
+// Sets the value of a name that is given as text, and answers whether there was room for it.
+#[tactic(auto, using(micromap_core::proofs::TextViews::text_views))]
+fn set_named<const N: usize>(
+    map: &mut Map<String, u8, N>,
+    alloc: Global,
+    name: &str,
+    value: u8,
+) -> Result<bool, AllocError>
+    ensures answer { IfOk result (λ fit. fit ≡ fits same_text N (key_texts map.old) name.now) }
+    ensures texts { IfOk result (λ fit. key_texts map.new ≡ (if fit then put same_text (key_texts map.old) name.now value else key_texts map.old)) }
+{
+    let name = String::from_str(alloc, name)?;
+    Ok(map.checked_insert(name, value).is_some())
+}
+
+// The value of a name.
+#[tactic(auto, using(micromap_core::proofs::TextViews::text_views))]
+fn value_of<const N: usize>(map: &Map<String, u8, N>, name: &str) -> Option<u8>
+    ensures { result ≡ at same_text (key_texts map.now) name.now }
+{
+    map.get_by(&Text(name)).copied()
+}
+
+// Takes a name out, and answers whether it was there.
+#[tactic(auto, using(micromap_core::proofs::TextViews::text_views))]
+fn forget<const N: usize>(map: &mut Map<String, String, N>, name: &str) -> bool
+    ensures answer { result ≡ has same_text (texts map.old) name.now }
+    ensures texts { texts map.new ≡ take_out same_text (texts map.old) name.now }
+{
+    map.remove_by(&Text(name)).is_some()
+}
+
+// Adds a word that is given as text, and answers whether there was room for it.
+#[tactic(auto, using(micromap::proofs::SetTextViews::set_text_views))]
+fn note<const N: usize>(
+    words: &mut Set<String, N>,
+    alloc: Global,
+    word: &str,
+) -> Result<bool, AllocError>
+    ensures answer { IfOk result (λ fit. fit ≡ item_fits same_text N (item_texts words.old) word.now) }
+    ensures texts { IfOk result (λ fit. item_texts words.new ≡ (if fit then add same_text (item_texts words.old) word.now else item_texts words.old)) }
+{
+    let word = String::from_str(alloc, word)?;
+    if !words.fits(&word) {
+        return Ok(false);
+    }
+    words.insert(word);
+    Ok(true)
+}
+
+// Takes a word out, and answers whether it was there.
+#[tactic(auto, using(micromap::proofs::SetTextViews::set_text_views))]
+fn unnote<const N: usize>(words: &mut Set<String, N>, word: &str) -> bool
+    ensures answer { result ≡ contains same_text (item_texts words.old) word.now }
+    ensures texts { item_texts words.new ≡ take_item same_text (item_texts words.old) word.now }
+{
+    let was_there = words.contains_by(&Text(word));
+    words.take_by(&Text(word));
+    was_there
+}

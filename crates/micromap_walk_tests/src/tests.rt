@@ -1,0 +1,4 @@
+//! What no contract says, a module for each subject.
+
+mod dropped;
+mod walks;
