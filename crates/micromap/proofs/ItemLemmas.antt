@@ -1,28 +1,19 @@
 -- A set's items are the keys of its map's pairs: what each word on pairs says of the keys.
-use Rattle.std.proofs.Common.{◌≡◌, ℕ, ◌||◌, nat_lt, Bool, true, false, List, [], ◌∷◌, ◌++◌, length, reverse, Option, Some, None, is_some, if◌then◌else◌, refl, ap, sym, ◌∙◌, arith}
+use Rattle.std.proofs.Common.{◌≡◌, ℕ, ◌||◌, nat_lt, Bool, true, false, List, [], ◌∷◌, ◌++◌, length, Option, Some, None, is_some, if◌then◌else◌, refl, ap, sym, ◌∙◌, arith}
 use Rattle.std.specs.List.{AllZip, find, list_any}
-use Rattle.std.specs.Map.{keys_of, lookup, lookup_entry, lookup_key, set_value, set_key}
+use Rattle.std.specs.Map.{keys_of, lookup, lookup_entry, lookup_key, remove_entry, set_value, set_key}
 use Rattle.std.specs.Option.{option_map, option_map_or}
+use Rattle.std.specs.Set.{remove_key}
 use Rattle.std.proofs.Math.Bool.{or-true}
 use Rattle.std.proofs.lemmas.Bool.{false≢true}
-use Rattle.std.proofs.lemmas.List.{map_push, reverse-append, length-map}
+use Rattle.std.proofs.lemmas.List.{map_push, length-map}
 use Rattle.micromap_core.specs.Clones.{IsPairClone}
-use Rattle.micromap_core.specs.Pairs.{fits, has, pair, put, put_key, take_out, take_out_by, close_gap}
+use Rattle.micromap_core.specs.Pairs.{fits, has, pair, put, put_key, take_out}
 use Rattle.micromap_core.specs.Probe.{pair_matched, take_out_matched}
-use Rattle.micromap_core.proofs.Lists.{map-close_gap}
 use Rattle.micromap_core.proofs.PairsLemmas.{keys_of-put_stored, keys_of-put_new}
-use Rattle.micromap.specs.Items.{add, contains, exchange, item, item_fits, item_matched, take_item, take_item_by, take_item_matched}
+use Rattle.micromap.specs.Items.{add, contains, exchange, item, item_fits, item_matched, take_item, take_item_matched}
 
 module _ {T V : Type 0} where
-  pub close_gap-keys : (pairs : List (T × V)) → close_gap (keys_of pairs) ≡ keys_of (close_gap pairs)
-  close_gap-keys pairs = sym (map-close_gap (λ p. p.0) pairs)
-
-  pub reverse-keys : (pairs : List (T × V)) → reverse (keys_of pairs) ≡ keys_of (reverse pairs)
-  reverse-keys [] = refl
-  reverse-keys (e ∷ es) =
-      reverse-append (e.0 ∷ []) (keys_of es) ∙ ap (λ l. l ++ e.0 ∷ []) (reverse-keys es)
-      ∙ sym (ap keys_of (reverse-append (e ∷ []) es) ∙ map_push (λ (p : T × V). p.0) (reverse es) e)
-
   module _ (test : T → Bool) where
     pub find-keys : (pairs : List (T × V)) → find test (keys_of pairs) ≡ option_map (λ p. p.0) (lookup_entry test pairs)
     find-keys [] = refl
@@ -40,10 +31,9 @@ module _ {T V : Type 0} where
     any-keys [] = refl
     any-keys (e ∷ es) = grind (arith, any-keys es)
 
-    pub take-keys : (pairs : List (T × V)) → take_item_by test (keys_of pairs) ≡ keys_of (take_out_by test pairs)
-    unfolding take_item_by take_out_by
+    pub take-keys : (pairs : List (T × V)) → remove_key test (keys_of pairs) ≡ keys_of (remove_entry test pairs)
     take-keys [] = refl
-    take-keys (e ∷ es) = grind (arith, take-keys es, close_gap-keys es)
+    take-keys (e ∷ es) = grind (arith, take-keys es)
 
   pub take_item-keys : (eq : T → T → Bool) (pairs : List (T × V)) (k : T) → take_item eq (keys_of pairs) k ≡ keys_of (take_out eq pairs k)
   unfolding take_item take_out

@@ -14,6 +14,7 @@ pub mod SetTextViews
 pub use Rattle.micromap_core.proofs.ClosureLemmas
 pub use Rattle.micromap_core.proofs.FairLemmas
 pub use Rattle.micromap_core.proofs.Equalities
+pub use Rattle.micromap_core.proofs.Laws
 pub use Rattle.micromap_core.proofs.MapLaws
 pub use Rattle.micromap_core.proofs.MisfitLemmas
 pub use Rattle.micromap_core.proofs.TextLemmas

@@ -2,10 +2,11 @@
 -- law is named for what reads and for the word. What reads is a test of the items (`any`, whether one passes, and
 -- `find`, the first that does), an item of one's own (`contains`, `item`, `fits`), the number of items (`length`), and
 -- that they are pairwise unequal (`unique`). The ruleset at the end has what a search needs of them.
-use Rattle.std.proofs.Common.{◌≡◌, ℕ, ◌+◌, ◌<◌, ◌≤◌, ◌||◌, ◌&&◌, not, nat_lt, Bool, true, false, List, [], ◌∷◌, ◌++◌, length, map, Option, Some, None, is_some, if◌then◌else◌, refl, ap, sym, subst, ◌∙◌, arith}
+use Rattle.std.proofs.Common.{◌≡◌, ℕ, ◌+◌, ◌<◌, ◌≤◌, ◌||◌, ◌&&◌, not, nat_lt, Bool, true, false, List, [], ◌∷◌, ◌++◌, filter, length, map, Option, Some, None, is_some, if◌then◌else◌, refl, ap, sym, subst, ◌∙◌, arith}
 use Rattle.std.specs.List.{IsDistinct, find, list_any}
 use Rattle.std.specs.Map.{keys_of, lookup, lookup_entry}
 use Rattle.std.specs.Option.{option_map, option_map_or, unwrap_or}
+use Rattle.std.specs.Set.{remove_key}
 use Rattle.std.proofs.lemmas.Bool.{lt-ltb}
 use Rattle.std.proofs.lemmas.Map.Entries.{length-keys_of}
 use Rattle.std.proofs.Math.Bool.{or-true}
@@ -15,9 +16,9 @@ use Rattle.micromap_core.specs.Probe.{take_out_matched}
 use Rattle.micromap_core.proofs.Equalities.{equalities, of_lawful, of_probes, probes_key}
 use Rattle.micromap_core.proofs.Lists.{none_is}
 use Rattle.micromap_core.proofs.MapLawLemmas.{some_if, some_unless}
-use Rattle.micromap_core.proofs.MapLaws.{lookup_put, lookup_put_key, lookup_take_out, pair_put, pair_put_key, pair_take_out, pair_matched_found, length_put, length_put_key, length_take_out, length_take_out_matched, unique_put, unique_put_key, unique_take_out, take_out_missing, take_out_matched_missing, lookup_matched}
+use Rattle.micromap_core.proofs.MapLaws.{lookup_put, lookup_put_key, lookup_take_out, pair_put, pair_put_key, pair_take_out, pair_matched_found, length_put, length_put_key, length_take_out, length_take_out_matched, unique_put, unique_put_key, unique_take_out, take_out_missing, take_out_matched_missing, lookup_matched, keys_take_out, keys_take_out_matched}
 use Rattle.micromap_core.proofs.ProbeLemmas.{take_out_matched_is}
-use Rattle.micromap.specs.Items.{add, contains, exchange, item, item_fits, item_matched, take_item, take_item_by, take_item_matched}
+use Rattle.micromap.specs.Items.{add, contains, exchange, item, item_fits, item_matched, take_item, take_item_matched}
 use Rattle.micromap.proofs.ItemLemmas.{add-keys, any-keys, exchange-keys, find-keys, item_matched-keys, take-keys, take_item-keys, take_item_matched-keys}
 
 -- the pairs whose keys the items are
@@ -120,6 +121,11 @@ module _ {T : Type 0} (eq : T → T → Bool) (items : List T) (x : T) where
   pub unique_exchange : Lawful eq → IsDistinct eq items → IsDistinct eq (exchange eq items x)
   unique_exchange laws distinct = subst (IsDistinct eq) (sym (paired-exchange eq items x)) (unique_put_key eq (paired items) x tt laws (paired-unique eq items distinct))
 
+  -- the items that a removal leaves stand in the order that they had
+  pub items_take_item : Lawful eq → IsDistinct eq items → take_item eq items x ≡ filter (λ y. not (eq x y)) items
+  items_take_item laws distinct =
+      paired-take_item eq items x ∙ keys_take_out eq (paired items) x laws (paired-unique eq items distinct) ∙ ap (filter (λ y. not (eq x y))) (keys-paired items)
+
   pub unique_take_item : Lawful eq → IsDistinct eq items → IsDistinct eq (take_item eq items x)
   unique_take_item laws distinct = subst (IsDistinct eq) (sym (paired-take_item eq items x)) (unique_take_out eq (paired items) x laws (paired-unique eq items distinct))
 
@@ -205,18 +211,22 @@ module _ {T : Type 0} (eq : T → T → Bool) (test : T → Bool) (items : List 
       ap (item_matched eq test) (sym (keys-paired items)) ∙ item_matched-keys eq test (paired items)
       ∙ ap (option_map (λ e. e.0)) (pair_matched_found eq test (paired items) probes) ∙ sym (find-paired test items)
 
-  pub take_item_matched_by : Probes eq test → take_item_matched eq test items ≡ take_item_by test items
+  pub take_item_matched_by : Probes eq test → take_item_matched eq test items ≡ remove_key test items
   take_item_matched_by probes =
       let p = of_probes eq test probes in
-      paired-matched ∙ ap keys_of (take_out_matched_is eq test p.alike_keys p.equal_keys (paired items)) ∙ sym (take-keys test (paired items)) ∙ ap (take_item_by test) (keys-paired items)
+      paired-matched ∙ ap keys_of (take_out_matched_is eq test p.alike_keys p.equal_keys (paired items)) ∙ sym (take-keys test (paired items)) ∙ ap (remove_key test) (keys-paired items)
 
   pub take_item_matched_missing : Probes eq test → list_any test items ≡ false → take_item_matched eq test items ≡ items
   take_item_matched_missing probes none =
       paired-matched ∙ ap keys_of (take_out_matched_missing eq test (paired items) probes (lookup_matched eq test (paired items) probes ∙ none_is _ (sym (any-paired test items) ∙ none))) ∙ keys-paired items
+
+  pub items_take_item_matched : Probes eq test → IsDistinct eq items → take_item_matched eq test items ≡ filter (λ y. not (test y)) items
+  items_take_item_matched probes distinct =
+      paired-matched ∙ keys_take_out_matched eq test (paired items) probes (paired-unique eq items distinct) ∙ ap (filter (λ y. not (test y))) (keys-paired items)
 
   pub length_take_item_matched : Probes eq test → length (take_item_matched eq test items) + (if list_any test items then 1 else 0) ≡ length items
   length_take_item_matched probes =
       (λ i. (ap length paired-matched ∙ length-keys_of _) i + (if (any-paired test items ∙ ap is_some (sym (lookup_matched eq test (paired items) probes))) i then 1 else 0))
       ∙ length_take_out_matched eq test (paired items) probes ∙ length-paired items
 
-pub ruleset set_laws = (any_add, any_exchange, any_take_item, find_add, find_exchange, find_take_item, length_add, length_exchange, length_take_item, unique_add, unique_exchange, unique_take_item, add_back, take_item_missing, item_matched_found, take_item_matched_missing, length_take_item_matched, equalities)
+pub ruleset set_laws = (any_add, any_exchange, any_take_item, find_add, find_exchange, find_take_item, length_add, length_exchange, length_take_item, items_take_item, unique_add, unique_exchange, unique_take_item, add_back, take_item_missing, item_matched_found, take_item_matched_missing, length_take_item_matched, items_take_item_matched, equalities)

@@ -1,14 +1,13 @@
 -- For callers: what the words on a set's items are on the texts of the items, which are known by their bytes.
 use Rattle.std.proofs.Common.{◌≡◌, ℕ, Bool, true, false, ◌||◌, List, [], ◌∷◌, ◌++◌, length, map, String, if◌then◌else◌, refl, ap, sym, ◌∙◌, string_bytes}
 use Rattle.std.specs.List.{AllByRecursion, IsDistinct, list_any}
+use Rattle.std.specs.Set.{remove_key}
 use Rattle.std.specs.String.{string_eq}
 use Rattle.std.proofs.lemmas.List.{length-map, map-append}
-use Rattle.micromap_core.specs.Pairs.{close_gap}
 use Rattle.micromap_core.specs.Probe.{is_text}
 use Rattle.micromap_core.specs.Texts.{item_texts, same_text}
 use Rattle.micromap_core.proofs.Equalities.{probes_text}
-use Rattle.micromap_core.proofs.Lists.{map-close_gap}
-use Rattle.micromap.specs.Items.{add, contains, exchange, take_item, take_item_by, take_item_matched}
+use Rattle.micromap.specs.Items.{add, contains, exchange, take_item, take_item_matched}
 use Rattle.micromap.proofs.SetLaws.{take_item_matched_by}
 
 module _ {Z : Type 0} where
@@ -16,13 +15,12 @@ module _ {Z : Type 0} where
   apart-texts x [] apart = tt
   apart-texts x (y ∷ items) apart = (apart.0, apart-texts x items apart.1)
 
-  taken-texts : (bs : List ℕ) (items : List (String Z)) → map string_bytes (take_item_by (is_text bs) items) ≡ take_item_by (same_text bs) (map string_bytes items)
-  unfolding take_item_by
+  taken-texts : (bs : List ℕ) (items : List (String Z)) → map string_bytes (remove_key (is_text bs) items) ≡ remove_key (same_text bs) (map string_bytes items)
   taken-texts bs [] = refl
   taken-texts bs (y ∷ items) = by (is_text bs y) (taken-texts bs items)
     where
-      by : (b : Bool) → map string_bytes (take_item_by (is_text bs) items) ≡ take_item_by (same_text bs) (map string_bytes items) → map string_bytes (if b then close_gap items else y ∷ take_item_by (is_text bs) items) ≡ (if b then close_gap (map string_bytes items) else string_bytes y ∷ take_item_by (same_text bs) (map string_bytes items))
-      by true rest = map-close_gap string_bytes items
+      by : (b : Bool) → map string_bytes (remove_key (is_text bs) items) ≡ remove_key (same_text bs) (map string_bytes items) → map string_bytes (if b then items else y ∷ remove_key (is_text bs) items) ≡ (if b then map string_bytes items else string_bytes y ∷ remove_key (same_text bs) (map string_bytes items))
+      by true rest = refl
       by false rest = ap (λ l. string_bytes y ∷ l) rest
 
   pub contains_item_texts : (items : List (String Z)) (bs : List ℕ) → contains same_text (item_texts items) bs ≡ list_any (is_text bs) items

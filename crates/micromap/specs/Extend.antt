@@ -2,7 +2,7 @@
 use Rattle.std.specs.Prelude.{ℕ, Bool, List, [], Option}
 use Rattle.std.specs.List.{fold}
 use Rattle.std.specs.Set.{distinct_count}
-use Rattle.micromap_core.specs.Build.{each_fits, StopsAt, PutsAll, PutsUpTo, BuildsAll, BuildsUpTo}
+use Rattle.micromap_core.specs.Build.{each_fits, StopsAt, BuildsAll, BuildsUpTo}
 use Rattle.micromap.specs.Items.{add, item_fits}
 
 module _ {T : Type 0} (eq : T → T → Bool) where
@@ -23,14 +23,6 @@ module _ {T : Type 0} (eq : T → T → Bool) where
   ItemMisfitIn N = StopsAt (item_fits eq N) (add eq)
 
   module _ {S : Type 0} (steps : S → Option T → S → Type 0) (N : ℕ) where
-    -- the set has all that the iterator gave
-    abbrev pub ExtendsAll : List T → S → List T → Type 0
-    ExtendsAll = PutsAll (item_fits eq N) (add eq) steps
-
-    -- the set has what came before the first item that didn't fit
-    abbrev pub ExtendsUpTo : List T → S → ℕ → List T → Type 0
-    ExtendsUpTo = PutsUpTo (item_fits eq N) (add eq) steps
-
     -- a new set has all that the iterator gave
     abbrev pub ItemsBuiltFrom : S → List T → Type 0
     ItemsBuiltFrom = BuildsAll (item_fits eq N) (add eq) steps (distinct_count eq) N []

@@ -1,20 +1,15 @@
 -- A set's content as the list of its items, from front to end, and what one insertion or removal makes of it. Items
 -- are compared by eq, which need not be identity; N is the capacity.
-use Rattle.std.specs.Prelude.{◌≡◌, ℕ, ◌≤◌, Bool, ◌||◌, List, [], ◌∷◌, ◌++◌, length, Option, None, if◌then◌else◌, nat_lt}
+use Rattle.std.specs.Prelude.{ℕ, ◌≤◌, Bool, ◌||◌, List, [], ◌∷◌, ◌++◌, length, Option, None, if◌then◌else◌, nat_lt}
 use Rattle.std.specs.Borrow.{Bor}
 use Rattle.std.specs.Fn.{Mut, CalledAt, TakesAt}
 use Rattle.std.specs.Option.{option_map_or}
 use Rattle.std.specs.List.{IsDistinct, find, list_any}
+use Rattle.std.specs.Set.{remove_key}
+use Rattle.micromap_core.specs.Closures.{AtEachTurn}
 use Rattle.micromap_core.specs.Equalities.{Lawful}
-use Rattle.micromap_core.specs.Pairs.{close_gap}
-use Rattle.micromap_core.specs.Retain.{AtEachVisit, WalkKeeps}
 
 module _ {T : Type 0} where
-  -- without the first item that passes the test: the last item moves into the gap
-  unfoldable pub take_item_by : (T → Bool) → List T → List T
-  take_item_by test [] = []
-  take_item_by test (x ∷ xs) = if test x then close_gap xs else x ∷ take_item_by test xs
-
   module _ (eq : T → T → Bool) where
     -- what a set of capacity N may hold: no two items are equal
     pub record IsItems (N : ℕ) (items : List T) : Type 0 where
@@ -43,9 +38,9 @@ module _ {T : Type 0} where
     exchange [] x = x ∷ []
     exchange (y ∷ ys) x = if eq x y then x ∷ ys else y ∷ exchange ys x
 
-    -- without the item that equals x
+    -- without the item that equals x; the others keep their order
     unfoldable pub take_item : List T → T → List T
-    take_item items x = take_item_by (eq x) items
+    take_item items x = remove_key (eq x) items
 
   -- what a call by probe finds, where a probe is seen as the test of the items that it matches: each call does what
   -- the plain call does at the one stored item that matches
@@ -62,15 +57,6 @@ module _ {T : Type 0} where
     unfoldable pub take_item_matched : List T → List T
     take_item_matched items = option_map_or (take_item eq items) (find test items) items
 
-module _ {F T : Type 0} (g : Mut F (Bor T × Unit {0}) Bool) where
-  -- a call of f at a `&` to x may answer b, and leave f' for f; the item stays
-  abbrev pub VisitsItem : F → T → Bool → T → F → Type 0
-  VisitsItem f x b y f' = CalledAt g f x b f' × (y ≡ x)
-
-  -- f may be called at each item that it visits
-  abbrev pub MayRetainItems : F → List T → Type 0
-  MayRetainItems f items = AtEachVisit VisitsItem f items (TakesAt g)
-
-  -- f can keep these of the items
-  abbrev pub RetainsItems : F → List T → List T → Type 0
-  RetainsItems f items kept = WalkKeeps VisitsItem f items kept
+-- f may be called at each item in turn
+abbrev pub MayRetainItems : {F T : Type 0} → Mut F (Bor T × Unit {0}) Bool → F → List T → Type 0
+MayRetainItems g f items = AtEachTurn (λ s x t. (b : Bool) × CalledAt g s x b t) f items (TakesAt g)

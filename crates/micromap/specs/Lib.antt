@@ -15,9 +15,9 @@ pub use Rattle.micromap_core.specs.Pairs
 pub use Rattle.micromap_core.specs.Print
 pub use Rattle.micromap_core.specs.Probe
 pub use Rattle.micromap_core.specs.ProbeLaws
-pub use Rattle.micromap_core.specs.Retain
 pub use Rattle.micromap_core.specs.Same
 pub use Rattle.micromap_core.specs.SameLaws
 pub use Rattle.micromap_core.specs.Steps
 pub use Rattle.micromap_core.specs.Stream
+pub use Rattle.micromap_core.specs.Sublist
 pub use Rattle.micromap_core.specs.Texts

@@ -3,6 +3,7 @@ ghost use Rattle.std.specs.Prelude.{◌≡◌, ◌==◌, [], length, Some, IsTru
 ghost use Rattle.std.specs.Option.{option_copied};
 ghost use Rattle.micromap.specs.Items.{IsItems, item, contains, item_fits};
 
+mod capacity;
 mod change;
 mod clone;
 mod compare;

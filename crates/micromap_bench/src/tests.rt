@@ -1,4 +1,6 @@
 //! What no contract says: values from outside, that a run comes through, and that a failed write ends it.
+mod capacity;
+
 use super::report::write_report;
 use super::rows::NUMBERS;
 use super::{Call, lockstep, run_rows};

@@ -1,40 +1,36 @@
--- What a call with a closure that stays as it was makes of the pairs, as a plain list: for a caller of `retain`,
--- `update_all` or `update_disjoint`.
-use Rattle.std.proofs.Common.{◌≡◌, ℕ, Bool, true, false, List, [], ◌∷◌, ◌++◌, length, map, Option, Some, None, MatchOption, refl, ap, sym, subst, ◌∙◌}
+-- For callers: the order of the keys after `retain`, and the plain list that comes of `update_all` or `update_disjoint`
+-- with a closure that stays as it was.
+use Rattle.std.proofs.Common.{◌≡◌, ℕ, suc, Bool, true, false, cond, List, [], ◌∷◌, ◌++◌, map, Option, Some, None, MatchOption, refl, ap, subst, ◌∙◌}
 use Rattle.std.specs.Borrow.{Bor, MutBor}
 use Rattle.std.specs.Fn.{Mut}
-use Rattle.std.specs.List.{enumerate_from, fold}
+use Rattle.std.specs.List.{enumerate_from, fold, items_where_true}
+use Rattle.std.specs.List.Retain.{IsFiltered}
+use Rattle.std.specs.Map.{keys_of}
+use Rattle.std.specs.Map.Calls.{RetainsPairs}
 use Rattle.std.specs.Option.{option_map_or}
 use Rattle.std.proofs.lemmas.Fn.{chained_keeps}
-use Rattle.std.proofs.lemmas.List.{append_assoc, append-nil, map_push}
+use Rattle.std.proofs.lemmas.List.{map_push}
 use Rattle.std.proofs.lemmas.List.Sums.{fold-append}
-use Rattle.micromap_core.specs.Closures.{CalledOnPair, CalledOnValue, UpdateAllTurn, UpdateDisjointTurn, UpdatesAll, UpdatesDisjoint, VisitsPair, updated_disjoint, written_by}
+use Rattle.micromap_core.specs.Closures.{CalledOnPair, CalledOnValue, UpdateAllTurn, UpdateDisjointTurn, UpdatesAll, UpdatesDisjoint, updated_disjoint, written_by}
 use Rattle.micromap_core.specs.Pairs.{at, put}
-use Rattle.micromap_core.specs.Retain.{WalkKeeps, Retains, Walks, begins, keeps, drops, sift, retained}
-use Rattle.micromap_core.proofs.Lists.{length-close_gap}
-pub use Rattle.micromap_core.proofs.Lists.{close_gap-append}
+use Rattle.micromap_core.specs.Sublist.{IsSublist}
 
-module _ {F X : Type 0} (T : F → X → Bool → X → F → Type 0) (test : X → Bool) (f : F) (pure : (x : X) (b : Bool) (y : X) (t : F) → T f x b y t → (b ≡ test x) × (y ≡ x) × (t ≡ f)) (xs : List X) where
-  -- the closure is as it was, and with what is still kept of the queue the list is whole
-  sifted : (s : F) (queue kept : List X) → Walks T f xs s queue kept → (s ≡ f) × (kept ++ sift test (length queue) queue ≡ retained test xs)
-  sifted _ _ _ begins = (refl, refl)
-  sifted _ _ _ (keeps s t x y rest kept walk called) =
-      let before = sifted s (x ∷ rest) kept walk in
-      let said = pure x true y t (subst (λ u. T u x true y t) before.0 called) in
-      (said.2, rw (append_assoc, said.1) (rw (← said.0) at before.1))
-  sifted _ _ _ (drops s t x y rest kept walk called) =
-      let before = sifted s (x ∷ rest) kept walk in
-      let said = pure x false y t (subst (λ u. T u x false y t) before.0 called) in
-      (said.2, rw (length-close_gap rest) (rw (← said.0) at before.1))
+-- the keys that `retain` leaves are those at which the closure answered `true`, in the order that they had; R says what a
+-- call makes of a key alone, and of what is looked at of the closure
+pub retained_keys : {F G K V : Type 0} {T : F → K → V → Bool → V → F → Type 0} (R : G → K → Bool → G → Type 0) (look : F → G) (says : (s : F) (k : K) (v : V) (b : Bool) (w : V) (t : F) → T s k v b w t → R (look s) k b (look t)) (f : F) (pairs kept : List (K × V)) → RetainsPairs T f pairs kept → IsFiltered R (look f) (keys_of pairs) (keys_of kept)
+retained_keys R look says f [] kept retains = ([], look f, refl, refl, ap keys_of retains)
+retained_keys {K = K} {V = V} R look says f (e ∷ es) kept retains =
+    let later = retained_keys R look says retains.2 es retains.3 retains.5 in
+    (retains.0 ∷ later.0, later.1, ap suc later.2, (look retains.2, says f e.0 e.1 retains.0 retains.1 retains.2 retains.4, later.3), ap keys_of retains.6 ∙ by retains.0 retains.1 retains.3 later.0 later.4)
+  where
+    by : (b : Bool) (w : V) (rest : List (K × V)) (picks : List Bool) → keys_of rest ≡ items_where_true picks (keys_of es) → keys_of (cond b ((e.0, w) ∷ rest) rest) ≡ items_where_true (b ∷ picks) (e.0 ∷ keys_of es)
+    by true w rest picks picked = ap (λ l. e.0 ∷ l) picked
+    by false w rest picks picked = picked
 
-  -- a walk by a test that changes nothing
-  pub walked_by : (kept : List X) → WalkKeeps T f xs kept → kept ≡ retained test xs
-  walked_by kept ends = sym (append-nil kept) ∙ (sifted ends.last [] kept ends.walk).1
-
--- `retain` by a test that changes nothing
-pub retained_by : {F K V : Type 0} {g : Mut F (Bor K × (MutBor V × Unit {0})) (Bool × (MutBor V × Unit {0}))} {f : F} {pairs kept : List (K × V)} (test : K × V → Bool) → Retains g f pairs kept → ((k : K) (v : V) (b : Bool) (w : V) (t : F) → CalledOnPair g f k v b w t → (b ≡ test (k, v)) × (w ≡ v) × (t ≡ f)) → kept ≡ retained test pairs
-retained_by {g = g} {f = f} {pairs = pairs} {kept = kept} test retains pure =
-    walked_by (VisitsPair g) test f (λ p b q t said. let is = pure p.0 p.1 b q.1 t said.0 in (is.0, λ i. (said.1 i, is.1 i), is.2)) pairs kept retains
+pub keys_in_order : {F K V : Type 0} (T : F → K → V → Bool → V → F → Type 0) (f : F) (pairs kept : List (K × V)) → RetainsPairs T f pairs kept → IsSublist (keys_of kept) (keys_of pairs)
+keys_in_order T f pairs kept retains =
+    let is = retained_keys (λ s k b t. Unit {0}) (λ s. s) (λ s k v b w t called. tt {0}) f pairs kept retains in
+    (is.0, is.4)
 
 -- `update_all` by a function of key and value
 pub updated_by : {F K V R : Type 0} {g : Mut F (Bor K × (MutBor V × Unit {0})) (R × (MutBor V × Unit {0}))} {f : F} {pairs new : List (K × V)} (h : K → V → V) → UpdatesAll g f pairs new → ((k : K) (v : V) (r : R) (w : V) (t : F) → CalledOnPair g f k v r w t → (w ≡ h k v) × (t ≡ f)) → new ≡ map (λ p. (p.0, h p.0 p.1)) pairs

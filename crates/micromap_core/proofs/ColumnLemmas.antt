@@ -1,11 +1,13 @@
 -- Facts about two columns of one length, and the pairs that they are.
-use Rattle.std.proofs.Common.{◌≡◌, ℕ, zero, suc, ◌-◌, ◌<◌, List, [], ◌∷◌, ◌++◌, All, length, drop, take, Option, Some, None, slice_get, slice_set, slice_index_or, refl, ap, sym, ◌∙◌, arith}
+use Rattle.std.proofs.Common.{◌≡◌, ℕ, zero, suc, ◌<◌, List, [], ◌∷◌, ◌++◌, All, length, take, Option, Some, None, slice_get, slice_set, slice_index_or, refl, ap, sym, ◌∙◌, arith}
 use Rattle.std.specs.Option.{option_map, option_map_or}
-use Rattle.std.specs.List.{zip, AllZip}
+use Rattle.std.specs.List.{remove, swap, zip, AllZip}
+use Rattle.std.specs.Map.{keys_of, values_of}
 use Rattle.std.proofs.lemmas.Grind.{common_steps}
-use Rattle.micromap_walk.proofs.ZipLemmas.{length_zip, zip_append}
+use Rattle.micromap_walk.proofs.ZipLemmas.{keys_zip, length_zip, values_zip}
 use Rattle.micromap_core.specs.Clones.{IsPairClone}
-use Rattle.micromap_core.specs.Pairs.{close_gap, with_value_at, without_at}
+use Rattle.micromap_core.specs.Pairs.{with_value_at}
+use Rattle.micromap_core.proofs.Lists.{map-swap}
 
 module _ {K V : Type 0} where
   -- there are as many keys as pairs
@@ -25,31 +27,30 @@ module _ {K V : Type 0} where
   set_zip (a ∷ ks) (b ∷ vs) zero k v same = refl
   set_zip (a ∷ ks) (b ∷ vs) (suc i) k v same = ap (λ l. (a, b) ∷ l) (set_zip ks vs i k v (omega (arith, same)))
 
-  zip_take : (n : ℕ) (ks : List K) (vs : List V) → zip (take n ks) (take n vs) ≡ take n (zip ks vs)
+  zip_columns : (pairs : List (K × V)) → zip (keys_of pairs) (values_of pairs) ≡ pairs
+  zip_columns [] = refl
+  zip_columns (p ∷ pairs) = ap (λ l. p ∷ l) (zip_columns pairs)
+
+  -- each of two pairs in the other's place
+  pub zip_swap : (ks : List K) (vs : List V) (i j : ℕ) → length ks ≡ length vs → zip (swap ks i j) (swap vs i j) ≡ swap (zip ks vs) i j
+  zip_swap ks vs i j same =
+      (λ z. zip (swap (sym (keys_zip ks vs same) z) i j) (swap (sym (values_zip ks vs same) z) i j))
+      ∙ (λ z. zip (sym (map-swap (λ p. p.0) (zip ks vs) i j) z) (sym (map-swap (λ p. p.1) (zip ks vs) i j) z)) ∙ zip_columns (swap (zip ks vs) i j)
+
+  -- the first pairs
+  pub zip_take : (n : ℕ) (ks : List K) (vs : List V) → zip (take n ks) (take n vs) ≡ take n (zip ks vs)
   zip_take zero ks vs = refl
   zip_take (suc n) [] vs = refl
   zip_take (suc n) (k ∷ ks) [] = refl
   zip_take (suc n) (k ∷ ks) (v ∷ vs) = ap (λ l. (k, v) ∷ l) (zip_take n ks vs)
 
-  zip_drop : (n : ℕ) (ks : List K) (vs : List V) → length ks ≡ length vs → zip (drop n ks) (drop n vs) ≡ drop n (zip ks vs)
-  zip_drop zero ks vs same = refl
-  zip_drop (suc n) [] vs same = refl
-  zip_drop (suc n) (k ∷ ks) [] same = absurd (omega (arith, same))
-  zip_drop (suc n) (k ∷ ks) (v ∷ vs) same = zip_drop n ks vs (omega (arith, same))
-
-  zip_close_gap : (ks : List K) (vs : List V) → length ks ≡ length vs → zip (close_gap ks) (close_gap vs) ≡ close_gap (zip ks vs)
-  zip_close_gap ks vs same =
-      rw (← same, length_zip ks vs same) (zip_append (drop (length ks - 1) ks) (take (length ks - 1) ks) (drop (length ks - 1) vs) (take (length ks - 1) vs) (grind (arith, common_steps, same))
-      ∙ ap (λ l. l ++ zip (take (length ks - 1) ks) (take (length ks - 1) vs)) (zip_drop (length ks - 1) ks vs same)
-      ∙ ap (λ l. drop (length ks - 1) (zip ks vs) ++ l) (zip_take (length ks - 1) ks vs))
-
   -- without the pair at an index
-  pub zip_without_at : (ks : List K) (vs : List V) (i : ℕ) → length ks ≡ length vs → zip (without_at ks i) (without_at vs i) ≡ without_at (zip ks vs) i
-  unfolding without_at
-  zip_without_at ks vs i same =
-      zip_append (take i ks) (close_gap (drop (suc i) ks)) (take i vs) (close_gap (drop (suc i) vs)) (grind (arith, common_steps, same))
-      ∙ ap (λ l. l ++ zip (close_gap (drop (suc i) ks)) (close_gap (drop (suc i) vs))) (zip_take i ks vs)
-      ∙ ap (λ l. take i (zip ks vs) ++ l) (zip_close_gap (drop (suc i) ks) (drop (suc i) vs) (grind (arith, common_steps, same)) ∙ ap close_gap (zip_drop (suc i) ks vs same))
+  pub zip_remove : (ks : List K) (vs : List V) (i : ℕ) → length ks ≡ length vs → zip (remove ks i) (remove vs i) ≡ remove (zip ks vs) i
+  zip_remove [] vs zero same = refl
+  zip_remove [] vs (suc i) same = refl
+  zip_remove (k ∷ ks) [] i same = absurd (omega (arith, same))
+  zip_remove (k ∷ ks) (v ∷ vs) zero same = refl
+  zip_remove (k ∷ ks) (v ∷ vs) (suc i) same = ap (λ l. (k, v) ∷ l) (zip_remove ks vs i (omega (arith, same)))
 
   -- clones of both columns are clones of the pairs
   pub zip_clones : (C : K → K → Type 0) (D : V → V → Type 0) (ks ls : List K) (vs ws : List V) → length ks ≡ length vs → AllZip C ks ls → AllZip D vs ws → AllZip (IsPairClone C D) (zip ks vs) (zip ls ws)
@@ -84,9 +85,8 @@ module _ {K V : Type 0} where
       by (Some p) = refl
 
   -- the columns stay as long as each other
-  pub equal_without_at : (ks : List K) (vs : List V) (i : ℕ) → length ks ≡ length vs → length (without_at ks i) ≡ length (without_at vs i)
-  unfolding without_at
-  equal_without_at ks vs i same = grind (arith, common_steps, same)
+  pub equal_remove : (ks : List K) (vs : List V) (i : ℕ) → length ks ≡ length vs → length (remove ks i) ≡ length (remove vs i)
+  equal_remove ks vs i same = grind (arith, common_steps, same)
 
   pub equal_push : (ks : List K) (vs : List V) (k : K) (v : V) → length ks ≡ length vs → length (ks ++ k ∷ []) ≡ length (vs ++ v ∷ [])
   equal_push ks vs k v same = grind (arith, common_steps, same)

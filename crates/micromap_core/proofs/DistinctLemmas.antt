@@ -2,27 +2,41 @@
 use Rattle.std.proofs.Common.{◌≡◌, ◌≢◌, ◌<◌, ◌≤◌, Bool, true, false, ◌&&◌, ◌||◌, List, [], ◌∷◌, ◌++◌, filter, get_or, length, if◌then◌else◌, refl, ap, sym, subst, ◌∙◌, arith}
 use Rattle.std.specs.Cmp.{IsEquivalence, first_so, second_so}
 use Rattle.std.specs.Cmp.Derive.{both_true}
-use Rattle.std.specs.List.{AllByRecursion, IsDistinct, list_all, list_any}
+use Rattle.std.specs.List.{AllByRecursion, IsDistinct, items_where_true, list_all, list_any}
 use Rattle.std.specs.Set.{is_member}
 use Rattle.std.proofs.Math.Bool.{or-true}
 use Rattle.std.proofs.lemmas.Bool.{false≢true}
-use Rattle.std.proofs.lemmas.List.Elements.{All-append, All-filter, All-from_recursion, recursion_from_All}
+use Rattle.std.proofs.lemmas.List.Elements.{All-append, All-from_recursion, recursion_from_All}
 use Rattle.std.proofs.lemmas.List.Sums.{AllPass-from_list_all, count_by-le-length, length-filter, list_all-from_AllPass}
 use Rattle.std.proofs.lemmas.Map.Keys.{IsDistinct-cons, IsDistinct-head, IsDistinct-tail}
 use Rattle.std.proofs.lemmas.Map.Made.{All-is_member, is_member-filter, length-le_from_is_member}
 use Rattle.std.proofs.lemmas.Map.Steps.{list_any_congr}
+use Rattle.micromap_core.specs.Sublist.{IsSublist}
 
-module _ {T : Type 0} (eq : T → T → Bool) where
-  pub IsDistinct-filter : (test : T → Bool) (xs : List T) → IsDistinct eq xs → IsDistinct eq (filter test xs)
-  IsDistinct-filter test [] distinct = distinct
-  IsDistinct-filter test (x ∷ xs) distinct =
-      let P : T → Type 0 = λ y. eq x y ≡ false in
-      let apart : AllByRecursion P (filter test xs) = recursion_from_All P (filter test xs) (All-filter test P xs (All-from_recursion P xs (IsDistinct-head eq x xs distinct))) in
-      by (test x) apart (IsDistinct-filter test xs (IsDistinct-tail eq x xs distinct))
-    where
-      by : (b : Bool) → AllByRecursion (λ y. eq x y ≡ false) (filter test xs) → IsDistinct eq (filter test xs) → IsDistinct eq (if b then x ∷ filter test xs else filter test xs)
-      by true apart rest = IsDistinct-cons eq x (filter test xs) apart rest
-      by false apart rest = rest
+-- what holds of each item holds of those that are picked
+All-picked : {T : Type 0} (P : T → Type 0) (picks : List Bool) (xs : List T) → AllByRecursion P xs → AllByRecursion P (items_where_true picks xs)
+All-picked P [] xs all = tt
+All-picked P (b ∷ picks) [] all = tt
+All-picked P (true ∷ picks) (x ∷ xs) all = (all.0, All-picked P picks xs all.1)
+All-picked P (false ∷ picks) (x ∷ xs) all = All-picked P picks xs all.1
+
+picked_distinct : {T : Type 0} (eq : T → T → Bool) (picks : List Bool) (xs : List T) → IsDistinct eq xs → IsDistinct eq (items_where_true picks xs)
+unfolding IsDistinct
+picked_distinct eq [] xs distinct = tt
+picked_distinct eq (b ∷ picks) [] distinct = tt
+picked_distinct eq (true ∷ picks) (x ∷ xs) distinct = (All-picked _ picks xs distinct.0, picked_distinct eq picks xs distinct.1)
+picked_distinct eq (false ∷ picks) (x ∷ xs) distinct = picked_distinct eq picks xs distinct.1
+
+pub IsDistinct-sublist : {T : Type 0} (eq : T → T → Bool) (part whole : List T) → IsSublist part whole → IsDistinct eq whole → IsDistinct eq part
+IsDistinct-sublist eq part whole order distinct = subst (IsDistinct eq) (sym order.1) (picked_distinct eq order.0 whole distinct)
+
+-- what passes a test is a part
+pub IsSublist-filter : {T : Type 0} (test : T → Bool) (xs : List T) → IsSublist (filter test xs) xs
+IsSublist-filter test [] = ([], refl)
+IsSublist-filter test (x ∷ xs) = let rest = IsSublist-filter test xs in (test x ∷ rest.0, grind (arith, rest.1))
+
+pub IsDistinct-filter : {T : Type 0} (eq : T → T → Bool) (test : T → Bool) (xs : List T) → IsDistinct eq xs → IsDistinct eq (filter test xs)
+IsDistinct-filter eq test xs = IsDistinct-sublist eq (filter test xs) xs (IsSublist-filter test xs)
 
 -- a test that finds nothing fails at each item
 fails_everywhere : {T : Type 0} (test : T → Bool) (xs : List T) → list_any test xs ≡ false → AllByRecursion (λ x. test x ≡ false) xs

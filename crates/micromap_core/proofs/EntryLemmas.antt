@@ -10,7 +10,7 @@ use Rattle.micromap_core.specs.Entry.{Occupied, Vacant, entry_map_ref, entry_key
 use Rattle.micromap_core.specs.declared.entry.EntryIn.{EntryIn}
 use Rattle.micromap_core.specs.declared.entry.OccupiedIn.{OccupiedIn}
 use Rattle.micromap_core.specs.declared.entry.VacantIn.{VacantIn}
-use Rattle.micromap_core.proofs.Lists.{slice_get-set_same, slice_get_seam, without_at-set, without_at_seam}
+use Rattle.micromap_core.proofs.Lists.{slice_get-set_same, slice_get_seam, remove-set, remove_seam}
 use Rattle.micromap_core.proofs.PairsLemmas.{with_value_at-put, push-put}
 
 module _ {K V : Type 0} (eq : K → K → Bool) (map : MutBor (List (K × V))) (k : K) where
@@ -51,7 +51,8 @@ module _ {K V : Type 0} (pairs : List (K × V)) (i : ℕ) (p : K × V) (here : s
   written_again w = rw (read_written, here) (set-set pairs i (p.0, v) (p.0, w))
 
   written_taken : without_at (with_value_at pairs i v) i ≡ without_at pairs i
-  written_taken = rw here (without_at-set pairs i (p.0, v))
+  unfolding without_at
+  written_taken = rw here (remove-set pairs i (p.0, v))
 
 -- the pair that was pushed, once w is its value
 pushed_written : {K V : Type 0} (pairs : List (K × V)) (k : K) (v w : V) → with_value_at (pairs ++ (k, v) ∷ []) (length pairs) w ≡ pairs ++ (k, w) ∷ []
@@ -80,5 +81,6 @@ module _ {K V : Type 0} (eq : K → K → Bool) (v : V) (new : MutBor (List (K �
 
   -- the held key was pushed with v
   pub vacant_written : (e : VacantIn K (List (K × V))) (i : ℕ) → i ≡ length e.map.now → new.ghost_name ≡ e.map.ghost_name → new.now ≡ e.map.now ++ (e.key, v) ∷ [] → IsWritten eq (Vacant e) v (Occupied (record { map = new; index = i }))
+  unfolding without_at
   vacant_written e i at_end same now =
-      rw at_end (written (Vacant e) e.key (length e.map.now) same refl now (slice_get_seam e.map.now (e.key, v) []) (pushed_written e.map.now e.key v) (without_at_seam e.map.now (e.key, v) [] ∙ append-nil e.map.now))
+      rw at_end (written (Vacant e) e.key (length e.map.now) same refl now (slice_get_seam e.map.now (e.key, v) []) (pushed_written e.map.now e.key v) (remove_seam e.map.now (e.key, v) [] ∙ append-nil e.map.now))

@@ -1,8 +1,7 @@
 -- The definitions at worked values, with numbers as keys and values.
 use Rattle.std.proofs.Common.{◌≡◌, ℕ, ◌+◌, ◌%◌, Bool, true, false, List, [], ◌∷◌, Some, None, nat_eq, refl}
-use Rattle.micromap_core.specs.Pairs.{at, index_of, fits, put, put_key, take_out, take_out_by}
+use Rattle.micromap_core.specs.Pairs.{at, index_of, fits, put, put_key, take_out}
 use Rattle.micromap_core.specs.Closures.{updated_disjoint}
-use Rattle.micromap_core.specs.Retain.{retained}
 use Rattle.micromap_core.specs.Calls.{insert, insert_key_value, get, get_key_value, contains, remove, remove_entry, len, is_empty, clear, value, entry, truth, number, done, refused, run}
 
 abbrev even : ℕ → Bool
@@ -20,17 +19,17 @@ one = (1, 10) ∷ []
 abbrev three : Pairs
 three = (1, 10) ∷ (2, 20) ∷ (3, 30) ∷ []
 
--- the last pair moves into the gap, also where it goes itself
-taken : (take_out nat_eq three 1 ≡ (3, 30) ∷ (2, 20) ∷ []) × (take_out nat_eq three 2 ≡ (1, 10) ∷ (3, 30) ∷ []) × (take_out nat_eq three 3 ≡ (1, 10) ∷ (2, 20) ∷ [])
-unfolding take_out take_out_by
+-- the others keep their order, and a missing key takes none out
+taken : (take_out nat_eq three 1 ≡ (2, 20) ∷ (3, 30) ∷ []) × (take_out nat_eq three 2 ≡ (1, 10) ∷ (3, 30) ∷ []) × (take_out nat_eq three 3 ≡ (1, 10) ∷ (2, 20) ∷ [])
+unfolding take_out
 taken = (refl, refl, refl)
 
-taken_of_four : take_out nat_eq (put nat_eq three 4 40) 2 ≡ (1, 10) ∷ (4, 40) ∷ (3, 30) ∷ []
-unfolding put take_out take_out_by
+taken_of_four : take_out nat_eq (put nat_eq three 4 40) 2 ≡ (1, 10) ∷ (3, 30) ∷ (4, 40) ∷ []
+unfolding put take_out
 taken_of_four = refl
 
 taken_missing : take_out nat_eq three 9 ≡ three
-unfolding take_out take_out_by
+unfolding take_out
 taken_missing = refl
 
 -- an equal key is found by its index
@@ -48,17 +47,13 @@ putting = (refl, refl)
 
 -- four calls at capacity 1, of which the insertion of a new key into the full map is refused
 refusing : run nat_eq 1 one (insert 2 20 ∷ len ∷ remove 1 ∷ insert 3 30 ∷ []) ≡ (refused ∷ number 1 ∷ value (Some 10) ∷ value None ∷ [], (3, 30) ∷ [])
-unfolding put take_out take_out_by
+unfolding put take_out
 refusing = refl
 
 -- each of the other calls
 answering : run nat_eq 4 three (remove 1 ∷ insert_key_value 4 40 ∷ get_key_value 2 ∷ contains 1 ∷ remove_entry 3 ∷ is_empty ∷ get 9 ∷ clear ∷ is_empty ∷ []) ≡ (value (Some 10) ∷ entry None ∷ entry (Some (2, 20)) ∷ truth false ∷ entry (Some (3, 30)) ∷ truth false ∷ value None ∷ done ∷ truth true ∷ [], [])
-unfolding put put_key take_out take_out_by
+unfolding put put_key take_out
 answering = refl
-
--- what an even number passes: after a no the last of the others comes first
-retaining : (retained {X = ℕ} even (1 ∷ 2 ∷ 3 ∷ 4 ∷ 5 ∷ []) ≡ 4 ∷ 2 ∷ []) × (retained {X = ℕ} even (0 ∷ 1 ∷ 2 ∷ 3 ∷ 4 ∷ 5 ∷ 6 ∷ 7 ∷ []) ≡ 0 ∷ 6 ∷ 2 ∷ 4 ∷ []) × (retained {X = ℕ} (λ n. true) (1 ∷ 2 ∷ 3 ∷ []) ≡ 1 ∷ 2 ∷ 3 ∷ []) × (retained {X = ℕ} (λ n. false) (1 ∷ 2 ∷ 3 ∷ []) ≡ [])
-retaining = (refl, refl, refl, refl)
 
 -- the position is added to the value of each key that is there
 updating : updated_disjoint nat_eq (λ position v. v + position) three (3 ∷ 9 ∷ 1 ∷ []) ≡ (1, 12) ∷ (2, 20) ∷ (3, 30) ∷ []

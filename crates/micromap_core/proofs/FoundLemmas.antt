@@ -5,7 +5,7 @@ use Rattle.std.specs.Map.{keys_of}
 use Rattle.std.proofs.lemmas.Bool.Decides.{nat_tests}
 use Rattle.std.proofs.lemmas.List.{length-map}
 use Rattle.micromap_core.specs.Found.{FoundAt, NotFound}
-use Rattle.micromap_core.specs.Pairs.{index_by, take_out_by, without_at}
+use Rattle.micromap_core.specs.Pairs.{index_by, without_at}
 
 module _ {K V : Type 0} (test : K → Bool) where
   -- the first index whose key passes, or the length
@@ -13,7 +13,7 @@ module _ {K V : Type 0} (test : K → Bool) where
   first pairs = position_or_len test (keys_of pairs)
 
   found_step : (e : K × V) (es : List (K × V)) → ((i : ℕ) → first es ≡ i → i < length es → FoundAt test es i) → (b : Bool) → test e.0 ≡ b → (i : ℕ) → cond (not b) (1 + first es) 0 ≡ i → i < length (e ∷ es) → FoundAt test (e ∷ es) i
-  unfolding take_out_by without_at
+  unfolding without_at
   found_step e es rest true h zero at within = record {
     pair = e;
     within = within;
@@ -47,7 +47,6 @@ module _ {K V : Type 0} (test : K → Bool) where
   found_from (e ∷ es) i at within = found_step e es (found_from es) (test e.0) refl i at within
 
   missing_step : (e : K × V) (es : List (K × V)) → (length es ≤ first es → NotFound test es) → (b : Bool) → test e.0 ≡ b → length (e ∷ es) ≤ cond (not b) (1 + first es) 0 → NotFound test (e ∷ es)
-  unfolding take_out_by
   missing_step e es rest true h past = absurd (omega (arith, past))
   missing_step e es rest false h past =
       let n = rest (omega (arith, past)) in record {
@@ -60,7 +59,6 @@ module _ {K V : Type 0} (test : K → Bool) where
       }
 
   missing_from : (pairs : List (K × V)) → length pairs ≤ first pairs → NotFound test pairs
-  unfolding take_out_by
   missing_from [] past = record { entry = refl; key = refl; value = refl; written = λ v. refl; taken = refl; none = refl }
   missing_from (e ∷ es) past = missing_step e es (missing_from es) (test e.0) refl past
 

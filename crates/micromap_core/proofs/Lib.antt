@@ -7,6 +7,7 @@ pub mod DistinctLemmas
 pub mod EntryLemmas
 pub mod Equalities
 pub mod FoundLemmas
+pub mod Laws
 pub mod Examples
 pub mod FairLemmas
 pub mod Lists
@@ -21,7 +22,7 @@ pub mod SlotsLemmas
 pub mod StepsLemmas
 pub mod StreamLemmas
 pub mod ProbeLemmas
-pub mod RetainLemmas
+mod RetainLemmas
 pub mod SameExamples
 pub mod SameLemmas
 pub mod TextLemmas

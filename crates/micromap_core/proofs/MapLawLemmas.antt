@@ -1,43 +1,19 @@
 -- The inductions behind `MapLaws`: what a probe finds in a list that a word on pairs makes.
-use Rattle.std.proofs.Common.{◌≡◌, ℕ, zero, suc, ◌+◌, ◌-◌, ◌&&◌, ◌||◌, Bool, true, false, not, List, [], ◌∷◌, ◌++◌, filter, length, get_or, take, drop, Option, Some, None, is_some, if◌then◌else◌, refl, ap, sym, subst, ◌∙◌, arith}
-use Rattle.std.specs.Cmp.{IsEquivalence}
+use Rattle.std.proofs.Common.{◌≡◌, ℕ, ◌+◌, ◌&&◌, ◌||◌, Bool, true, false, not, List, [], ◌∷◌, ◌++◌, filter, length, Option, Some, None, is_some, if◌then◌else◌, refl, arith}
 use Rattle.std.specs.List.{IsDistinct, AllByRecursion}
-use Rattle.std.specs.Map.{keys_of, lookup, lookup_entry, lookup_key, set_value, set_key}
+use Rattle.std.specs.Map.{keys_of, lookup, lookup_entry, lookup_key, remove_entry, set_value, set_key}
 use Rattle.std.specs.Option.{option_map, option_map_or, option_or}
 use Rattle.std.proofs.lemmas.Bool.{false≢true}
-use Rattle.std.proofs.lemmas.List.{take-append-drop, take_all, take_more}
-use Rattle.std.proofs.lemmas.List.Elements.{filter-append}
-use Rattle.std.proofs.lemmas.List.Sorted.{IsPermutation-append_comm, IsPermutation-cons, IsPermutation-map, IsPermutation-refl, IsPermutation-trans}
-use Rattle.std.specs.List.Sorted.{IsPermutation}
 use Rattle.std.proofs.lemmas.Map.Entries.{option_filter}
-use Rattle.std.proofs.lemmas.Map.Keys.{IsDistinct-IsPermutation}
 use Rattle.micromap_core.specs.Equalities.{IsProbe}
 use Rattle.micromap_core.specs.Found.{FoundAt, NotFound}
-use Rattle.micromap_core.specs.Pairs.{pair, index_by, index_of, has, put, take_out, take_out_by, close_gap, IsUnique}
-use Rattle.micromap_core.specs.Retain.{sift}
+use Rattle.micromap_core.specs.Pairs.{pair, index_by, index_of, has, put, take_out, IsUnique}
 use Rattle.micromap_core.proofs.FoundLemmas.{found_at, not_found}
-use Rattle.micromap_core.proofs.Lists.{close_gap_is, length-close_gap}
 
--- what comes first in place of last is only moved
-close_gap-moves : {X : Type 0} (xs : List X) → IsPermutation xs (close_gap xs)
-close_gap-moves xs =
-    let n = length xs - 1 in
-    subst (λ l. IsPermutation l (close_gap xs)) (take-append-drop n xs) (IsPermutation-append_comm (take n xs) (drop n xs))
-
-filter-moves : {X : Type 0} (keep : X → Bool) (xs : List X) → IsPermutation (filter keep xs) (filter keep (close_gap xs))
-filter-moves keep xs =
-    let n = length xs - 1 in
-    subst (λ l. IsPermutation (filter keep l) (filter keep (close_gap xs))) (take-append-drop n xs) (rw (filter-append, filter-append) (IsPermutation-append_comm (filter keep (take n xs)) (filter keep (drop n xs))))
-
--- a look-up at one more pair
-pair_push : {K V : Type 0} (test : K → Bool) (pairs : List (K × V)) (p : K × V) → lookup_entry test (pairs ++ p ∷ []) ≡ option_or (lookup_entry test pairs) (lookup_entry test (p ∷ []))
-pair_push test [] p = refl
-pair_push test (e ∷ es) p = grind (arith, pair_push test es p)
-
--- the keys of a list whose last pair comes first
-IsUnique-close_gap : {K V : Type 0} (eq : K → K → Bool) → IsEquivalence eq → (pairs : List (K × V)) → IsUnique eq pairs → IsUnique eq (close_gap pairs)
-IsUnique-close_gap eq laws pairs unique =
-    IsDistinct-IsPermutation eq laws.symm _ _ (IsPermutation-map (λ e. e.0) _ _ (close_gap-moves pairs)) unique
+-- where all keys are apart from one that passes, none of them passes
+others : {K : Type 0} (eq : K → K → Bool) (test : K → Bool) (p : IsProbe eq test) (x : K) → test x ≡ true → (ks : List K) → AllByRecursion (λ y. eq x y ≡ false) ks → filter (λ q. not (test q)) ks ≡ ks
+others eq test p x passes [] apart = refl
+others eq test p x passes (y ∷ ks) apart = let a = apart.0 in grind (arith, others eq test p x passes ks apart.1, p.equal_keys x y)
 
 module _ {K V : Type 0} (eq : K → K → Bool) (test : K → Bool) (p : IsProbe eq test) where
   module _ (k : K) (v : V) where
@@ -68,65 +44,22 @@ module _ {K V : Type 0} (eq : K → K → Bool) (test : K → Bool) (p : IsProbe
   none_apart x [] passes apart = refl
   none_apart x (e ∷ es) passes apart = let a = apart.0 in grind (arith, none_apart x es passes apart.1, p.equal_keys x e.0)
 
-  last_of_all : (P : K → Type 0) (es : List (K × V)) (e : K × V) → AllByRecursion P (keys_of (es ++ e ∷ [])) → P e.0
-  last_of_all P [] e all = all.0
-  last_of_all P (x ∷ es) e all = last_of_all P es e all.1
-
-  before_none : (es : List (K × V)) (e : K × V) → IsUnique eq (es ++ e ∷ []) → test e.0 ≡ true → lookup_entry test es ≡ None
-  unfolding IsDistinct
-  before_none [] e unique passes = refl
-  before_none (x ∷ es) e unique passes = let apart = last_of_all (λ y. eq x.0 y ≡ false) es e unique.0 in grind (arith, before_none es e unique.1, p.equal_keys x.0 e.0)
-
-  -- the last pair may as well come first
-  entry_front : (es : List (K × V)) (e : K × V) → IsUnique eq (es ++ e ∷ []) → lookup_entry test (e ∷ es) ≡ lookup_entry test (es ++ e ∷ [])
-  entry_front es e unique = grind (arith, before_none es e unique, pair_push test es e)
-
-  entry_close_gap : (es : List (K × V)) → IsUnique eq es → lookup_entry test (close_gap es) ≡ lookup_entry test es
-  entry_close_gap [] unique = refl
-  entry_close_gap (y ∷ ys) unique =
-      let n = length ys in
-      let e = get_or (y ∷ ys) n y in
-      let init = take n (y ∷ ys) in
-      let whole : init ++ e ∷ [] ≡ y ∷ ys = sym (take_more (y ∷ ys) n y (omega arith)) ∙ take_all (n + 1) (y ∷ ys) (omega arith) in
-      ap (lookup_entry test) (close_gap_is y ys y) ∙ entry_front init e (subst (IsUnique eq) (sym whole) unique) ∙ ap (lookup_entry test) whole
-
   pub entry_take_out : (k : K) (pairs : List (K × V)) → IsUnique eq pairs → lookup_entry test (take_out eq pairs k) ≡ (if test k then None else lookup_entry test pairs)
-  unfolding take_out take_out_by IsDistinct
+  unfolding take_out IsDistinct
   entry_take_out k [] unique = grind arith
-  entry_take_out k (e ∷ es) unique = let apart = unique.0 in grind (arith, entry_take_out k es unique.1, entry_close_gap es unique.1, none_apart e.0 es, p.alike_keys k e.0, p.equal_keys k e.0)
+  entry_take_out k (e ∷ es) unique = let apart = unique.0 in grind (arith, entry_take_out k es unique.1, none_apart e.0 es, p.alike_keys k e.0, p.equal_keys k e.0)
+
+  -- the keys that a removal leaves stand in the order that they had
+  pub keys_removed : (pairs : List (K × V)) → IsUnique eq pairs → keys_of (remove_entry test pairs) ≡ filter (λ q. not (test q)) (keys_of pairs)
+  unfolding IsDistinct
+  keys_removed [] unique = refl
+  keys_removed (e ∷ es) unique = grind (arith, keys_removed es unique.1, others eq test p e.0)
 
   -- the pairs that pass another test
-  entry_filter : (keep : K × V → Bool) (pairs : List (K × V)) → IsUnique eq pairs → lookup_entry test (filter keep pairs) ≡ option_filter keep (lookup_entry test pairs)
+  pub entry_filter : (keep : K × V → Bool) (pairs : List (K × V)) → IsUnique eq pairs → lookup_entry test (filter keep pairs) ≡ option_filter keep (lookup_entry test pairs)
   unfolding IsDistinct
   entry_filter keep [] unique = refl
   entry_filter keep (e ∷ es) unique = let apart = unique.0 in grind (arith, entry_filter keep es unique.1, none_apart e.0 es)
-
-  pub entry_sift : (keep : K × V → Bool) (n : ℕ) (pairs : List (K × V)) → IsUnique eq pairs → length pairs ≡ n → lookup_entry test (sift keep n pairs) ≡ option_filter keep (lookup_entry test pairs)
-  unfolding IsDistinct
-  entry_sift keep zero [] unique long = refl
-  entry_sift keep zero (e ∷ es) unique long = absurd (omega (arith, long))
-  entry_sift keep (suc n) [] unique long = refl
-  entry_sift keep (suc n) (e ∷ es) unique long =
-      let shorter : length es ≡ n = omega (arith, long) in
-      let yes = entry_sift keep n es unique.1 shorter in
-      let no = entry_sift keep n (close_gap es) (IsUnique-close_gap eq p.laws es unique.1) (length-close_gap es ∙ shorter) in
-      let same = entry_close_gap es unique.1 in
-      let apart = unique.0 in
-      grind (arith, none_apart e.0 es)
-
--- a retained list is one that is filtered, moved
-pub sift-moves : {X : Type 0} (keep : X → Bool) (n : ℕ) (xs : List X) → length xs ≡ n → IsPermutation (filter keep xs) (sift keep n xs)
-sift-moves keep zero [] long = IsPermutation-refl []
-sift-moves keep zero (x ∷ xs) long = absurd (omega (arith, long))
-sift-moves keep (suc n) [] long = IsPermutation-refl []
-sift-moves keep (suc n) (x ∷ xs) long =
-    let shorter : length xs ≡ n = omega (arith, long) in
-    let rest = sift-moves keep n (close_gap xs) (length-close_gap xs ∙ shorter) in
-    by (keep x) (IsPermutation-cons x _ _ (sift-moves keep n xs shorter)) (IsPermutation-trans _ _ _ (filter-moves keep xs) rest)
-  where
-    by : (b : Bool) → IsPermutation (x ∷ filter keep xs) (x ∷ sift keep n xs) → IsPermutation (filter keep xs) (sift keep n (close_gap xs)) → IsPermutation (if b then x ∷ filter keep xs else filter keep xs) (if b then x ∷ sift keep n xs else sift keep n (close_gap xs))
-    by true here later = here
-    by false here later = later
 
 -- what a pair's value is once the pair is chosen
 pub value_if : {K V : Type 0} (b : Bool) (e : K × V) (o : Option (K × V)) → option_map (λ e. e.1) (if b then Some e else o) ≡ (if b then Some e.1 else option_map (λ e. e.1) o)
@@ -158,10 +91,9 @@ pub entry_new : {K V : Type 0} (eq : K → K → Bool) (k : K) (pairs : List (K 
 entry_new eq k [] missing = refl
 entry_new eq k (e ∷ es) missing = grind (arith, entry_new eq k es)
 
-pub length-take_out_by : {K V : Type 0} (test : K → Bool) (pairs : List (K × V)) → length (take_out_by test pairs) + (if is_some (lookup test pairs) then 1 else 0) ≡ length pairs
-unfolding take_out_by
-length-take_out_by test [] = refl
-length-take_out_by test (e ∷ es) = grind (arith, length-take_out_by test es, length-close_gap es)
+pub length-remove_entry : {K V : Type 0} (test : K → Bool) (pairs : List (K × V)) → length (remove_entry test pairs) + (if is_some (lookup test pairs) then 1 else 0) ≡ length pairs
+length-remove_entry test [] = refl
+length-remove_entry test (e ∷ es) = grind (arith, length-remove_entry test es)
 
 pub length-set_key : {K V : Type 0} (test : K → Bool) (pairs : List (K × V)) (k : K) → length (set_key test pairs k) ≡ length pairs
 length-set_key test [] k = refl

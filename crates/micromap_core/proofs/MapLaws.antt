@@ -4,30 +4,27 @@
 -- pairwise unequal (`unique`). The ruleset at the end has what a search needs of them.
 use Rattle.std.proofs.Common.{◌≡◌, ℕ, nat_eq, ◌+◌, ◌<◌, ◌≤◌, ◌&&◌, ◌||◌, nat_lt, Bool, true, false, not, List, [], ◌∷◌, ◌++◌, filter, length, reverse, Option, Some, None, is_some, cond, if◌then◌else◌, refl, ap, sym, subst, ◌∙◌, arith}
 use Rattle.std.specs.List.{fold, list_any, IsDistinct}
-use Rattle.std.specs.Map.{keys_of, lookup, lookup_entry, set_value, set_key}
+use Rattle.std.specs.Map.{keys_of, lookup, lookup_entry, remove_entry, set_value, set_key}
 use Rattle.std.specs.Option.{option_map, option_map_or, option_or, unwrap_or}
 use Rattle.std.specs.Ordering.{on}
 use Rattle.std.specs.Set.{distinct_count}
 use Rattle.std.proofs.Math.Bool.{or-true}
 use Rattle.std.proofs.lemmas.Bool.{false≢true, lt-ltb}
 use Rattle.std.proofs.lemmas.List.{reverse-append, length-append}
-use Rattle.std.proofs.lemmas.List.Sorted.{IsPermutation-map, length_permutation}
 use Rattle.std.proofs.lemmas.Map.Entries.{length-keys_of, option_filter}
-use Rattle.std.proofs.lemmas.Map.Keys.{IsDistinct-IsPermutation}
 use Rattle.std.proofs.lemmas.Map.{keys-set_value, length-set_value}
 use Rattle.std.proofs.lemmas.Map.Made.{IsDistinct-keys_filter, is_some-lookup}
 use Rattle.std.proofs.lemmas.Map.Steps.{set_value_same}
 use Rattle.micromap_core.specs.Build.{build, put_pair}
 use Rattle.micromap_core.specs.Equalities.{Lawful, Probes}
-use Rattle.micromap_core.specs.Pairs.{at, pair, has, fits, put, put_key, take_out, take_out_by, IsUnique}
+use Rattle.micromap_core.specs.Pairs.{at, pair, has, fits, put, put_key, take_out, without_at, IsUnique}
 use Rattle.micromap_core.specs.Probe.{has_matched, at_matched, pair_matched, put_matched, take_out_matched}
-use Rattle.micromap_core.specs.Retain.{retained}
 use Rattle.micromap_core.proofs.Equalities.{equalities, lawful, lawful_nat, lawful_on, of_lawful, of_probes, probes_key}
 use Rattle.micromap_core.proofs.CountLemmas.{keys-built, length-built, pairs_keyed}
 use Rattle.micromap_core.proofs.Lists.{is_some-option_map}
-use Rattle.micromap_core.proofs.PairsLemmas.{lookup-entry, push-put, push-put_key, put_stored, slice_set-put_key, IsUnique-push, IsUnique-set, IsUnique-set_key, IsUnique-without_at}
+use Rattle.micromap_core.proofs.PairsLemmas.{lookup-entry, push-put, push-put_key, put_stored, slice_set-put_key, IsUnique-push, IsUnique-set, IsUnique-set_key, IsUnique-remove}
 use Rattle.micromap_core.proofs.ProbeLemmas.{at_matched_is, pair_matched_is, put_matched_is, same_test, take_out_matched_is}
-use Rattle.micromap_core.proofs.MapLawLemmas.{entry_push, entry_put, entry_set_key, entry_take_out, entry_sift, sift-moves, value_if, value_unless, some_if, some_unless, or_none, lookup-append, entry_new, length-take_out_by, length-set_key, by_index, by_test, lookup-set, no_value, is_some-key, set_put}
+use Rattle.micromap_core.proofs.MapLawLemmas.{entry_push, entry_put, entry_set_key, entry_take_out, entry_filter, value_if, value_unless, some_if, some_unless, or_none, lookup-append, entry_new, length-remove_entry, length-set_key, keys_removed, by_index, by_test, lookup-set, no_value, is_some-key, set_put}
 
 -- by a test: the pair that is found, and its value
 module _ {K V : Type 0} (eq : K → K → Bool) (test : K → Bool) where
@@ -60,11 +57,11 @@ module _ {K V : Type 0} (eq : K → K → Bool) (test : K → Bool) where
       lookup-entry test (take_out eq pairs k) ∙ ap (option_map (λ e. e.1)) (pair_take_out pairs k probes unique)
       ∙ value_unless (test k) (lookup_entry test pairs) ∙ ap (λ o. if test k then None else o) (sym (lookup-entry test pairs))
 
-  pub pair_retained : (keep : K × V → Bool) (pairs : List (K × V)) → Probes eq test → IsUnique eq pairs → lookup_entry test (retained keep pairs) ≡ option_filter keep (lookup_entry test pairs)
-  pair_retained keep pairs probes unique = entry_sift eq test (of_probes eq test probes) keep (length pairs) pairs unique refl
+  pub pair_filter : (keep : K × V → Bool) (pairs : List (K × V)) → Probes eq test → IsUnique eq pairs → lookup_entry test (filter keep pairs) ≡ option_filter keep (lookup_entry test pairs)
+  pair_filter keep pairs probes unique = entry_filter eq test (of_probes eq test probes) keep pairs unique
 
-  pub lookup_retained : (keep : K × V → Bool) (pairs : List (K × V)) → Probes eq test → IsUnique eq pairs → lookup test (retained keep pairs) ≡ option_map (λ e. e.1) (option_filter keep (lookup_entry test pairs))
-  lookup_retained keep pairs probes unique = lookup-entry test (retained keep pairs) ∙ ap (option_map (λ e. e.1)) (pair_retained keep pairs probes unique)
+  pub lookup_filter : (keep : K × V → Bool) (pairs : List (K × V)) → Probes eq test → IsUnique eq pairs → lookup test (filter keep pairs) ≡ option_map (λ e. e.1) (option_filter keep (lookup_entry test pairs))
+  lookup_filter keep pairs probes unique = lookup-entry test (filter keep pairs) ∙ ap (option_map (λ e. e.1)) (pair_filter keep pairs probes unique)
 
   -- the items that are put last are found first
   lookup_built : (items old : List (K × V)) → Probes eq test → lookup test (fold (put_pair eq) old items) ≡ option_or (lookup test (reverse items)) (lookup test old)
@@ -93,10 +90,6 @@ module _ {K V : Type 0} (eq : K → K → Bool) (test : K → Bool) where
 
   pub pair_build : (items : List (K × V)) → Probes eq test → lookup_entry test (build eq items) ≡ option_map (λ e. (e.0, unwrap_or (lookup test (reverse items)) e.1)) (lookup_entry test items)
   pair_build items probes = entry_built items [] probes
-
--- how many pairs are kept
-pub length_retained : {X : Type 0} (keep : X → Bool) (xs : List X) → length (retained keep xs) ≡ length (filter keep xs)
-length_retained keep xs = length_permutation _ _ (sift-moves keep (length xs) xs refl)
 
 -- no pair at all: the other ways to read them are computed
 pub unique_empty : {K : Type 0} (V : Type 0) (eq : K → K → Bool) → IsUnique {V = V} eq []
@@ -130,8 +123,8 @@ module _ {K V : Type 0} (eq : K → K → Bool) where
   pub at_build : (items : List (K × V)) (q : K) → Lawful eq → at eq (build eq items) q ≡ at eq (reverse items) q
   at_build items q laws = lookup_build eq (eq q) items (probes_key eq q laws)
 
-  pub at_retained : (keep : K × V → Bool) (pairs : List (K × V)) (q : K) → Lawful eq → IsUnique eq pairs → at eq (retained keep pairs) q ≡ option_map (λ e. e.1) (option_filter keep (pair eq pairs q))
-  at_retained keep pairs q laws unique = lookup_retained eq (eq q) keep pairs (probes_key eq q laws) unique
+  pub at_filter : (keep : K × V → Bool) (pairs : List (K × V)) (q : K) → Lawful eq → IsUnique eq pairs → at eq (filter keep pairs) q ≡ option_map (λ e. e.1) (option_filter keep (pair eq pairs q))
+  at_filter keep pairs q laws unique = lookup_filter eq (eq q) keep pairs (probes_key eq q laws) unique
 
   pub has_put : (pairs : List (K × V)) (k : K) (v : V) (q : K) → Lawful eq → has eq (put eq pairs k v) q ≡ (eq k q || has eq pairs q)
   has_put pairs k v q laws = ap is_some (at_put pairs k v q laws) ∙ some_if (eq k q) v (at eq pairs q)
@@ -145,8 +138,8 @@ module _ {K V : Type 0} (eq : K → K → Bool) where
   pub has_build : (items : List (K × V)) (q : K) → Lawful eq → has eq (build eq items) q ≡ list_any (eq q) (keys_of items)
   has_build items q laws = is_some-lookup (eq q) (build eq items) ∙ (keys-built (of_lawful eq laws) (pairs_keyed eq 0) items).1 q
 
-  pub has_retained : (keep : K × V → Bool) (pairs : List (K × V)) (q : K) → Lawful eq → IsUnique eq pairs → has eq (retained keep pairs) q ≡ is_some (option_filter keep (pair eq pairs q))
-  has_retained keep pairs q laws unique = ap is_some (at_retained keep pairs q laws unique) ∙ is_some-option_map (λ e. e.1) (option_filter keep (pair eq pairs q))
+  pub has_filter : (keep : K × V → Bool) (pairs : List (K × V)) (q : K) → Lawful eq → IsUnique eq pairs → has eq (filter keep pairs) q ≡ is_some (option_filter keep (pair eq pairs q))
+  has_filter keep pairs q laws unique = ap is_some (at_filter keep pairs q laws unique) ∙ is_some-option_map (λ e. e.1) (option_filter keep (pair eq pairs q))
 
   -- how many pairs there are
   pub length_put : (pairs : List (K × V)) (k : K) (v : V) → length (put eq pairs k v) ≡ (if has eq pairs k then length pairs else length pairs + 1)
@@ -167,7 +160,12 @@ module _ {K V : Type 0} (eq : K → K → Bool) where
 
   pub length_take_out : (pairs : List (K × V)) (k : K) → length (take_out eq pairs k) + (if has eq pairs k then 1 else 0) ≡ length pairs
   unfolding take_out
-  length_take_out pairs k = length-take_out_by (eq k) pairs
+  length_take_out pairs k = length-remove_entry (eq k) pairs
+
+  -- the keys that a removal leaves stand in the order that they had
+  pub keys_take_out : (pairs : List (K × V)) (k : K) → Lawful eq → IsUnique eq pairs → keys_of (take_out eq pairs k) ≡ filter (λ q. not (eq k q)) (keys_of pairs)
+  unfolding take_out
+  keys_take_out pairs k laws unique = keys_removed eq (eq k) (of_probes eq (eq k) (probes_key eq k laws)) pairs unique
 
   pub length_build : (items : List (K × V)) → Lawful eq → length (build eq items) ≡ distinct_count eq (keys_of items)
   length_build items laws = sym (length-keys_of (build eq items)) ∙ length-built (of_lawful eq laws) (pairs_keyed eq 0) items
@@ -186,18 +184,17 @@ module _ {K V : Type 0} (eq : K → K → Bool) where
       (λ i f. subst (IsUnique eq) (slice_set-put_key eq k pairs i f v) (IsUnique-set_key eq (of_lawful eq laws) pairs unique i f.pair k v f.here f.passes))
 
   pub unique_take_out : (pairs : List (K × V)) (k : K) → Lawful eq → IsUnique eq pairs → IsUnique eq (take_out eq pairs k)
-  unfolding take_out
+  unfolding take_out without_at
   unique_take_out pairs k laws unique =
       by_index eq pairs k (IsUnique eq (take_out eq pairs k))
       (λ none n. subst (IsUnique eq) (sym n.taken) unique)
-      (λ i f. subst (IsUnique eq) (sym f.taken) (IsUnique-without_at eq (of_lawful eq laws) pairs unique i f.pair f.here))
+      (λ i f. subst (IsUnique eq) (sym f.taken) (IsUnique-remove eq (of_lawful eq laws) pairs unique i f.pair f.here))
 
   pub unique_build : (items : List (K × V)) → Lawful eq → IsUnique eq (build eq items)
   unique_build items laws = (keys-built (of_lawful eq laws) (pairs_keyed eq 0) items).0
 
-  pub unique_retained : (keep : K × V → Bool) (pairs : List (K × V)) → Lawful eq → IsUnique eq pairs → IsUnique eq (retained keep pairs)
-  unique_retained keep pairs laws unique =
-      IsDistinct-IsPermutation eq (of_lawful eq laws).symm _ _ (IsPermutation-map (λ e. e.0) _ _ (sift-moves keep (length pairs) pairs refl)) (IsDistinct-keys_filter eq keep pairs unique)
+  pub unique_filter : (keep : K × V → Bool) (pairs : List (K × V)) → Lawful eq → IsUnique eq pairs → IsUnique eq (filter keep pairs)
+  unique_filter keep pairs laws unique = IsDistinct-keys_filter eq keep pairs unique
 
   -- whether another key fits
   module _ (N : ℕ) where
@@ -216,8 +213,8 @@ module _ {K V : Type 0} (eq : K → K → Bool) where
     pub fits_build : (items : List (K × V)) (q : K) → Lawful eq → fits eq N (build eq items) q ≡ (list_any (eq q) (keys_of items) || nat_lt (distinct_count eq (keys_of items)) N)
     fits_build items q laws i = has_build items q laws i || nat_lt (length_build items laws i) N
 
-    pub fits_retained : (keep : K × V → Bool) (pairs : List (K × V)) (q : K) → Lawful eq → IsUnique eq pairs → fits eq N (retained keep pairs) q ≡ (is_some (option_filter keep (pair eq pairs q)) || nat_lt (length (filter keep pairs)) N)
-    fits_retained keep pairs q laws unique i = has_retained keep pairs q laws unique i || nat_lt (length_retained keep pairs i) N
+    pub fits_filter : (keep : K × V → Bool) (pairs : List (K × V)) (q : K) → Lawful eq → IsUnique eq pairs → fits eq N (filter keep pairs) q ≡ (is_some (option_filter keep (pair eq pairs q)) || nat_lt (length (filter keep pairs)) N)
+    fits_filter keep pairs q laws unique i = has_filter keep pairs q laws unique i || nat_lt (length (filter keep pairs)) N
 
   -- what changes nothing: a put of the value that is stored, and a removal of a key that isn't
   pub put_back : (pairs : List (K × V)) (k : K) (v : V) → at eq pairs k ≡ Some v → put eq pairs k v ≡ pairs
@@ -271,22 +268,27 @@ module _ {K V : Type 0} (eq : K → K → Bool) (test : K → Bool) (pairs : Lis
   pub length_take_out_matched : Probes eq test → length (take_out_matched eq test pairs) + (if is_some (at_matched eq test pairs) then 1 else 0) ≡ length pairs
   length_take_out_matched probes =
       let p = of_probes eq test probes in
-      (λ i. length (take_out_matched_is eq test p.alike_keys p.equal_keys pairs i) + (if is_some (lookup_matched probes i) then 1 else 0)) ∙ length-take_out_by test pairs
+      (λ i. length (take_out_matched_is eq test p.alike_keys p.equal_keys pairs i) + (if is_some (lookup_matched probes i) then 1 else 0)) ∙ length-remove_entry test pairs
 
   -- what the test finds after a put and a removal by itself
   pub lookup_put_matched : (v : V) → Probes eq test → lookup test (put_matched eq test pairs v) ≡ (if is_some (lookup test pairs) then Some v else None)
   lookup_put_matched v probes = let p = of_probes eq test probes in ap (lookup test) (put_matched_is eq test p.alike_keys p.equal_keys pairs v) ∙ lookup-set test pairs v
+
+  pub keys_take_out_matched : Probes eq test → IsUnique eq pairs → keys_of (take_out_matched eq test pairs) ≡ filter (λ q. not (test q)) (keys_of pairs)
+  keys_take_out_matched probes unique =
+      let p = of_probes eq test probes in
+      ap keys_of (take_out_matched_is eq test p.alike_keys p.equal_keys pairs) ∙ keys_removed eq test p pairs unique
 
   pub lookup_take_out_matched : Probes eq test → IsUnique eq pairs → lookup test (take_out_matched eq test pairs) ≡ None
   unfolding take_out
   lookup_take_out_matched probes unique =
       let p = of_probes eq test probes in
       ap (lookup test) (take_out_matched_is eq test p.alike_keys p.equal_keys pairs)
-      ∙ by_test test pairs (lookup test (take_out_by test pairs) ≡ None)
+      ∙ by_test test pairs (lookup test (remove_entry test pairs) ≡ None)
       (λ n. ap (lookup test) n.taken ∙ n.value)
       (λ i f.
       let same = same_test eq test p.alike_keys p.equal_keys f.pair.0 f.passes in
-      subst (λ t. lookup t (take_out_by t pairs) ≡ None) (sym same) (at_take_out_same eq pairs f.pair.0 (lawful eq p.laws) unique))
+      subst (λ t. lookup t (remove_entry t pairs) ≡ None) (sym same) (at_take_out_same eq pairs f.pair.0 (lawful eq p.laws) unique))
 
   pub unique_put_matched : (v : V) → Probes eq test → IsUnique eq pairs → IsUnique eq (put_matched eq test pairs v)
   unique_put_matched v probes unique =
@@ -294,12 +296,13 @@ module _ {K V : Type 0} (eq : K → K → Bool) (test : K → Bool) (pairs : Lis
       subst (IsUnique eq) (sym (put_matched_is eq test p.alike_keys p.equal_keys pairs v)) (subst (IsDistinct eq) (sym (keys-set_value test pairs v)) unique)
 
   pub unique_take_out_matched : Probes eq test → IsUnique eq pairs → IsUnique eq (take_out_matched eq test pairs)
+  unfolding without_at
   unique_take_out_matched probes unique =
       let p = of_probes eq test probes in
       subst (IsUnique eq) (sym (take_out_matched_is eq test p.alike_keys p.equal_keys pairs))
-      (by_test test pairs (IsUnique eq (take_out_by test pairs))
+      (by_test test pairs (IsUnique eq (remove_entry test pairs))
       (λ n. subst (IsUnique eq) (sym n.taken) unique)
-      (λ i f. subst (IsUnique eq) (sym f.taken) (IsUnique-without_at eq p.laws pairs unique i f.pair f.here)))
+      (λ i f. subst (IsUnique eq) (sym f.taken) (IsUnique-remove eq p.laws pairs unique i f.pair f.here)))
 
 -- what a key finds at once: for a search, which doesn't compute that a key of one's own equals itself
 module _ {K V : Type 0} (eq : K → K → Bool) (pairs : List (K × V)) (k : K) where
@@ -312,10 +315,10 @@ module _ {K V : Type 0} (eq : K → K → Bool) (pairs : List (K × V)) (k : K) 
   pub found_take_out : Lawful eq → IsUnique eq pairs → (take_out eq pairs k ≡ take_out eq pairs k) × (at eq (take_out eq pairs k) k ≡ None)
   found_take_out laws unique = (refl, at_take_out_same eq pairs k laws unique)
 
-pub ruleset map_laws = (pair_put, lookup_put, pair_put_key, lookup_put_key, pair_take_out, lookup_take_out, pair_build, lookup_build, pair_retained, lookup_retained, length_put, length_put_key, length_take_out, length_build, length_retained, unique_put, unique_put_key, unique_take_out, unique_build, unique_retained, put_back, put_again, take_out_missing, lookup_matched, pair_matched_found, put_matched_missing, take_out_matched_missing, length_put_matched, length_take_out_matched, lookup_put_matched, lookup_take_out_matched, unique_put_matched, unique_take_out_matched, found_put, found_put_key, found_take_out, equalities)
+pub ruleset map_laws = (pair_put, lookup_put, pair_put_key, lookup_put_key, pair_take_out, lookup_take_out, pair_build, lookup_build, pair_filter, lookup_filter, length_put, length_put_key, length_take_out, keys_take_out, length_build, unique_put, unique_put_key, unique_take_out, unique_build, unique_filter, put_back, put_again, take_out_missing, lookup_matched, pair_matched_found, put_matched_missing, take_out_matched_missing, length_put_matched, length_take_out_matched, keys_take_out_matched, lookup_put_matched, lookup_take_out_matched, unique_put_matched, unique_take_out_matched, found_put, found_put_key, found_take_out, equalities)
 
 -- for keys of a type parameter, where `Lawful K.eq` is at hand
-pub ruleset bound_laws = (at_put, at_put_key, at_take_out, length_put, length_put_key, length_take_out, unique_put, unique_put_key, unique_take_out, put_back, put_again, take_out_missing, found_put, found_put_key, found_take_out)
+pub ruleset bound_laws = (at_put, at_put_key, at_take_out, length_put, length_put_key, length_take_out, keys_take_out, unique_put, unique_put_key, unique_take_out, put_back, put_again, take_out_missing, found_put, found_put_key, found_take_out)
 
 -- at keys that compare by a number that they have
 module _ {K V : Type 0} (f : K → ℕ) (pairs : List (K × V)) (k q : K) where

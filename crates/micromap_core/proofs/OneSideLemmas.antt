@@ -46,7 +46,7 @@ module _ {K V : Type 0} (eq : K → K → Bool) (same : V → V → Bool) (keys 
       omega (arith, many, length-map first (λ (p : K × V). p.0), length-map second (λ (p : K × V). p.0))
 
   module _ (first second : List (K × V)) (unique_first : IsUnique eq first) (unique_second : IsUnique eq second) where
-    same_from_long : length first ≡ length second → list_all (has_value eq same second) first ≡ true → Same eq same first second
+    pub same_from_long : length first ≡ length second → list_all (has_value eq same second) first ≡ true → Same eq same first second
     same_from_long long all =
         let few : length (keys_of second) ≤ length (keys_of first) = omega (arith, long, length-map first (λ (p : K × V). p.0), length-map second (λ (p : K × V). p.0)) in
         let back = members_turned keys (keys_of first) (keys_of second) unique_first (keys_within first second all) few in
@@ -57,7 +57,7 @@ module _ {K V : Type 0} (eq : K → K → Bool) (same : V → V → Bool) (keys 
     all_from_same : Same eq same first second → list_all (has_value eq same second) first ≡ true
     all_from_same are = values_within first second unique_first (alike_from_same eq same keys values first second unique_first unique_second are)
 
-    long_from_same : Same eq same first second → length first ≡ length second
+    pub long_from_same : Same eq same first second → length first ≡ length second
     long_from_same are =
         let alike = alike_from_same eq same keys values first second unique_first unique_second are in
         let back = values_within second first unique_second (FindAlike-symm eq same keys values first second alike) in

@@ -1,20 +1,19 @@
 -- Facts about lists of pairs: what a look-up, an insertion and a removal do where a key passes a test and where none
 -- does, and that keys stay pairwise unequal.
 use Rattle.std.proofs.Common.{◌≡◌, ℕ, ◌<◌, Bool, true, false, List, [], ◌∷◌, ◌++◌, length, get_or, set, Some, None, slice_get, slice_set, if◌then◌else◌, refl, ap, sym, subst, ◌∙◌, inl, inr, arith}
-use Rattle.std.specs.List.{IsDistinct}
+use Rattle.std.specs.List.{IsDistinct, remove}
 use Rattle.std.specs.Cmp.{IsEquivalence}
 use Rattle.std.specs.Option.{option_map, option_map_or}
 use Rattle.std.specs.Map.{keys_of, lookup, lookup_entry, lookup_key, set_value}
 use Rattle.std.proofs.lemmas.List.{map_push, length-map, map-set, get_or-map, set-get_or, length-set, get_or-set_same, get_or-set_other, get_or_default}
 use Rattle.std.proofs.lemmas.Bool.{cases_eq}
-use Rattle.std.proofs.lemmas.List.Sorted.{IsPermutation-swap_remove, IsPermutation-map}
+use Rattle.std.proofs.lemmas.List.Sorted.{IsPermutation-map, IsPermutation-remove}
 use Rattle.std.proofs.lemmas.Map.{keys-set_value}
 use Rattle.std.proofs.lemmas.Map.Keys.{IsDistinct-push, IsDistinct-tail, IsDistinct-IsPermutation, IsDistinct-from_apart, apart_from_distinct}
 use Rattle.std.proofs.lemmas.Option.{get_or_from_slice_get, slice_get_within}
 use Rattle.micromap_core.specs.Found.{FoundAt, NotFound}
-use Rattle.micromap_core.specs.Pairs.{has, index_of, has_room, fits, put, put_key, IsUnique, with_value_at, without_at}
+use Rattle.micromap_core.specs.Pairs.{has, index_of, has_room, fits, put, put_key, IsUnique, with_value_at}
 use Rattle.micromap_core.proofs.FoundLemmas.{not_found}
-use Rattle.micromap_core.proofs.Lists.{swap_remove-without_at}
 
 module _ {K V : Type 0} (test : K → Bool) where
   -- the value and the key of the first pair whose key passes
@@ -120,12 +119,11 @@ module _ {K V : Type 0} (eq : K → K → Bool) (laws : IsEquivalence eq) (pairs
   IsUnique-push k v missing =
       rw (map_push (λ (e : K × V). e.0) pairs (k, v)) (IsDistinct-push laws (keys_of pairs) k unique (not_found (eq k) pairs missing).none)
 
-  -- the last pair in the gap
-  pub IsUnique-without_at : (i : ℕ) (p : K × V) → slice_get pairs i ≡ Some p → IsUnique eq (without_at pairs i)
-  IsUnique-without_at i p here =
-      let within = slice_get_within pairs i p here in
-      let moved = IsPermutation-map (λ (e : K × V). e.0) _ _ (IsPermutation-swap_remove pairs i p within (sym (get_or_from_slice_get pairs i p p here))) in
-      subst (IsUnique eq) (swap_remove-without_at pairs i p within) (IsDistinct-tail eq p.0 _ (IsDistinct-IsPermutation eq laws.symm _ _ moved unique))
+  -- without the pair at an index
+  pub IsUnique-remove : (i : ℕ) (p : K × V) → slice_get pairs i ≡ Some p → IsUnique eq (remove pairs i)
+  IsUnique-remove i p here =
+      let moved = IsPermutation-map (λ (e : K × V). e.0) _ _ (IsPermutation-remove pairs i p (slice_get_within pairs i p here) (sym (get_or_from_slice_get pairs i p p here))) in
+      IsDistinct-tail eq p.0 _ (IsDistinct-IsPermutation eq laws.symm _ _ moved unique)
 
 module _ {K V : Type 0} (eq : K → K → Bool) (pairs : List (K × V)) (k : K) (v : V) where
   -- a put of a stored key keeps the keys, and of a new one adds it at the end

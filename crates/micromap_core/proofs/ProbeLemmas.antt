@@ -2,10 +2,10 @@
 use Rattle.std.proofs.Common.{◌≡◌, ℕ, Bool, true, List, Option, Some, None, is_some, refl, ap, sym, subst, ◌∙◌}
 use Rattle.std.specs.Cmp.{both_ways}
 use Rattle.std.specs.Option.{option_map_or}
-use Rattle.std.specs.Map.{lookup, lookup_entry, lookup_key, set_value}
+use Rattle.std.specs.Map.{lookup, lookup_entry, lookup_key, remove_entry, set_value}
 use Rattle.std.proofs.lemmas.Map.Made.{lookup_key_passes}
 use Rattle.micromap_core.specs.Found.{NotFound}
-use Rattle.micromap_core.specs.Pairs.{has, index_by, put, take_out, take_out_by}
+use Rattle.micromap_core.specs.Pairs.{has, index_by, put, take_out}
 use Rattle.micromap_core.specs.Probe.{at_matched, pair_matched, put_matched, take_out_matched}
 use Rattle.micromap_core.proofs.FoundLemmas.{found_at, not_found}
 use Rattle.micromap_core.proofs.PairsLemmas.{put_stored}
@@ -47,9 +47,9 @@ module _ {K V : Type 0} (eq : K → K → Bool) (test : K → Bool) (alike : (x 
   unfolding pair_matched
   pair_matched_is = matched_is (λ t. lookup_entry t pairs) None (λ e. (no_key test pairs e).entry)
 
-  pub take_out_matched_is : take_out_matched eq test pairs ≡ take_out_by test pairs
+  pub take_out_matched_is : take_out_matched eq test pairs ≡ remove_entry test pairs
   unfolding take_out_matched take_out
-  take_out_matched_is = matched_is (λ t. take_out_by t pairs) pairs (λ e. (no_key test pairs e).taken)
+  take_out_matched_is = matched_is (λ t. remove_entry t pairs) pairs (λ e. (no_key test pairs e).taken)
 
   pub put_matched_is : (v : V) → put_matched eq test pairs v ≡ set_value test pairs v
   unfolding put_matched

@@ -1,7 +1,7 @@
 -- Sameness, fairness and telling apart at worked values, with numbers as keys and values.
 use Rattle.std.proofs.Common.{◌≡◌, ℕ, List, [], ◌∷◌, Some, None, nat_eq, IsFalse, refl}
 use Rattle.std.proofs.lemmas.Bool.{true≢false, false≢true}
-use Rattle.micromap_core.specs.Pairs.{put, put_key, take_out, take_out_by}
+use Rattle.micromap_core.specs.Pairs.{put, put_key, take_out}
 use Rattle.micromap_core.specs.Calls.{Call, insert, insert_key_value, get, get_key_value, contains, remove, remove_entry, len, is_empty, run}
 use Rattle.micromap_core.specs.Same.{is_same, Same, first_difference}
 use Rattle.micromap_core.specs.Steps.{look_up_steps, comparison_steps}
@@ -30,7 +30,7 @@ orders : Same nat_eq nat_eq letters turned × (first_difference nat_eq nat_eq le
 orders = (refl, refl)
 
 missing : IsFalse (is_same nat_eq nat_eq (take_out nat_eq letters 99) turned) × (first_difference nat_eq nat_eq (take_out nat_eq letters 99) turned ≡ Some 99)
-unfolding take_out take_out_by
+unfolding take_out
 missing = (refl, refl)
 
 -- the key of an unequal value, or of the first pair that one of the two lacks, this list's first
@@ -53,7 +53,7 @@ room = (λ fair. false≢true (fair.0 refl refl), λ agree. false≢true agree)
 
 -- a stored key is fair wherever there is room
 stored : IsFair nat_eq 1 2 one one (insert 1 11 ∷ get 1 ∷ remove 1 ∷ len ∷ []) × AnswersAgree nat_eq nat_eq 1 2 one one (insert 1 11 ∷ get 1 ∷ remove 1 ∷ len ∷ []) × (run nat_eq 2 one (insert 1 11 ∷ get 1 ∷ remove 1 ∷ len ∷ [])).1 ≡ none
-unfolding put take_out take_out_by
+unfolding put take_out
 stored = ((λ missing also. absurd (true≢false missing), (tt, (tt, (tt, tt)))), refl, refl)
 
 -- six calls that leave two lists in different orders
@@ -67,7 +67,7 @@ abbrev rolled : Pairs
 rolled = (2, 20) ∷ (3, 30) ∷ (1, 10) ∷ []
 
 mixed : IsFair nat_eq 3 4 three rolled six × AnswersAgree nat_eq nat_eq 3 4 three rolled six × SameAfter nat_eq nat_eq 3 4 three rolled six
-unfolding put_key take_out take_out_by
+unfolding put_key take_out
 mixed = ((tt, (λ missing also. refl, (tt, (tt, (tt, (tt, tt)))))), refl, refl)
 
 -- a look-up tells an unequal value

@@ -1,11 +1,7 @@
--- The steps of a look-up from one pair to the next, and room for those of a comparison.
-use Rattle.std.proofs.Common.{◌≡◌, ◌≢◌, ℕ, suc, ◌+◌, ◌*◌, Bool, false, if◌then◌else◌, List, [], ◌∷◌, length, ap, sym, ◌∙◌, arith, eq-eqb}
+-- Room for the steps of a comparison.
+use Rattle.std.proofs.Common.{◌≡◌, ◌≢◌, ℕ, ◌+◌, ◌*◌, Bool, if◌then◌else◌, List, [], ◌∷◌, length, ap, sym, ◌∙◌, arith, eq-eqb}
 use Rattle.std.proofs.lemmas.Bool.{ne_eqb}
-use Rattle.micromap_core.specs.Steps.{look_up_steps, walk_steps, comparison_steps}
-
--- a first pair whose key differs is one step more
-pub look_up_past : {K V : Type 0} (eq : K → K → Bool) (p : K × V) (ps : List (K × V)) (k : K) → false ≡ eq k p.0 → look_up_steps eq (p ∷ ps) k ≡ suc (look_up_steps eq ps k)
-look_up_past eq p ps k differs = grind (arith, differs)
+use Rattle.micromap_core.specs.Steps.{walk_steps, comparison_steps}
 
 -- the most steps of a look-up of each key that is left among n pairs
 abbrev pub most_steps : {X : Type 0} → List X → ℕ → ℕ

@@ -2,17 +2,17 @@
 -- with texts as keys, and `texts` for one with texts as values too.
 use Rattle.std.proofs.Common.{◌≡◌, ℕ, Bool, true, false, List, [], ◌∷◌, ◌++◌, codes, length, String, Option, Some, None, is_some, cond, if◌then◌else◌, refl, ap, sym, ◌∙◌, string_bytes}
 use Rattle.std.specs.List.{AllByRecursion, IsDistinct}
-use Rattle.std.specs.Map.{keys_of, lookup, set_value}
+use Rattle.std.specs.Map.{keys_of, lookup, remove_entry, set_value}
 use Rattle.std.specs.Option.{option_map}
 use Rattle.std.specs.String.{string_eq}
 use Rattle.std.proofs.lemmas.List.{length-map, map-append}
 use Rattle.std.specs.Fmt.{◌++?◌, comma_space, debug_items}
-use Rattle.micromap_core.specs.Pairs.{at, has, close_gap, put, take_out, take_out_by, IsUnique}
+use Rattle.micromap_core.specs.Pairs.{at, has, put, take_out, IsUnique}
 use Rattle.micromap_core.specs.Print.{map_text, pair_text}
 use Rattle.micromap_core.specs.Probe.{at_matched, is_text, put_matched, take_out_matched}
 use Rattle.micromap_core.specs.Texts.{key_texts, same_text, texts, texts_by}
 use Rattle.micromap_core.proofs.Equalities.{of_probes, probes_text}
-use Rattle.micromap_core.proofs.Lists.{is_some-option_map, map-close_gap}
+use Rattle.micromap_core.proofs.Lists.{is_some-option_map}
 use Rattle.micromap_core.proofs.MapLaws.{lookup_matched}
 use Rattle.micromap_core.proofs.ProbeLemmas.{put_matched_is, take_out_matched_is}
 use Rattle.micromap_core.proofs.TextLemmas.{map_text_known}
@@ -35,13 +35,12 @@ module _ {Z V W : Type 0} (read : V → W) where
         by true rest = refl
         by false rest = ap (λ l. (string_bytes e.0, read e.1) ∷ l) rest
 
-    taken-texts : (pairs : List (String Z × V)) → texts_by read (take_out_by (is_text bs) pairs) ≡ take_out_by (same_text bs) (texts_by read pairs)
-    unfolding take_out_by
+    taken-texts : (pairs : List (String Z × V)) → texts_by read (remove_entry (is_text bs) pairs) ≡ remove_entry (same_text bs) (texts_by read pairs)
     taken-texts [] = refl
     taken-texts (e ∷ es) = by (is_text bs e.0) (taken-texts es)
       where
-        by : (b : Bool) → texts_by read (take_out_by (is_text bs) es) ≡ take_out_by (same_text bs) (texts_by read es) → texts_by read (if b then close_gap es else e ∷ take_out_by (is_text bs) es) ≡ (if b then close_gap (texts_by read es) else (string_bytes e.0, read e.1) ∷ take_out_by (same_text bs) (texts_by read es))
-        by true rest = map-close_gap (λ p. (string_bytes p.0, read p.1)) es
+        by : (b : Bool) → texts_by read (remove_entry (is_text bs) es) ≡ remove_entry (same_text bs) (texts_by read es) → texts_by read (if b then es else e ∷ remove_entry (is_text bs) es) ≡ (if b then texts_by read es else (string_bytes e.0, read e.1) ∷ remove_entry (same_text bs) (texts_by read es))
+        by true rest = refl
         by false rest = ap (λ l. (string_bytes e.0, read e.1) ∷ l) rest
 
     has-texts : (pairs : List (String Z × V)) → has same_text (texts_by read pairs) bs ≡ is_some (lookup (is_text bs) pairs)

@@ -62,9 +62,13 @@ module _ {K V : Type 0} (eq : K → K → Bool) where
   abbrev pub put_pair : List (K × V) → K × V → List (K × V)
   put_pair pairs p = put eq pairs p.0 p.1
 
+  -- the pairs once the items are put
+  abbrev pub put_all : List (K × V) → List (K × V) → List (K × V)
+  put_all = fold put_pair
+
   -- the pairs of a new map once the items are put
   abbrev pub build : List (K × V) → List (K × V)
-  build = fold put_pair []
+  build = put_all []
 
   -- whether each item fits a new map of capacity N when it is put
   abbrev pub all_fit : ℕ → List (K × V) → Bool

@@ -2,8 +2,8 @@
 -- No contract of a public call cites this file.
 use Rattle.std.specs.Prelude.{◌≡◌, ℕ, ◌<◌, Bool, true, false, List, length, Some, None, slice_get, slice_set}
 use Rattle.std.specs.List.{list_any}
-use Rattle.std.specs.Map.{keys_of, lookup, lookup_entry, lookup_key, set_value, set_key}
-use Rattle.micromap_core.specs.Pairs.{take_out_by, without_at}
+use Rattle.std.specs.Map.{keys_of, lookup, lookup_entry, lookup_key, remove_entry, set_value, set_key}
+use Rattle.micromap_core.specs.Pairs.{without_at}
 
 module _ {K V : Type 0} (test : K → Bool) (pairs : List (K × V)) where
   -- the first key that passes stands at the index
@@ -17,7 +17,7 @@ module _ {K V : Type 0} (test : K → Bool) (pairs : List (K × V)) where
     pub value : lookup test pairs ≡ Some pair.1
     pub written : (v : V) → set_value test pairs v ≡ slice_set pairs index (pair.0, v)
     pub replaced : (k : K) (v : V) → set_key test (set_value test pairs v) k ≡ slice_set pairs index (k, v)
-    pub taken : take_out_by test pairs ≡ without_at pairs index
+    pub taken : remove_entry test pairs ≡ without_at pairs index
 
   -- no key passes
   pub record NotFound : Type 0 where
@@ -25,5 +25,5 @@ module _ {K V : Type 0} (test : K → Bool) (pairs : List (K × V)) where
     pub key : lookup_key test pairs ≡ None
     pub value : lookup test pairs ≡ None
     pub written : (v : V) → set_value test pairs v ≡ pairs
-    pub taken : take_out_by test pairs ≡ pairs
+    pub taken : remove_entry test pairs ≡ pairs
     pub none : list_any test (keys_of pairs) ≡ false

@@ -11,11 +11,11 @@ pub mod Calls
 pub mod Clones
 pub mod Closures
 pub mod Columns
-pub mod Retain
 pub mod Same
 pub mod SameLaws
 pub mod Slots
 pub mod Stream
+pub mod Sublist
 pub mod Texts
 pub mod Found
 pub mod Steps

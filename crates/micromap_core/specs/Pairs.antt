@@ -1,18 +1,14 @@
 -- A map's content as a list of pairs of a key and a value, from front to end, and what one look-up, insertion
 -- or removal makes of it. Keys are compared by eq, which need not be identity; N is the capacity.
-use Rattle.std.specs.Prelude.{ℕ, suc, ◌-◌, ◌≤◌, Bool, ◌||◌, List, [], ◌∷◌, ◌++◌, length, take, drop, Option, is_some, slice_get, slice_set, if◌then◌else◌, nat_lt}
+use Rattle.std.specs.Prelude.{ℕ, ◌≤◌, Bool, ◌||◌, List, [], ◌∷◌, ◌++◌, length, Option, is_some, slice_get, slice_set, if◌then◌else◌, nat_lt}
 use Rattle.std.specs.Option.{option_map_or}
-use Rattle.std.specs.List.{IsDistinct, position}
-use Rattle.std.specs.Map.{keys_of, lookup, lookup_entry, set_value, set_key}
+use Rattle.std.specs.List.{IsDistinct, position, remove}
+use Rattle.std.specs.Map.{keys_of, lookup, lookup_entry, remove_entry, set_value, set_key}
 use Rattle.micromap_core.specs.Equalities.{Lawful}
-
--- what stands behind a gap once it is closed: the last comes first
-abbrev pub close_gap : {X : Type 0} → List X → List X
-close_gap xs = drop (length xs - 1) xs ++ take (length xs - 1) xs
 
 -- without the element at the index
 unfoldable pub without_at : {X : Type 0} → List X → ℕ → List X
-without_at xs index = take index xs ++ close_gap (drop (suc index) xs)
+without_at xs index = remove xs index
 
 module _ {K V : Type 0} where
   -- fewer pairs than the capacity
@@ -26,11 +22,6 @@ module _ {K V : Type 0} where
   -- with v as the value of the pair at the index
   abbrev pub with_value_at : List (K × V) → ℕ → V → List (K × V)
   with_value_at pairs index v = option_map_or (λ p. slice_set pairs index (p.0, v)) (slice_get pairs index) pairs
-
-  -- without the first pair whose key passes the test: the last pair moves into the gap
-  unfoldable pub take_out_by : (K → Bool) → List (K × V) → List (K × V)
-  take_out_by test [] = []
-  take_out_by test (e ∷ es) = if test e.0 then close_gap es else e ∷ take_out_by test es
 
   module _ (eq : K → K → Bool) where
     -- no two keys are equal
@@ -71,6 +62,6 @@ module _ {K V : Type 0} where
     unfoldable pub put_key : List (K × V) → K → V → List (K × V)
     put_key pairs k v = if has pairs k then set_key (eq k) (set_value (eq k) pairs v) k else pairs ++ (k, v) ∷ []
 
-    -- without the pair whose key equals k
+    -- without the pair whose key equals k; the others keep their order
     unfoldable pub take_out : List (K × V) → K → List (K × V)
-    take_out pairs k = take_out_by (eq k) pairs
+    take_out pairs k = remove_entry (eq k) pairs

@@ -2,7 +2,6 @@
 #![tactic(auto)]
 
 pub mod entry;
-pub mod laws;
 pub mod map;
 pub mod probe;
 mod slots;

@@ -3,6 +3,7 @@ ghost use Rattle.std.specs.Prelude.{◌≡◌, ◌==◌, ◌≤◌, [], length};
 ghost use Rattle.micromap_core.specs.Pairs.{IsContent};
 
 pub(crate) mod build;
+mod capacity;
 mod clone;
 mod closures;
 mod compare;

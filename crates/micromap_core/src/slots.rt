@@ -1,11 +1,10 @@
 //! The slots in which a map keeps its keys, and those in which it keeps its values. Only this module knows that a slot is
 //! an `Option`, and that each is filled.
-ghost use Rattle.std.specs.Prelude.{◌≡◌, ◌<◌, ◌≤◌, [], ◌∷◌, ◌++◌, length, All, Some, IsOk, IfOk, slice_get};
+ghost use Rattle.std.specs.Prelude.{◌≡◌, ◌<◌, ◌≤◌, [], ◌∷◌, ◌++◌, length, take, All, Some, IsOk, IfOk, slice_get};
 ghost use Rattle.std.specs.Borrow.{sem};
-ghost use Rattle.std.specs.List.{AllZip};
+ghost use Rattle.std.specs.List.{AllZip, remove, swap};
 ghost use Rattle.micromap_core.specs.Slots.{lends_item_at};
 ghost use Rattle.micromap_walk.specs.Filled.{items_of, AreFilled};
-ghost use Rattle.micromap_core.specs.Pairs.{without_at};
 
 mod columns;
 
@@ -14,7 +13,6 @@ pub(crate) use columns::Columns;
 use micromap_walk::slot::{into_item, item_of, item_of_mut};
 use std::alloc::AllocError;
 use std::marker::Model;
-use std::mem;
 
 /// At most `N` items. A contract sees their list, from front to end.
 #[derive(Drop)]
@@ -93,9 +91,41 @@ impl<T, const N: usize> Slots<T, N> {
             None => unreachable!(),
         }
     }
+
+    /// Puts each of two items in the other's place.
+    #[inline]
+    pub(crate) fn swap(&mut self, a: usize, b: usize)
+        requires a_in_bounds { a < length self.old }
+        requires b_in_bounds { b < length self.old }
+        ensures { self.new ≡ swap self.old a b }
+    {
+        self.slots.as_mut_slice().swap(a, b);
+    }
 }
 
 impl<T: Drop, const N: usize> Slots<T, N> {
+    /// Keeps the first `len` items, and drops the others.
+    #[inline]
+    pub(crate) fn truncate(&mut self, len: usize)
+        ensures { self.new ≡ take len self.old }
+    {
+        self.slots.truncate(len);
+    }
+
+    /// The same items in `M` slots, each moved once.
+    #[inline]
+    pub(crate) fn into_capacity<const M: usize>(self) -> Slots<T, M>
+        requires { length self ≤ M }
+        ensures { result ≡ self }
+    {
+        let mut filled = self.into_array_vec();
+        let mut slots = ArrayVec::new();
+        for slot in filled.drain(..) {
+            slots.push(slot);
+        }
+        Slots { slots }
+    }
+
     /// Puts an item last.
     #[inline]
     pub(crate) fn push(&mut self, item: T)
@@ -105,29 +135,14 @@ impl<T: Drop, const N: usize> Slots<T, N> {
         self.slots.push(Some(item));
     }
 
-    /// Takes the item at `index` out; the last one moves there.
+    /// Takes the item at `index` out; those behind it move up by one.
     #[inline]
-    pub(crate) fn swap_remove(&mut self, index: usize) -> T
+    pub(crate) fn remove(&mut self, index: usize) -> T
         requires { index < length self.old }
         ensures answer { slice_get self.old index ≡ Some result }
-        ensures items { self.new ≡ without_at self.old index }
+        ensures items { self.new ≡ remove self.old index }
     {
-        let last = self.take_last();
-        if index < self.len() {
-            mem::replace(self.item_at_mut(index), last)
-        } else {
-            last
-        }
-    }
-
-    // Takes the last item out.
-    #[inline]
-    fn take_last(&mut self) -> T
-        requires { 0 < length self.old }
-        ensures { self.old ≡ self.new ++ result ∷ [] }
-    {
-        let slot = into_item(self.slots.pop());
-        into_item(slot)
+        into_item(self.slots.remove(index))
     }
 
     /// Drops every item.

@@ -1,4 +1,4 @@
-//! Tests of the map: keyed calls and calls by probe, the smallest capacities, and calls that take a closure.
+//! Tests of the map: keyed calls, calls by probe or with a closure, entries, conditions, walks, and what each call drops.
 #![tactic(auto)]
 
 #[cfg(test)]

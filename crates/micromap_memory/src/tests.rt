@@ -104,6 +104,15 @@ fn a_map_is_printed(rt: HostRuntime) -> Result<(), AllocError> {
 }
 
 #[test]
+fn a_set_is_printed(rt: HostRuntime) -> Result<(), AllocError> {
+    let set = set_of_texts(rt.alloc(), ["b", "a", "c"])?;
+    let text = set.to_string(rt.alloc());
+    assert!(rt; lists(&set, &["b", "a", "c"]));
+    assert_eq!(rt; text?.as_str(), "{b, a, c}");
+    Ok(())
+}
+
+#[test]
 fn a_map_is_written_as_json(rt: HostRuntime) -> Result<(), JsonFault> {
     let map = map_of_numbers(rt.alloc())?;
     let text = map_to_json(rt.alloc(), &map);
@@ -193,4 +202,46 @@ fn operations_on_numbers_ask_for_no_memory(rt: HostRuntime) {
     assert!(rt; apart.eq(&[1, 2, 4]));
     assert!(rt; first.bitand(&second).is_ok_and(|both| both.iter().eq(&[3])));
     assert!(rt; first.sub(&second).is_ok_and(|rest| rest.iter().eq(&[1, 2])));
+}
+
+#[test]
+fn calls_on_a_set_of_numbers_ask_for_no_memory(rt: HostRuntime) {
+    let mut set: Set<u8, 3> = [1, 2, 3].into();
+    assert_eq!(rt; set.checked_insert(2), Some(2));
+    assert_eq!(rt; set.checked_insert(4), None);
+    assert!(rt; !set.contains(&4));
+    assert_eq!(rt; set.get(&3), Some(&3));
+    assert_eq!(rt; set.take(&1), Some(1));
+    assert!(rt; set.remove(&2));
+    if set.fits(&5) {
+        assert!(rt; set.insert(5));
+    }
+    if set.fits(&5) {
+        assert_eq!(rt; set.replace(5), Some(5));
+    }
+    assert_eq!(rt; set.len(), 2);
+}
+
+#[test]
+fn probes_of_numbers_ask_for_no_memory(rt: HostRuntime) {
+    let mut set: Set<u8, 3> = [1, 2, 3].into();
+    assert!(rt; set.contains_by(&2u8));
+    assert_eq!(rt; set.get_by(&3u8), Some(&3));
+    assert_eq!(rt; set.take_by(&1u8), Some(1));
+    assert!(rt; set.remove_by(&2u8));
+    assert!(rt; !set.remove_by(&2u8));
+    assert!(rt; set.iter().eq(&[3]));
+}
+
+#[test]
+fn a_difference_of_references_asks_for_no_memory(rt: HostRuntime) -> Result<(), AllocError> {
+    let ours: Set<&u8, 3> = [&1, &2, &3].into();
+    let theirs: Set<&u8, 2> = [&3, &4].into();
+    let mut difference = ours.difference_ref(&theirs);
+    assert!(rt; difference.clone().is_ok());
+    assert_eq!(rt; difference.clone()?.next(), Some(&1));
+    assert_eq!(rt; difference.next(), Some(&1));
+    assert_eq!(rt; difference.next(), Some(&2));
+    assert_eq!(rt; difference.next(), None);
+    Ok(())
 }

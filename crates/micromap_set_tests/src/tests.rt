@@ -2,4 +2,5 @@
 
 mod hints;
 mod operations;
+mod refused;
 mod set;

@@ -5,3 +5,4 @@ mod frame;
 mod graph;
 mod headers;
 mod laws;
+mod sameness;

@@ -1,6 +1,6 @@
 -- Facts about filled slots and the items in them.
-use Rattle.std.proofs.Common.{◌≡◌, ℕ, zero, suc, ◌+◌, ◌-◌, ◌<◌, List, [], ◌∷◌, ◌++◌, length, get_or, set, drop, map, reverse, Option, Some, None, is_some, true, refl, ap, sym, subst, ◌∙◌, arith}
-use Rattle.std.proofs.lemmas.List.{drop_more, drop-set-lt, length-drop, length-map, length-append, map-append, append_cancel_right, reverse-append}
+use Rattle.std.proofs.Common.{◌≡◌, ℕ, zero, suc, ◌+◌, ◌-◌, ◌<◌, List, [], ◌∷◌, length, get_or, set, drop, map, Option, Some, None, is_some, true, refl, ap, sym, subst, ◌∙◌, arith}
+use Rattle.std.proofs.lemmas.List.{drop_more, drop-set-lt, length-drop, length-map}
 use Rattle.std.specs.List.{refill}
 use Rattle.std.proofs.lemmas.Grind.{common_steps}
 use Rattle.micromap_walk.specs.Filled.{items_of, AreFilled, AreLeft}
@@ -14,20 +14,6 @@ module _ {X : Type 0} where
   -- so slots that are made of items are filled
   pub AreFilled-from : (slots : List (Option X)) (items : List X) → slots ≡ map Some items → AreFilled slots
   AreFilled-from slots items made = rw (made, items_of-map) refl
-
-  -- one more filled slot at the end
-  items_of-push : (slots : List (Option X)) (x : X) → items_of (slots ++ Some x ∷ []) ≡ items_of slots ++ x ∷ []
-  items_of-push [] x = refl
-  items_of-push (None ∷ rest) x = items_of-push rest x
-  items_of-push (Some y ∷ rest) x = ap (λ ys. y ∷ ys) (items_of-push rest x)
-
-  get_or_last : (xs : List (Option X)) (x d : Option X) → get_or (xs ++ x ∷ []) (length xs) d ≡ x
-  get_or_last [] x d = refl
-  get_or_last (y ∷ ys) x d = get_or_last ys x d
-
-  before_made : (slots : List (Option X)) (x : X) → AreFilled (slots ++ Some x ∷ []) → AreFilled slots
-  before_made slots x filled =
-      append_cancel_right _ _ _ (filled ∙ rw (items_of-push slots x) (map-append Some (items_of slots) (x ∷ [])))
 
   some_at_made : (items : List X) (i : ℕ) (d : Option X) → i < length items → is_some (get_or (map Some items) i d) ≡ true
   some_at_made [] i d within = absurd (omega arith)
@@ -56,23 +42,6 @@ module _ {X : Type 0} where
 
         pub items_first : items_of slots ≡ x ∷ items_of rest
         items_first = rw (parts, some) refl
-
-    -- the last slot, and those before it
-    module _ (before : List (Option X)) (slot : Option X) (parts : slots ≡ before ++ slot ∷ []) where
-      pub last_some : is_some slot ≡ true
-      last_some =
-          ap is_some (sym (get_or_last before slot None)) ∙ ap (λ ps. is_some (get_or ps (length before) None)) (sym parts)
-          ∙ some_at (length before) None (rw (parts, length-append) (omega arith))
-
-      module _ (x : X) (some : slot ≡ Some x) where
-        pub items_last : items_of slots ≡ items_of before ++ x ∷ []
-        items_last = rw (parts, some) (items_of-push before x)
-
-        pub before_filled : AreFilled before
-        before_filled = before_made before x (subst AreFilled (rw (parts, some) refl) filled)
-
-        pub reversed_first : reverse (items_of slots) ≡ x ∷ reverse (items_of before)
-        reversed_first = rw (items_last, reverse-append) refl
 
 -- a list in place of one that is as long
 pub refill_set : {X : Type 0} (xs : List X) (i : ℕ) (y : X) → refill (length xs) xs (set xs i y) ≡ set xs i y

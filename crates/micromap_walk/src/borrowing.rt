@@ -1,5 +1,5 @@
 //! The walks that lend pairs, keys or values from the front.
-ghost use Rattle.std.specs.Prelude.{◌≡◌, IfSome, Some, Ok, [], length};
+ghost use Rattle.std.specs.Prelude.{◌≡◌, ⊤, IfSome, Some, [], length};
 ghost use Rattle.std.specs.Iterator.{UpTo, at_most};
 ghost use Rattle.std.specs.Iterator.SizeHint.{IsWithinCount};
 ghost use Rattle.std.specs.List.{zip};
@@ -57,12 +57,15 @@ impl<'a, X> Lent<'a, X> {
     {
         Lent::over(self.slots.as_slice())
     }
+}
 
-    /// A walk that goes on where this one stands.
+impl<'a, X> Clone for Lent<'a, X> {
+    ghost is_clone = { λ walk new. new ≡ walk };
+
+    ghost is_infallible = { λ _. ⊤ };
+
     #[inline]
-    pub(crate) fn clone(&self) -> Result<Self, AllocError>
-        ensures { result ≡ Ok self.now }
-    {
+    fn clone(&self) -> Result<Self, AllocError> {
         Ok(Lent {
             slots: self.slots.clone()?,
         })
@@ -126,14 +129,6 @@ impl<'a, K, V> Iter<'a, K, V> {
         }
     }
 
-    /// The number of pairs left.
-    #[inline]
-    pub fn len(&self) -> usize
-        ensures { result ≡ length self.now }
-    {
-        self.keys.len()
-    }
-
     // A walk over what is left.
     #[inline]
     pub(crate) fn left(&self) -> Iter<'_, K, V>
@@ -143,17 +138,6 @@ impl<'a, K, V> Iter<'a, K, V> {
             keys: self.keys.left(),
             values: self.values.left(),
         }
-    }
-
-    /// A walk that goes on where this one stands. It never lacks memory.
-    #[inline]
-    pub fn clone(&self) -> Result<Self, AllocError>
-        ensures { result ≡ Ok self.now }
-    {
-        Ok(Iter {
-            keys: self.keys.clone()?,
-            values: self.values.clone()?,
-        })
     }
 }
 
@@ -183,6 +167,28 @@ impl<'a, K, V> Iterator for Iter<'a, K, V> {
 }
 
 impl<'a, K, V> FusedIterator for Iter<'a, K, V> {}
+
+impl<'a, K, V> ExactSizeIterator for Iter<'a, K, V> {
+    #[inline]
+    fn len(&self) -> usize {
+        self.keys.len()
+    }
+}
+
+/// A clone goes on where the iterator stands. It never lacks memory.
+impl<'a, K, V> Clone for Iter<'a, K, V> {
+    ghost is_clone = { λ walk new. new ≡ walk };
+
+    ghost is_infallible = { λ _. ⊤ };
+
+    #[inline]
+    fn clone(&self) -> Result<Self, AllocError> {
+        Ok(Iter {
+            keys: self.keys.clone()?,
+            values: self.values.clone()?,
+        })
+    }
+}
 
 impl<'a, K, V> Default for Iter<'a, K, V> {
     ghost is_default = { λ left. left ≡ [] };
@@ -219,25 +225,6 @@ impl<'a, K, V> Keys<'a, K, V> {
             _values: PhantomData,
         }
     }
-
-    /// The number of keys left.
-    #[inline]
-    pub fn len(&self) -> usize
-        ensures { result ≡ length self.now }
-    {
-        self.keys.len()
-    }
-
-    /// A walk that goes on where this one stands. It never lacks memory.
-    #[inline]
-    pub fn clone(&self) -> Result<Self, AllocError>
-        ensures { result ≡ Ok self.now }
-    {
-        Ok(Keys {
-            keys: self.keys.clone()?,
-            _values: PhantomData,
-        })
-    }
 }
 
 impl<'a, K, V> Iterator for Keys<'a, K, V> {
@@ -263,6 +250,28 @@ impl<'a, K, V> Iterator for Keys<'a, K, V> {
 }
 
 impl<'a, K, V> FusedIterator for Keys<'a, K, V> {}
+
+impl<'a, K, V> ExactSizeIterator for Keys<'a, K, V> {
+    #[inline]
+    fn len(&self) -> usize {
+        self.keys.len()
+    }
+}
+
+/// A clone goes on where the iterator stands. It never lacks memory.
+impl<'a, K, V> Clone for Keys<'a, K, V> {
+    ghost is_clone = { λ walk new. new ≡ walk };
+
+    ghost is_infallible = { λ _. ⊤ };
+
+    #[inline]
+    fn clone(&self) -> Result<Self, AllocError> {
+        Ok(Keys {
+            keys: self.keys.clone()?,
+            _values: PhantomData,
+        })
+    }
+}
 
 impl<'a, K, V> Default for Keys<'a, K, V> {
     ghost is_default = { λ left. left ≡ [] };
@@ -299,25 +308,6 @@ impl<'a, K, V> Values<'a, K, V> {
             _keys: PhantomData,
         }
     }
-
-    /// The number of values left.
-    #[inline]
-    pub fn len(&self) -> usize
-        ensures { result ≡ length self.now }
-    {
-        self.values.len()
-    }
-
-    /// A walk that goes on where this one stands. It never lacks memory.
-    #[inline]
-    pub fn clone(&self) -> Result<Self, AllocError>
-        ensures { result ≡ Ok self.now }
-    {
-        Ok(Values {
-            values: self.values.clone()?,
-            _keys: PhantomData,
-        })
-    }
 }
 
 impl<'a, K, V> Iterator for Values<'a, K, V> {
@@ -343,6 +333,28 @@ impl<'a, K, V> Iterator for Values<'a, K, V> {
 }
 
 impl<'a, K, V> FusedIterator for Values<'a, K, V> {}
+
+impl<'a, K, V> ExactSizeIterator for Values<'a, K, V> {
+    #[inline]
+    fn len(&self) -> usize {
+        self.values.len()
+    }
+}
+
+/// A clone goes on where the iterator stands. It never lacks memory.
+impl<'a, K, V> Clone for Values<'a, K, V> {
+    ghost is_clone = { λ walk new. new ≡ walk };
+
+    ghost is_infallible = { λ _. ⊤ };
+
+    #[inline]
+    fn clone(&self) -> Result<Self, AllocError> {
+        Ok(Values {
+            values: self.values.clone()?,
+            _keys: PhantomData,
+        })
+    }
+}
 
 impl<'a, K, V> Default for Values<'a, K, V> {
     ghost is_default = { λ left. left ≡ [] };

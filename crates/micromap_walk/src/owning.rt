@@ -1,5 +1,5 @@
-//! The walks that give pairs, keys or values away, from the end.
-ghost use Rattle.std.specs.Prelude.{◌≡◌, IfSome, Some, [], length, reverse};
+//! The walks that give pairs, keys or values away, from the front.
+ghost use Rattle.std.specs.Prelude.{◌≡◌, ◌<◌, ◌+◌, [], ◌∷◌, IfSome, Some, drop, length};
 ghost use Rattle.std.specs.Iterator.{UpTo, at_most};
 ghost use Rattle.std.specs.Iterator.SizeHint.{IsWithinCount};
 ghost use Rattle.std.specs.List.{zip};
@@ -13,78 +13,30 @@ use crate::slot::into_item;
 use arrayvec::ArrayVec;
 use std::iter::FusedIterator;
 use std::marker::Model;
+use std::mem;
 
-/// The items of one column by value, from the end: each walk here is made of two such walks.
-#[derive(Drop)]
-pub(crate) struct Owned<X, const N: usize> {
-    slots: ArrayVec<Option<X>, N>,
-}
-
-impl<X, const N: usize> Model for Owned<X, N> {
-    ghost use Rattle.std.specs.Prelude.{List, reverse};
-    ghost use Rattle.micromap_walk.specs.Filled.{items_of, AreFilled};
-
-    ghost Value = { List X };
-
-    ghost view = { λ walk. reverse (items_of walk.slots.items) };
-
-    ghost invariant = { λ walk. AreFilled walk.slots.items };
-}
-
-impl<X, const N: usize> Owned<X, N> {
-    /// A walk over the items in `slots`.
-    #[inline]
-    pub(crate) fn over(slots: ArrayVec<Option<X>, N>) -> Self
-        requires { AreFilled slots.items }
-        ensures { result ≡ reverse (items_of slots.items) }
-    {
-        Owned { slots }
-    }
-
-    /// The number of items left.
-    #[inline]
-    pub(crate) fn len(&self) -> usize
-        ensures { result ≡ length self.now }
-    {
-        self.slots.len()
-    }
-
-    /// A walk over what is left, from the front.
-    #[inline]
-    pub(crate) fn left(&self) -> Lent<'_, X>
-        ensures { result ≡ reverse self.now }
-    {
-        Lent::over(self.slots.as_slice())
-    }
-}
-
-impl<X: Drop, const N: usize> Owned<X, N> {
-    /// The next item.
-    #[inline]
-    pub(crate) fn next(&mut self) -> Option<X>
-        ensures { TakesFirst (λ x. x) self.old result self.new }
-    {
-        let slot = self.slots.pop()?;
-        Some(into_item(slot))
-    }
-}
-
-/// The pairs by value, from the end. What isn't taken is dropped with the walk.
+/// The pairs by value, from the front. What isn't taken is dropped with the walk.
+///
+/// Every walk that gives away is made of this one. Both columns have one index, since with an index for each the walk
+/// would be two words larger than the map, and a caller that is generic over `N` couldn't show that it fits in memory.
 #[derive(Drop)]
 pub struct IntoIter<K, V, const N: usize> {
-    keys: Owned<K, N>,
-    values: Owned<V, N>,
+    keys: ArrayVec<Option<K>, N>,
+    values: ArrayVec<Option<V>, N>,
+    // How many pairs were given: as many slots in front are empty.
+    given: usize,
 }
 
 impl<K, V, const N: usize> Model for IntoIter<K, V, N> {
-    ghost use Rattle.std.specs.Prelude.{List, ◌≡◌, length};
+    ghost use Rattle.std.specs.Prelude.{List, drop};
     ghost use Rattle.std.specs.List.{zip};
+    ghost use Rattle.micromap_walk.specs.Filled.{items_of, AreLeft};
 
     ghost Value = { List (K × V) };
 
-    ghost view = { λ walk. zip walk.keys walk.values };
+    ghost view = { λ walk. zip (items_of (drop walk.given walk.keys.items)) (items_of (drop walk.given walk.values.items)) };
 
-    ghost invariant = { λ walk. length walk.keys ≡ length walk.values };
+    ghost invariant = { λ walk. AreLeft walk.given walk.keys.items walk.values.items };
 }
 
 impl<K, V, const N: usize> IntoIter<K, V, N> {
@@ -94,32 +46,37 @@ impl<K, V, const N: usize> IntoIter<K, V, N> {
         requires keys { AreFilled keys.items }
         requires values { AreFilled values.items }
         requires equal { length keys.items ≡ length values.items }
-        ensures { result ≡ reverse (zip (items_of keys.items) (items_of values.items)) }
+        ensures { result ≡ zip (items_of keys.items) (items_of values.items) }
     {
         IntoIter {
-            keys: Owned::over(keys),
-            values: Owned::over(values),
+            keys,
+            values,
+            given: 0,
         }
     }
 
-    /// The number of pairs left.
-    #[inline]
-    pub fn len(&self) -> usize
-        ensures { result ≡ length self.now }
-    {
-        self.keys.len()
-    }
-
-    // A walk over what is left, from the front.
+    // A walk over what is left.
     #[inline]
     pub(crate) fn left(&self) -> Iter<'_, K, V>
-        ensures { result ≡ reverse self.now }
+        ensures { result ≡ self.now }
     {
         Iter {
-            keys: self.keys.left(),
-            values: self.values.left(),
+            keys: Lent::over(&self.keys.as_slice()[self.given..]),
+            values: Lent::over(&self.values.as_slice()[self.given..]),
         }
     }
+}
+
+// Takes the item out of the slot at `index`, which is empty from then on.
+#[inline]
+fn taken<X: Drop, const N: usize>(slots: &mut ArrayVec<Option<X>, N>, index: usize) -> X
+    requires filled { AreFilled (drop index slots.old.items) }
+    requires within { index < length slots.old.items }
+    ensures items { items_of (drop index slots.old.items) ≡ result ∷ items_of (drop (index + 1) slots.new.items) }
+    ensures filled { AreFilled (drop (index + 1) slots.new.items) }
+    ensures len { length slots.new.items ≡ length slots.old.items }
+{
+    into_item(mem::take(&mut slots.as_mut_slice()[index]))
 }
 
 impl<K: Drop, V: Drop, const N: usize> Iterator for IntoIter<K, V, N> {
@@ -131,9 +88,12 @@ impl<K: Drop, V: Drop, const N: usize> Iterator for IntoIter<K, V, N> {
 
     #[inline]
     fn next(&mut self) -> Option<(K, V)> {
-        let key = self.keys.next()?;
-        let value = into_item(self.values.next());
-        Some((key, value))
+        let index = self.given;
+        if index == self.keys.len() {
+            return None;
+        }
+        self.given = index + 1;
+        Some((taken(&mut self.keys, index), taken(&mut self.values, index)))
     }
 
     #[inline]
@@ -149,6 +109,13 @@ impl<K: Drop, V: Drop, const N: usize> Iterator for IntoIter<K, V, N> {
 
 impl<K: Drop, V: Drop, const N: usize> FusedIterator for IntoIter<K, V, N> {}
 
+impl<K: Drop, V: Drop, const N: usize> ExactSizeIterator for IntoIter<K, V, N> {
+    #[inline]
+    fn len(&self) -> usize {
+        self.keys.len() - self.given
+    }
+}
+
 impl<K, V, const N: usize> Default for IntoIter<K, V, N> {
     ghost is_default = { λ left. left ≡ [] };
 
@@ -157,7 +124,7 @@ impl<K, V, const N: usize> Default for IntoIter<K, V, N> {
     }
 }
 
-/// The keys of the pairs by value, from the end. What isn't taken is dropped with the walk.
+/// The keys of the pairs by value, from the front. What isn't taken is dropped with the walk.
 #[derive(Drop)]
 pub struct IntoKeys<K, V, const N: usize> {
     pub(crate) pairs: IntoIter<K, V, N>,
@@ -180,19 +147,11 @@ impl<K, V, const N: usize> IntoKeys<K, V, N> {
         requires keys { AreFilled keys.items }
         requires values { AreFilled values.items }
         requires equal { length keys.items ≡ length values.items }
-        ensures { result ≡ keys_of (reverse (zip (items_of keys.items) (items_of values.items))) }
+        ensures { result ≡ keys_of (zip (items_of keys.items) (items_of values.items)) }
     {
         IntoKeys {
             pairs: IntoIter::over(keys, values),
         }
-    }
-
-    /// The number of keys left.
-    #[inline]
-    pub fn len(&self) -> usize
-        ensures { result ≡ length self.now }
-    {
-        self.pairs.len()
     }
 }
 
@@ -221,6 +180,13 @@ impl<K: Drop, V: Drop, const N: usize> Iterator for IntoKeys<K, V, N> {
 
 impl<K: Drop, V: Drop, const N: usize> FusedIterator for IntoKeys<K, V, N> {}
 
+impl<K: Drop, V: Drop, const N: usize> ExactSizeIterator for IntoKeys<K, V, N> {
+    #[inline]
+    fn len(&self) -> usize {
+        self.pairs.len()
+    }
+}
+
 impl<K, V, const N: usize> Default for IntoKeys<K, V, N> {
     ghost is_default = { λ left. left ≡ [] };
 
@@ -229,7 +195,7 @@ impl<K, V, const N: usize> Default for IntoKeys<K, V, N> {
     }
 }
 
-/// The values of the pairs by value, from the end. What isn't taken is dropped with the walk.
+/// The values of the pairs by value, from the front. What isn't taken is dropped with the walk.
 #[derive(Drop)]
 pub struct IntoValues<K, V, const N: usize> {
     pub(crate) pairs: IntoIter<K, V, N>,
@@ -252,19 +218,11 @@ impl<K, V, const N: usize> IntoValues<K, V, N> {
         requires keys { AreFilled keys.items }
         requires values { AreFilled values.items }
         requires equal { length keys.items ≡ length values.items }
-        ensures { result ≡ values_of (reverse (zip (items_of keys.items) (items_of values.items))) }
+        ensures { result ≡ values_of (zip (items_of keys.items) (items_of values.items)) }
     {
         IntoValues {
             pairs: IntoIter::over(keys, values),
         }
-    }
-
-    /// The number of values left.
-    #[inline]
-    pub fn len(&self) -> usize
-        ensures { result ≡ length self.now }
-    {
-        self.pairs.len()
     }
 }
 
@@ -292,6 +250,13 @@ impl<K: Drop, V: Drop, const N: usize> Iterator for IntoValues<K, V, N> {
 }
 
 impl<K: Drop, V: Drop, const N: usize> FusedIterator for IntoValues<K, V, N> {}
+
+impl<K: Drop, V: Drop, const N: usize> ExactSizeIterator for IntoValues<K, V, N> {
+    #[inline]
+    fn len(&self) -> usize {
+        self.pairs.len()
+    }
+}
 
 impl<K, V, const N: usize> Default for IntoValues<K, V, N> {
     ghost is_default = { λ left. left ≡ [] };

@@ -1,4 +1,4 @@
-//! Each walk prints as the list of what is left, from the front of the map, also where it goes from the end.
+//! Each walk prints as the list of what is left.
 use crate::{Drain, IntoIter, IntoKeys, IntoValues, Iter, Keys, Values};
 use std::fmt;
 
@@ -44,6 +44,6 @@ impl<K, V: fmt::Debug, const N: usize> fmt::Debug for IntoValues<K, V, N> {
 
 impl<K: fmt::Debug, V: fmt::Debug, const N: usize> fmt::Debug for Drain<K, V, N> {
     fn fmt<W: fmt::Write>(&self, f: &mut fmt::Formatter<W>) -> fmt::Result {
-        f.debug_list().entries(self.left()).finish()
+        f.debug_list().entries(self.pairs.left()).finish()
     }
 }

@@ -7,7 +7,8 @@ ghost use Rattle.serde_json.specs.Read.{read as value_of};
 ghost use Rattle.serde_json.specs.View.{view, items_view, members_view};
 ghost use Rattle.micromap.specs.Extend.{distinct};
 ghost use Rattle.micromap.specs.Json.{pairs_for, texts_for, and_then, within, whole, whole_members, all_texts, in_bytes, texts_of, Pairs, HasPairs, IsFault};
-ghost use Rattle.micromap.specs.Pairs.{fits, put};
+ghost use Rattle.micromap.specs.Items.{IsItems};
+ghost use Rattle.micromap.specs.Pairs.{IsContent, fits, put};
 ghost use Rattle.micromap.specs.Same.{Same};
 ghost use Rattle.micromap.specs.declared.json.JsonFault.TheVariants.{BadText, NotWhole, NotText, Memory};
 
@@ -26,6 +27,7 @@ pub fn map_from_json<const N: usize>(
     ensures pairs { IfOk result (HasPairs N text.now) }
     ensures fault { IfErr result (IsFault (pairs_for N text.now)) }
     ensures again { (pairs : Pairs) → HasPairs N text.now pairs → MatchResult result (λ map. Same string_eq int_eq pairs map) (λ fault. fault ≡ Memory) }
+    ensures content { IfOk result (IsContent string_eq N) }
 {
     match read(alloc, text)? {
         Value::Object(members) => map_of_members(members),
@@ -39,6 +41,7 @@ pub fn map_from_json<const N: usize>(
 pub fn set_from_json<const N: usize>(alloc: Global, text: &str) -> Result<Set<String, N>, JsonFault>
     ensures texts { IfOk result (λ set. texts_for N text.now ≡ Ok (texts_of set)) }
     ensures fault { IfErr result (IsFault (texts_for N text.now)) }
+    ensures content { IfOk result (IsItems string_eq N) }
 {
     match read(alloc, text)? {
         Value::Array(elements) => set_of_elements(elements),
@@ -63,6 +66,7 @@ fn map_of_members<const N: usize>(
 ) -> Result<Map<String, i64, N>, JsonFault>
     ensures pairs { IfOk result (λ map. and_then (ok_or (whole_members (members_view members.entries)) NotWhole) (within N) ≡ Ok (in_bytes map)) }
     ensures fault { IfErr result (λ fault. and_then (ok_or (whole_members (members_view members.entries)) NotWhole) (within N) ≡ Err fault) }
+    ensures content { IfOk result (IsContent string_eq N) }
 {
     let mut map = Map::new();
     let mut all_fit = true;
@@ -100,6 +104,7 @@ fn put<const N: usize>(map: &mut Map<String, i64, N>, name: String, whole: i64) 
 fn set_of_elements<const N: usize>(elements: Vec<Value>) -> Result<Set<String, N>, JsonFault>
     ensures texts { IfOk result (λ set. and_then (ok_or (all_texts (items_view elements.items)) NotText) (λ texts. within N (distinct bytes_eq texts)) ≡ Ok (texts_of set)) }
     ensures fault { IfErr result (λ fault. and_then (ok_or (all_texts (items_view elements.items)) NotText) (λ texts. within N (distinct bytes_eq texts)) ≡ Err fault) }
+    ensures content { IfOk result (IsItems string_eq N) }
 {
     let mut set = Set::new();
     let mut all_fit = true;

@@ -70,8 +70,8 @@ impl<T: Eq + Drop, const N: usize> Set<T, N> {
         if self.contains(&x) { Some(x) } else { None }
     }
 
-    /// Takes the item that equals `x` out, by one scan, and answers it; the last item moves into the gap. Where there
-    /// is none the answer is `None`, and the set is unchanged.
+    /// Takes the item that equals `x` out, by one scan, and answers it. The others keep their order: those behind it
+    /// move up by one. Where there is none the answer is `None`, and the set is unchanged.
     #[inline]
     pub fn take(&mut self, x: &T) -> Option<T>
         ensures answer { result ≡ item T.eq self.old x.now }

@@ -3,8 +3,8 @@
 ghost use Rattle.std.specs.Prelude.{◌≡◌, ◌+◌, [], IfOk, IfErr, IsTrue, if◌then◌else◌};
 ghost use Rattle.std.specs.Iterator.{UpTo};
 ghost use Rattle.std.specs.Iterator.Runs.{SomeRun, WholeRun};
-ghost use Rattle.micromap.specs.Build.{most_items};
-ghost use Rattle.micromap.specs.Extend.{add_all, all_items_fit, distinct, ExtendsAll, ExtendsUpTo, ItemsBuiltFrom, ItemMisfitAt, ItemMisfitIn};
+ghost use Rattle.micromap.specs.Build.{most_items, PutsAll, PutsUpTo};
+ghost use Rattle.micromap.specs.Extend.{add_all, all_items_fit, distinct, ItemsBuiltFrom, ItemMisfitAt, ItemMisfitIn};
 ghost use Rattle.micromap.specs.Items.{IsItems, add, item_fits};
 
 use super::Set;
@@ -27,8 +27,8 @@ impl<T: Eq + Drop, const N: usize> Set<T, N> {
     pub fn try_extend<I: Iterator<Item = T>>(&mut self, items: I) -> Result<(), Overfull>
         requires can { I.can_next items }
         requires ends { UpTo (I.remaining items) most_items }
-        ensures extends { IfOk result (λ _. ExtendsAll T.eq I.next_gives N self.old items self.new) }
-        ensures misfit { IfErr result (λ e. ExtendsUpTo T.eq I.next_gives N self.old items e.at self.new) }
+        ensures extends { IfOk result (λ _. PutsAll (item_fits T.eq N) (add T.eq) I.next_gives self.old items self.new) }
+        ensures misfit { IfErr result (λ e. PutsUpTo (item_fits T.eq N) (add T.eq) I.next_gives self.old items e.at self.new) }
         ensures runs { IfOk result (λ _. WholeRun I.next_gives items (λ p. self.new ≡ add_all T.eq self.old p.items)) }
         ensures stops { IfErr result (λ e. SomeRun I.next_gives items (λ p. (p.len ≡ e.at + 1) × ItemMisfitIn T.eq N self.old p.items e.at)) }
         ensures content { IsItems T.eq N self.old }

@@ -29,8 +29,8 @@ impl<T: Eq, const N: usize> Set<T, N> {
 }
 
 impl<T: Eq + Drop, const N: usize> Set<T, N> {
-    /// Takes the item that matches out, by one scan, and answers it; the last item moves into the gap. Where none
-    /// matches the answer is `None`, and the set is unchanged.
+    /// Takes the item that matches out, by one scan, and answers it. The others keep their order: those behind it move up
+    /// by one. Where none matches the answer is `None`, and the set is unchanged.
     #[inline]
     pub fn take_by<P: Probe<T>>(&mut self, probe: &P) -> Option<T>
         ensures answer { result ≡ item_matched T.eq (P.matches probe.now) self.old }

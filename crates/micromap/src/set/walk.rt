@@ -1,5 +1,5 @@
 //! The walks over a set, which lend its items from the front or give them away.
-ghost use Rattle.std.specs.Prelude.{◌≡◌, IfSome, Some, [], length, reverse};
+ghost use Rattle.std.specs.Prelude.{◌≡◌, IfSome, Some, [], length};
 ghost use Rattle.std.specs.Iterator.{UpTo, at_most};
 ghost use Rattle.std.specs.Iterator.SizeHint.{IsWithinCount};
 ghost use Rattle.std.specs.Map.Iter.{GivesInOrder, ShowsInOrder, TakesFirst, deref};
@@ -13,7 +13,7 @@ use std::marker::Model;
 /// The items, from the front.
 pub type Iter<'a, T> = map::Keys<'a, T, ()>;
 
-/// The items by value, from the end. What isn't taken is dropped with the walk.
+/// The items by value, from the front. What isn't taken is dropped with the walk.
 pub type IntoIter<T, const N: usize> = map::IntoKeys<T, (), N>;
 
 /// The items by value, from the front. What isn't taken is dropped with the walk.
@@ -29,16 +29,6 @@ impl<T, const N: usize> Model for Drain<T, N> {
     ghost Value = { List T };
 
     ghost view = { λ walk. keys_of walk.pairs };
-}
-
-impl<T: Drop, const N: usize> Drain<T, N> {
-    /// The number of items left.
-    #[inline]
-    pub fn len(&self) -> usize
-        ensures { result ≡ length self.now }
-    {
-        self.pairs.len()
-    }
 }
 
 impl<T: Drop, const N: usize> Iterator for Drain<T, N> {
@@ -66,6 +56,13 @@ impl<T: Drop, const N: usize> Iterator for Drain<T, N> {
 
 impl<T: Drop, const N: usize> FusedIterator for Drain<T, N> {}
 
+impl<T: Drop, const N: usize> ExactSizeIterator for Drain<T, N> {
+    #[inline]
+    fn len(&self) -> usize {
+        self.pairs.len()
+    }
+}
+
 impl<T: Eq, const N: usize> Set<T, N> {
     /// The items from the front.
     #[inline]
@@ -92,13 +89,13 @@ impl<T: Eq + Drop, const N: usize> Set<T, N> {
     }
 }
 
-/// A loop over a set gives its items away from the end. What isn't taken is dropped with the walk.
+/// A loop over a set gives its items away from the front. What isn't taken is dropped with the walk.
 impl<T: Eq + Drop, const N: usize> IntoIterator for Set<T, N> {
     type Item = T;
 
     type IntoIter = IntoIter<T, N>;
 
-    ghost into_iter_gives = { λ s walk. (walk ≡ reverse s) × GivesInOrder T };
+    ghost into_iter_gives = { λ s walk. (walk ≡ s) × GivesInOrder T };
 
     fn into_iter(self) -> IntoIter<T, N> {
         let Set { map } = self;

@@ -70,7 +70,7 @@ pub(super) fn row_31() -> bool {
         Call::IsEmpty,
     ];
     lockstep(&mut first, &mut second, &calls)
-        && has_pairs(&first, &[4, 2], &[40, 20])
+        && has_pairs(&first, &[2, 4], &[20, 40])
         && has_pairs(&second, &[2, 4], &[20, 40])
         && first.eq_with(&second)
 }

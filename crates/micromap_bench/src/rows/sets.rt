@@ -11,10 +11,10 @@ fn numbers<const N: usize>(items: &[i32]) -> Set<i32, N> {
     set
 }
 
-// After a no the last item is visited next.
+// The items are visited from front to end, and the kept ones stay in their order.
 pub(super) fn row_8() -> bool {
     let mut set: Set<i32, 4> = numbers(&[1, 2, 3, 4]);
-    let visits = [1, 4, 2, 3];
+    let visits = [1, 2, 3, 4];
     let mut visited = 0usize;
     let mut in_order = true;
     set.retain(|x| {
@@ -22,7 +22,7 @@ pub(super) fn row_8() -> bool {
         visited = visited.wrapping_add(1);
         *x == 3 || *x == 4
     });
-    in_order && visited == visits.len() && set.iter().eq(&[4, 3])
+    in_order && visited == visits.len() && set.iter().eq(&[3, 4])
 }
 
 // The items before the first misfit are in the set.

@@ -2,7 +2,7 @@
 use micromap::Map;
 use micromap::map::Keys;
 
-// Keys by reference from the front, and by value from the end.
+// Keys by reference and by value, both from the front.
 pub(super) fn row_9() -> bool {
     let mut map: Map<&str, u8, 2> = Map::new();
     map.checked_insert("foo", 0);
@@ -12,7 +12,7 @@ pub(super) fn row_9() -> bool {
         return false;
     }
     let keys = map.into_keys();
-    keys.len() == 2 && keys.eq(["bar", "foo"])
+    keys.len() == 2 && keys.eq(["foo", "bar"])
 }
 
 // A drained map is empty at once.

@@ -56,7 +56,7 @@ impl<'a, K: Eq, V, const N: usize> OccupiedIn<'a, Map<K, V, N>> {
 }
 
 impl<'a, K: Eq + Drop, V: Drop, const N: usize> OccupiedIn<'a, Map<K, V, N>> {
-    /// Takes the pair out, and answers its value; the last pair moves into the gap.
+    /// Takes the pair out, and answers its value. The others keep their order: those behind it move up by one.
     pub fn remove(self) -> V
         requires { IsSound K.eq (Occupied self) }
         ensures answer { entry_value (Occupied self.entry) ≡ Some result }

@@ -1,9 +1,9 @@
-//! Building a map from items, which are put one after the other by the rule of `insert`: each distinct key is stored
-//! as it came first, in that order, with the value of its last item.
+//! Putting the items of an iterator, one after the other by the rule of `insert`: each distinct key is stored as it
+//! came first, in that order, with the value of its last item.
 ghost use Rattle.std.specs.Prelude.{◌≡◌, ◌+◌, IsTrue, IfOk, IfErr};
 ghost use Rattle.std.specs.Iterator.{UpTo};
 ghost use Rattle.std.specs.Iterator.Runs.{SomeRun, WholeRun};
-ghost use Rattle.micromap_core.specs.Build.{all_fit, build, BuiltFrom, MisfitAt, MisfitIn, most_items};
+ghost use Rattle.micromap_core.specs.Build.{all_fit, build, BuiltFrom, MisfitAt, MisfitIn, most_items, pair_fits, put_all, put_pair, PutsAll, PutsUpTo, StopsAt};
 ghost use Rattle.micromap_core.specs.Pairs.{IsContent};
 
 use super::Map;
@@ -47,8 +47,32 @@ impl<K: Eq + Copy, V: Copy, const N: usize> From<[(K, V); N]> for Map<K, V, N> {
 }
 
 impl<K: Eq + Drop, V: Drop, const N: usize> Map<K, V, N> {
-    /// The map of these items, or the position of the first that doesn't fit; then no map is made, and what was put and
-    /// what is left is dropped. Each item costs one scan.
+    /// Puts the items, or answers the position of the first that doesn't fit, counted from 0 over all items. Each item
+    /// costs one scan.
+    ///
+    /// Where one doesn't fit, all before it are in the map, it is dropped, and nothing after it is taken.
+    pub fn try_extend<I: Iterator<Item = (K, V)>>(&mut self, items: I) -> Result<(), Overfull>
+        requires can { I.can_next items }
+        requires ends { UpTo (I.remaining items) most_items }
+        ensures extends { IfOk result (λ _. PutsAll (pair_fits K.eq N) (put_pair K.eq) I.next_gives self.old items self.new) }
+        ensures misfit { IfErr result (λ e. PutsUpTo (pair_fits K.eq N) (put_pair K.eq) I.next_gives self.old items e.at self.new) }
+        ensures runs { IfOk result (λ _. WholeRun I.next_gives items (λ p. self.new ≡ put_all K.eq self.old p.items)) }
+        ensures stops { IfErr result (λ e. SomeRun I.next_gives items (λ p. (p.len ≡ e.at + 1) × StopsAt (pair_fits K.eq N) (put_pair K.eq) self.old p.items e.at)) }
+        ensures content { IsContent K.eq N self.old }
+    {
+        let _content = self.len();
+        let mut at = 0;
+        for (key, value) in items {
+            if self.checked_insert(key, value).is_none() {
+                return Err(Overfull { at });
+            }
+            at += 1;
+        }
+        Ok(())
+    }
+
+    /// The map of these items, or the position of the first that doesn't fit, counted from 0 over all items; then no
+    /// map is made, and what was put and what is left is dropped. Each item costs one scan.
     ///
     /// The answer is `Err` exactly where the items have more than `N` distinct keys.
     pub fn try_from_iter<I: Iterator<Item = (K, V)>>(items: I) -> Result<Self, Overfull>
@@ -61,13 +85,7 @@ impl<K: Eq + Drop, V: Drop, const N: usize> Map<K, V, N> {
         ensures content { IfOk result (IsContent K.eq N) }
     {
         let mut map = Map::new();
-        let mut at = 0;
-        for (key, value) in items {
-            if map.checked_insert(key, value).is_none() {
-                return Err(Overfull { at });
-            }
-            at += 1;
-        }
+        map.try_extend(items)?;
         let _content = map.len();
         Ok(map)
     }

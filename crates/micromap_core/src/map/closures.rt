@@ -3,32 +3,28 @@
 //! A contract says what the closure was called on, in which order, and that each value is what its call left. What the
 //! closure's own captures hold afterwards isn't said.
 ghost use Rattle.std.specs.Prelude.{◌≡◌, map};
+ghost use Rattle.std.specs.Map.{keys_of};
+ghost use Rattle.std.specs.Map.Calls.{CallableOnEachPair, RetainsPairs};
 ghost use Rattle.std.specs.Set.{distinct_count};
-ghost use Rattle.micromap_core.specs.Closures.{MayUpdateAll, MayUpdateDisjoint, UpdatesAll, UpdatesDisjoint};
+ghost use Rattle.micromap_core.specs.Closures.{AcceptsPair, CalledOnPair, MayUpdateAll, MayUpdateDisjoint, UpdatesAll, UpdatesDisjoint};
 ghost use Rattle.micromap_core.specs.Pairs.{IsContent, has};
-ghost use Rattle.micromap_core.specs.Retain.{MayRetain, Retains};
+ghost use Rattle.micromap_core.specs.Sublist.{IsSublist};
 
 use super::Map;
 
 impl<K: Eq + Drop, V: Drop, const N: usize> Map<K, V, N> {
-    /// Keeps the pairs for which `keep` answers `true`, with the values that it left, and drops the others.
+    /// Keeps the pairs for which `keep` answers `true`, in their order, with the values that it left, and drops the
+    /// others.
     ///
-    /// The first pair is visited first. After a yes the next is the front-most pair not yet visited, after a no the
-    /// last one. Each pair is visited once, and the kept ones stand in the order of their visits. It compares no key.
-    pub fn retain<F: FnMut(&K, &mut V) -> bool>(&mut self, mut keep: F)
-        requires { MayRetain F.FnMut keep self.old }
-        ensures pairs { Retains F.FnMut keep self.old self.new }
+    /// It visits the pairs from front to end, each once, and moves each kept pair at most once. It compares no key.
+    pub fn retain<F: FnMut(&K, &mut V) -> bool>(&mut self, keep: F)
+        requires { CallableOnEachPair (CalledOnPair F.FnMut) (AcceptsPair F.FnMut) keep self.old }
+        ensures pairs { RetainsPairs (CalledOnPair F.FnMut) keep self.old self.new }
+        ensures order { IsSublist (keys_of self.new) (keys_of self.old) }
         ensures content { IsContent K.eq N self.old }
     {
         let _content = self.len();
-        let mut index = 0;
-        while index < self.len() {
-            if self.visit_at(index, &mut keep) {
-                index += 1;
-            } else {
-                self.take_at(index);
-            }
-        }
+        self.pairs.retain(keep);
     }
 }
 

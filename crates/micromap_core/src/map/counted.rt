@@ -1,9 +1,10 @@
 //! A look-up and a comparison that count the keys they compare, all of which they compare by `Steps::same`.
-ghost use Rattle.std.specs.Prelude.{◌≡◌, ◌↔◌, ◌+◌, ◌*◌, ◌^◌, ◌<◌, ◌≤◌, length, IsTrue, IsFalse};
+ghost use Rattle.std.specs.Prelude.{◌≡◌, ◌↔◌, ◌+◌, ◌*◌, ◌^◌, ◌<◌, ◌≤◌, length, IfNone, IsTrue, IsFalse};
 ghost use Rattle.std.specs.Bool.{OnTrue};
 ghost use Rattle.std.specs.List.{list_all};
-ghost use Rattle.std.specs.Option.{option_copied};
+ghost use Rattle.std.specs.Option.{IfSome, option_copied};
 ghost use Rattle.micromap_core.specs.Fair.{SameForGood, ToldApart};
+ghost use Rattle.micromap_core.specs.Found.{FoundAt, NotFound};
 ghost use Rattle.micromap_core.specs.Pairs.{at};
 ghost use Rattle.micromap_core.specs.Same.{Same, has_value};
 ghost use Rattle.micromap_core.specs.Steps.{look_up_steps, walk_steps, comparison_steps};
@@ -20,10 +21,26 @@ impl<K: Eq, V, const N: usize> Map<K, V, N> {
         ensures count { steps.new ≡ steps.old + look_up_steps K.eq self.now key.now }
         ensures bounded { steps.new ≤ steps.old + length self.now }
     {
-        for (stored, value) in self {
+        let index = self.index_counted(key, steps)?;
+        Some(self.pair_at(index).1)
+    }
+
+    // The index of the key, by a scan of the keys alone.
+    fn index_counted(&self, key: &K, steps: &mut Steps) -> Option<usize>
+        requires { steps.old + length self.now < 2 ^ 128 }
+        ensures found { IfSome result (FoundAt (K.eq key.now) self.now) }
+        ensures missing { IfNone result (NotFound (K.eq key.now) self.now) }
+        ensures count { steps.new ≡ steps.old + look_up_steps K.eq self.now key.now }
+        ensures bounded { steps.new ≤ steps.old + length self.now }
+    {
+        let keys = self.keys();
+        let _bounded = keys.len();
+        let mut index = 0;
+        for stored in keys {
             if steps.same(key, stored) {
-                return Some(value);
+                return Some(index);
             }
+            index += 1;
         }
         None
     }

@@ -1,13 +1,13 @@
 //! The pairs by their index, and the scans that the calls by a key or a probe make.
 ghost use Rattle.std.specs.Prelude.{◌≡◌, ◌∷◌, [], ◌++◌, ◌<◌, length, Some, None, IfNone, slice_get};
 ghost use Rattle.std.specs.Borrow.{sem};
-ghost use Rattle.std.specs.Map.{lookup, lookup_entry, lookup_key};
+ghost use Rattle.std.specs.Map.{lookup, lookup_entry, lookup_key, remove_entry};
 ghost use Rattle.std.specs.Map.Iter.{deref_pair};
 ghost use Rattle.std.specs.Option.{IfSome, option_map};
 ghost use Rattle.micromap_core.specs.Closures.{CalledOnPair, AcceptsPair, VisitsAt};
 ghost use Rattle.micromap_core.specs.Found.{FoundAt, NotFound};
 ghost use Rattle.micromap_core.specs.Lends.{lends_value_at};
-ghost use Rattle.micromap_core.specs.Pairs.{IsContent, at, has_room, index_by, index_of, pair, put, put_key, take_out_by, with_value_at, without_at};
+ghost use Rattle.micromap_core.specs.Pairs.{IsContent, at, has_room, index_by, index_of, pair, put, put_key, with_value_at, without_at};
 ghost use Rattle.micromap_core.specs.Probe.{at_matched, pair_matched, take_out_matched};
 
 use super::Map;
@@ -165,12 +165,12 @@ impl<K: Eq + Drop, V: Drop, const N: usize> Map<K, V, N> {
         self.pairs.push(key, value);
     }
 
-    // Takes the first pair out whose key the probe matches; the last pair moves there.
+    // Takes the first pair out whose key the probe matches; those behind it move up by one.
     #[inline]
     fn take_first<P: Probe<K>>(&mut self, probe: &P) -> Option<(K, V)>
         ensures pair { result ≡ lookup_entry (P.matches probe.now) self.old }
         ensures value { option_map (λ p. p.1) result ≡ lookup (P.matches probe.now) self.old }
-        ensures pairs { self.new ≡ take_out_by (P.matches probe.now) self.old }
+        ensures pairs { self.new ≡ remove_entry (P.matches probe.now) self.old }
         ensures content { IsContent K.eq N self.old }
     {
         let index = self.index_of(probe)?;
@@ -182,7 +182,7 @@ impl<K: Eq + Drop, V: Drop, const N: usize> Map<K, V, N> {
     pub(crate) fn take<P: Probe<K>>(&mut self, probe: &P) -> Option<(K, V)>
         ensures pair { result ≡ lookup_entry (P.matches probe.now) self.old }
         ensures value { option_map (λ p. p.1) result ≡ lookup (P.matches probe.now) self.old }
-        ensures pairs { self.new ≡ take_out_by (P.matches probe.now) self.old }
+        ensures pairs { self.new ≡ remove_entry (P.matches probe.now) self.old }
         ensures pair_matched { result ≡ pair_matched K.eq (P.matches probe.now) self.old }
         ensures value_matched { option_map (λ p. p.1) result ≡ at_matched K.eq (P.matches probe.now) self.old }
         ensures pairs_matched { self.new ≡ take_out_matched K.eq (P.matches probe.now) self.old }
@@ -191,13 +191,13 @@ impl<K: Eq + Drop, V: Drop, const N: usize> Map<K, V, N> {
         self.take_first(probe)
     }
 
-    // Takes the pair at `index` out; the last pair moves there.
+    // Takes the pair at `index` out; those behind it move up by one.
     #[inline]
     pub(crate) fn take_at(&mut self, index: usize) -> (K, V)
         requires { index < length self.old }
         ensures answer { slice_get self.old index ≡ Some result }
         ensures pairs { self.new ≡ without_at self.old index }
     {
-        self.pairs.swap_remove(index)
+        self.pairs.remove(index)
     }
 }

@@ -7,6 +7,7 @@ ghost use Rattle.micromap_core.specs.Pairs.{IsContent, at, pair, has, fits};
 ghost use Rattle.micromap_core.specs.Lends.{lends_at, lends_at_if};
 
 use super::Map;
+use std::ops::{Index, IndexMut};
 
 impl<K: Eq, V, const N: usize> Map<K, V, N> {
     /// The value at `key`, or `None` where the key is missing, by one scan. It compares as many keys as the index of the
@@ -84,5 +85,31 @@ impl<K: Eq, V, const N: usize> Map<K, V, N> {
             Some(index) => self.value_at(index),
             None => unreachable!(),
         }
+    }
+}
+
+/// `map[&key]` is the value at a key, by one scan. The key must be there: `contains_key` tells.
+impl<'k, K: Eq, V, const N: usize> Index<&'k K> for Map<K, V, N> {
+    type Output = V;
+
+    ghost can_index = { λ pairs key. IsTrue (has K.eq pairs key.now) };
+
+    ghost index_gives = { λ pairs key value. at K.eq pairs key.now ≡ Some value };
+
+    #[inline]
+    fn index(&self, key: &'k K) -> &V {
+        self.index(key)
+    }
+}
+
+/// `map[&key]` lends the value at a key for writing too, as `index_mut` does.
+impl<'k, K: Eq, V, const N: usize> IndexMut<&'k K> for Map<K, V, N> {
+    #[inline]
+    fn index_mut(&mut self, key: &'k K) -> &mut V
+        requires { IsTrue (has K.eq self.old key.now) }
+        ensures* writes_back { sem 𝓛 (lends_at K.row V.row N.row K.eq self.entry key.now result) }
+        ensures answer { at K.eq self.old key.now ≡ Some result.now }
+    {
+        self.index_mut(key)
     }
 }

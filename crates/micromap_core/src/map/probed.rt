@@ -79,8 +79,8 @@ impl<K: Eq, V, const N: usize> Map<K, V, N> {
 }
 
 impl<K: Eq + Drop, V: Drop, const N: usize> Map<K, V, N> {
-    /// Takes the pair of the key that matches out, by one scan, and answers its value; the last pair moves into the
-    /// gap. Where none matches the answer is `None`, and the map is unchanged.
+    /// Takes the pair of the key that matches out, by one scan, and answers its value. The others keep their order:
+    /// those behind it move up by one. Where none matches the answer is `None`, and the map is unchanged.
     #[inline]
     pub fn remove_by<P: Probe<K>>(&mut self, probe: &P) -> Option<V>
         ensures answer { result ≡ at_matched K.eq (P.matches probe.now) self.old }

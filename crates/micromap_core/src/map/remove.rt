@@ -5,8 +5,8 @@ ghost use Rattle.micromap_core.specs.Pairs.{IsContent, at, pair, take_out};
 use super::Map;
 
 impl<K: Eq + Drop, V: Drop, const N: usize> Map<K, V, N> {
-    /// Takes the pair of `key` out, by one scan, and answers its value; the last pair moves into the gap. Where the
-    /// key is missing the answer is `None`, and the map is unchanged.
+    /// Takes the pair of `key` out, by one scan, and answers its value. The others keep their order: those behind it
+    /// move up by one. Where the key is missing the answer is `None`, and the map is unchanged.
     #[inline]
     #[tactic(auto, unfolding(crate::specs::Pairs::take_out))]
     pub fn remove(&mut self, key: &K) -> Option<V>

@@ -2,7 +2,7 @@
 //!
 //! A contract sees a walk as the list of what is left, and says that whatever runs it to its end meets just these, in
 //! order.
-ghost use Rattle.std.specs.Prelude.{◌≡◌, [], reverse};
+ghost use Rattle.std.specs.Prelude.{◌≡◌, []};
 ghost use Rattle.std.specs.Map.{keys_of, values_of};
 ghost use Rattle.std.specs.Map.Iter.{GivesInOrder, ShowsInOrder, deref, deref_pair};
 ghost use Rattle.micromap_core.specs.Pairs.{IsContent};
@@ -39,10 +39,10 @@ impl<K: Eq, V, const N: usize> Map<K, V, N> {
         Values::over(self.pairs.values())
     }
 
-    /// The keys by value, from the end. What isn't taken is dropped with the walk.
+    /// The keys by value, from the front. What isn't taken is dropped with the walk.
     #[inline]
     pub fn into_keys(self) -> IntoKeys<K, V, N>
-        ensures answer { result ≡ keys_of (reverse self) }
+        ensures answer { result ≡ keys_of self }
         ensures runs { GivesInOrder K }
     {
         let Map { pairs } = self;
@@ -50,10 +50,10 @@ impl<K: Eq, V, const N: usize> Map<K, V, N> {
         IntoKeys::over(keys, values)
     }
 
-    /// The values by value, from the end. What isn't taken is dropped with the walk.
+    /// The values by value, from the front. What isn't taken is dropped with the walk.
     #[inline]
     pub fn into_values(self) -> IntoValues<K, V, N>
-        ensures answer { result ≡ values_of (reverse self) }
+        ensures answer { result ≡ values_of self }
         ensures runs { GivesInOrder V }
     {
         let Map { pairs } = self;
@@ -78,13 +78,13 @@ impl<K: Eq + Drop, V: Drop, const N: usize> Map<K, V, N> {
     }
 }
 
-/// A loop over a map gives its pairs away from the end. What isn't taken is dropped with the walk.
+/// A loop over a map gives its pairs away from the front. What isn't taken is dropped with the walk.
 impl<K: Eq + Drop, V: Drop, const N: usize> IntoIterator for Map<K, V, N> {
     type Item = (K, V);
 
     type IntoIter = IntoIter<K, V, N>;
 
-    ghost into_iter_gives = { λ m walk. (walk ≡ reverse m) × GivesInOrder (K × V) };
+    ghost into_iter_gives = { λ m walk. (walk ≡ m) × GivesInOrder (K × V) };
 
     fn into_iter(self) -> IntoIter<K, V, N> {
         let Map { pairs } = self;

@@ -1,14 +1,14 @@
 //! The keys and the values of a map, each in slots of their own: a pair is a key and the value at the same index.
-ghost use Rattle.std.specs.Prelude.{◌≡◌, ◌<◌, ◌≤◌, [], ◌∷◌, ◌++◌, length, All, Some, IsOk, IfOk, slice_get, slice_set};
+ghost use Rattle.std.specs.Prelude.{◌≡◌, ◌<◌, ◌≤◌, [], ◌∷◌, ◌++◌, length, take, All, Some, IsOk, IfOk, slice_get, slice_set};
 ghost use Rattle.std.specs.Borrow.{sem};
-ghost use Rattle.std.specs.List.{AllZip, zip};
+ghost use Rattle.std.specs.List.{AllZip, remove, swap, zip};
 ghost use Rattle.std.specs.Map.{keys_of, values_of};
+ghost use Rattle.std.specs.Map.Calls.{CallableOnEachPair, RetainsPairs};
 ghost use Rattle.std.specs.Option.{IfSome, option_map};
 ghost use Rattle.micromap_walk.specs.Filled.{items_of, AreFilled};
 ghost use Rattle.micromap_core.specs.Clones.{IsPairClone};
 ghost use Rattle.micromap_core.specs.Closures.{AcceptsPair, CalledOnPair, VisitsAt};
 ghost use Rattle.micromap_core.specs.Columns.{lends_value_in};
-ghost use Rattle.micromap_core.specs.Pairs.{without_at};
 
 use super::Slots;
 use arrayvec::ArrayVec;
@@ -145,9 +145,33 @@ impl<K, V, const N: usize> Columns<K, V, N> {
             mem::replace(self.values.item_at_mut(index), value),
         )
     }
+
+    /// Puts each of two pairs in the other's place.
+    #[inline]
+    pub(crate) fn swap(&mut self, a: usize, b: usize)
+        requires a_in_bounds { a < length self.old }
+        requires b_in_bounds { b < length self.old }
+        ensures { self.new ≡ swap self.old a b }
+    {
+        self.keys.swap(a, b);
+        self.values.swap(a, b);
+    }
 }
 
 impl<K: Drop, V: Drop, const N: usize> Columns<K, V, N> {
+    /// The same pairs in `M` slots of each column, each moved once.
+    #[inline]
+    pub(crate) fn into_capacity<const M: usize>(self) -> Columns<K, V, M>
+        requires { length self ≤ M }
+        ensures { result ≡ self }
+    {
+        let Columns { keys, values } = self;
+        Columns {
+            keys: keys.into_capacity(),
+            values: values.into_capacity(),
+        }
+    }
+
     /// Puts a pair last.
     #[inline]
     pub(crate) fn push(&mut self, key: K, value: V)
@@ -160,18 +184,45 @@ impl<K: Drop, V: Drop, const N: usize> Columns<K, V, N> {
         self.values.push(value);
     }
 
-    /// Takes the pair at `index` out; the last one moves there.
+    /// Takes the pair at `index` out; those behind it move up by one.
     #[inline]
-    pub(crate) fn swap_remove(&mut self, index: usize) -> (K, V)
+    pub(crate) fn remove(&mut self, index: usize) -> (K, V)
         requires { index < length self.old }
         ensures answer { slice_get self.old index ≡ Some result }
-        ensures pairs { self.new ≡ without_at self.old index }
+        ensures pairs { self.new ≡ remove self.old index }
     {
         let len = self.len();
-        let key = self.keys.swap_remove(index);
+        let key = self.keys.remove(index);
         hint_equal(self.values.len(), len);
-        let value = self.values.swap_remove(index);
+        let value = self.values.remove(index);
         (key, value)
+    }
+
+    /// Keeps the first `len` pairs, and drops the others.
+    #[inline]
+    pub(crate) fn truncate(&mut self, len: usize)
+        ensures { self.new ≡ take len self.old }
+    {
+        self.keys.truncate(len);
+        self.values.truncate(len);
+    }
+
+    /// Keeps the pairs for which `keep` answers `true`, in their order, and drops the others. Each kept pair is moved
+    /// behind those kept before it, and the one that stands there waits in its place for its end, so that no slot is
+    /// ever empty.
+    #[inline]
+    pub(crate) fn retain<F: FnMut(&K, &mut V) -> bool>(&mut self, mut keep: F)
+        requires { CallableOnEachPair (CalledOnPair F.FnMut) (AcceptsPair F.FnMut) keep self.old }
+        ensures { RetainsPairs (CalledOnPair F.FnMut) keep self.old self.new }
+    {
+        let mut kept = 0;
+        for index in 0..self.len() {
+            if self.visit_at(index, &mut keep) {
+                self.swap(kept, index);
+                kept += 1;
+            }
+        }
+        self.truncate(kept);
     }
 
     /// Drops every pair.

@@ -1,16 +1,30 @@
-//! Pairs kept and values written by a closure, and three callers' proofs over the final list.
+//! Pairs kept and values written by a closure, and four callers' proofs over the final list.
 ghost use Rattle.std.specs.Prelude.{◌≡◌, ◌==◌, ◌%◌, nat_eq, map};
+ghost use Rattle.std.specs.List.{filter};
+ghost use Rattle.std.specs.Map.{keys_of};
 ghost use Rattle.std.specs.Set.{distinct_count};
 ghost use Rattle.micromap.specs.Closures.{updated_disjoint};
-ghost use Rattle.micromap.specs.Retain.{retained};
+ghost use Rattle.micromap.specs.Sublist.{IsSublist};
 
 use micromap::Map;
 
 // Keeps the pairs with an even key.
 fn keep_even<const N: usize>(pairs: &mut Map<u8, u8, N>)
-    ensures { pairs.new ≡ retained (λ p. p.0 % 2 == 0) pairs.old }
+    ensures { pairs.new ≡ filter (λ p. p.0 % 2 == 0) pairs.old }
 {
     pairs.retain(|key, _| *key % 2 == 0);
+}
+
+// Keeps as many pairs as `limit` says, from the front.
+fn keep_some<const N: usize>(pairs: &mut Map<u8, u8, N>, limit: u8)
+    ensures { IsSublist (keys_of pairs.new) (keys_of pairs.old) }
+{
+    let mut left = limit;
+    pairs.retain(|_, _| {
+        let stays = left > 0;
+        left = left.saturating_sub(1);
+        stays
+    });
 }
 
 // Sets each value to its key.
@@ -37,13 +51,13 @@ fn numbered(keys: &[u8]) -> Map<u8, u8, 10> {
     map
 }
 
-// Whether a walk over `keys` that keeps those of `kept` visits them in the order of `visits`.
-fn retains(keys: &[u8], kept: &[u8], visits: &[u8]) -> bool {
+// Whether `retain` visits `keys` from front to end and keeps those of `kept` in their order.
+fn retains(keys: &[u8], kept: &[u8]) -> bool {
     let mut map = numbered(keys);
     let mut number = 0usize;
     let mut in_order = true;
     map.retain(|key, _| {
-        in_order &= visits.get(number) == Some(key);
+        in_order &= keys.get(number) == Some(key);
         number = number.wrapping_add(1);
         kept.contains(key)
     });
@@ -52,24 +66,16 @@ fn retains(keys: &[u8], kept: &[u8], visits: &[u8]) -> bool {
 
 #[test]
 fn each_pair_is_visited_once_in_turn(rt: HostRuntime) {
-    let visited: [(&[u8], &[u8], &[u8]); 6] = [
-        (&[1, 2, 3, 4, 5], &[4, 2], &[1, 5, 4, 2, 3]),
-        (
-            &[0, 1, 2, 3, 4, 5, 6, 7],
-            &[0, 6, 2, 4],
-            &[0, 1, 7, 6, 2, 3, 5, 4],
-        ),
-        (
-            &[9, 1, 2, 3, 4, 5, 6, 7, 8, 10],
-            &[10, 8, 2, 6, 4],
-            &[9, 10, 1, 8, 2, 3, 7, 6, 4, 5],
-        ),
-        (&[1, 2, 3], &[1, 2, 3], &[1, 2, 3]),
-        (&[1, 2, 3], &[], &[1, 3, 2]),
-        (&[], &[], &[]),
+    let visited: [(&[u8], &[u8]); 6] = [
+        (&[1, 2, 3, 4, 5], &[2, 4]),
+        (&[0, 1, 2, 3, 4, 5, 6, 7], &[0, 2, 4, 6]),
+        (&[9, 1, 2, 3, 4, 5, 6, 7, 8, 10], &[2, 4, 6, 8, 10]),
+        (&[1, 2, 3], &[1, 2, 3]),
+        (&[1, 2, 3], &[]),
+        (&[], &[]),
     ];
-    for (keys, kept, visits) in visited {
-        assert!(rt; retains(keys, kept, visits));
+    for (keys, kept) in visited {
+        assert!(rt; retains(keys, kept));
     }
 }
 
@@ -80,10 +86,12 @@ fn a_kept_pair_has_the_value_that_its_call_left(rt: HostRuntime) {
         *value = value.wrapping_add(1);
         *value != 3
     });
-    assert!(rt; map.into_iter().eq([(3, 4), (4, 5), (1, 2)]));
-    let mut map = numbered(&[1, 2, 3, 4, 5]);
+    assert!(rt; map.drain().eq([(1, 2), (3, 4), (4, 5)]));
+    let mut map = numbered(&[1, 2, 3, 4, 5, 6]);
     keep_even(&mut map);
-    assert!(rt; map.into_keys().eq([2, 4]));
+    assert!(rt; map.keys().eq(&[2, 4, 6]));
+    keep_some(&mut map, 2);
+    assert!(rt; map.keys().eq(&[2, 4]));
 }
 
 #[test]
@@ -141,7 +149,7 @@ fn a_closure_counts_its_calls(rt: HostRuntime) {
         visits % 2 == 1
     });
     assert_eq!(rt; visits, 5);
-    assert!(rt; map.drain().eq([(1, 11), (5, 53), (4, 45)]));
+    assert!(rt; map.drain().eq([(1, 11), (3, 33), (5, 55)]));
 }
 
 #[test]

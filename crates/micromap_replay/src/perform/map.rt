@@ -82,14 +82,16 @@ fn add_disjoint<const N: usize>(map: &mut Numbers<N>, amount: i32, keys: [Marked
 }
 
 // The pairs that a clone of the map gives away.
-fn given_away<const N: usize>(alloc: Global, map: &Numbers<N>) -> Result<List<Pair>, AllocError> {
+fn given_away<const N: usize>(alloc: Global, map: &Numbers<N>) -> Result<List<Pair>, AllocError>
+    // A walk that gives away is larger than its map, and must have a size too.
+    requires { N ≤ LARGEST }
+{
     let pairs = map.clone()?.into_iter().map(Pair::from);
     Ok(List::of(pairs.collect(alloc)?))
 }
 
 // The pairs, which are taken out.
 fn drained<const N: usize>(alloc: Global, map: &mut Numbers<N>) -> Result<List<Pair>, AllocError>
-    // A drain is larger than its map, and must have a size too.
     requires { N ≤ LARGEST }
 {
     let pairs = map.drain().map(Pair::from);

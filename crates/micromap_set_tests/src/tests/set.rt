@@ -1,7 +1,7 @@
 //! The set as a user meets it, and two callers' proofs over its items.
 ghost use Rattle.std.specs.Prelude.{◌≡◌, ◌==◌, ◌%◌, if◌then◌else◌, nat_eq};
 ghost use Rattle.micromap.specs.Items.{add, item_fits};
-ghost use Rattle.micromap.specs.Retain.{retained};
+ghost use Rattle.std.specs.List.{filter};
 
 use micromap::{Set, Text};
 use micromap_testing::{Digit, Id, Marked, gives, holds};
@@ -73,7 +73,7 @@ fn texts_find_their_items(rt: HostRuntime) -> Result<(), AllocError> {
     let mut set = texts::<4>(rt.alloc(), &["a", "b", "c"])?;
     let taken = set.take_by(&Text("a"));
     assert!(rt; taken.is_some_and(|text| text.as_str() == "a"));
-    assert!(rt; lists(&set, &["c", "b"]));
+    assert!(rt; lists(&set, &["b", "c"]));
     assert!(rt; !set.remove_by(&Text("a")));
     assert!(rt; set.contains_by(&Text("b")));
     assert!(rt;
@@ -109,13 +109,13 @@ fn put<const N: usize>(set: &mut Set<i32, N>, item: i32) -> bool {
 // Whether the first of ten items goes, comes back at the end, and goes again.
 fn first_goes_and_comes(set: &mut Set<i32, 10>) -> bool {
     set.take(&0) == Some(0)
-        && holds(set, &[9, 1, 2, 3, 4, 5, 6, 7, 8])
+        && holds(set, &[1, 2, 3, 4, 5, 6, 7, 8, 9])
         && !set.contains(&10)
         && !set.remove(&0)
         && put(set, 0)
-        && holds(set, &[9, 1, 2, 3, 4, 5, 6, 7, 8, 0])
+        && holds(set, &[1, 2, 3, 4, 5, 6, 7, 8, 9, 0])
         && set.remove(&0)
-        && holds(set, &[9, 1, 2, 3, 4, 5, 6, 7, 8])
+        && holds(set, &[1, 2, 3, 4, 5, 6, 7, 8, 9])
 }
 
 #[test]
@@ -127,15 +127,15 @@ fn a_long_run_on_one_set(rt: HostRuntime) {
     assert!(rt; holds(&set, &[0, 1, 2, 3, 4, 5, 6, 7, 8, 9]));
     assert!(rt; first_goes_and_comes(&mut set));
     assert!(rt; put(&mut set, 10));
-    assert!(rt; holds(&set, &[9, 1, 2, 3, 4, 5, 6, 7, 8, 10]));
+    assert!(rt; holds(&set, &[1, 2, 3, 4, 5, 6, 7, 8, 9, 10]));
     assert_eq!(rt; set.get(&10), Some(&10));
     assert_eq!(rt; set.get(&11), None);
     set.retain(|x| *x % 2 == 0);
-    assert!(rt; holds(&set, &[10, 8, 2, 6, 4]));
+    assert!(rt; holds(&set, &[2, 4, 6, 8, 10]));
     let mut items = set.iter();
-    assert_eq!(rt; items.next(), Some(&10));
-    assert!(rt; gives(items, &[&8, &2, &6, &4]));
-    assert!(rt; gives(set.into_iter(), &[4, 6, 2, 8, 10]));
+    assert_eq!(rt; items.next(), Some(&2));
+    assert!(rt; gives(items, &[&4, &6, &8, &10]));
+    assert!(rt; gives(set.into_iter(), &[2, 4, 6, 8, 10]));
 }
 
 #[test]
@@ -176,11 +176,12 @@ fn a_loop_lends_each_item_or_gives_it_away(rt: HostRuntime) {
         last = *item;
     }
     assert_eq!(rt; last, 3);
+    last = 0;
     for item in set {
-        assert_eq!(rt; item, last);
-        last = item.wrapping_sub(1);
+        assert_eq!(rt; item, last.wrapping_add(1));
+        last = item;
     }
-    assert_eq!(rt; last, 0);
+    assert_eq!(rt; last, 3);
 }
 
 #[test]
@@ -205,18 +206,18 @@ fn sets_within_and_apart(rt: HostRuntime) {
 
 // Keeps the even numbers.
 fn keep_even<const N: usize>(set: &mut Set<u8, N>)
-    ensures { set.new ≡ retained (λ x. x % 2 == 0) set.old }
+    ensures { set.new ≡ filter (λ x. x % 2 == 0) set.old }
 {
     set.retain(|x| *x % 2 == 0);
 }
 
-// Whether a walk over `items` that keeps those of `kept` visits them in the order of `visits`.
-fn retains(items: &[u8], kept: &[u8], visits: &[u8]) -> bool {
+// Whether `retain` visits `items` from front to end and keeps those of `kept` in their order.
+fn retains(items: &[u8], kept: &[u8]) -> bool {
     let mut set: Set<u8, 10> = numbers(items);
     let mut number = 0usize;
     let mut in_order = true;
     set.retain(|item| {
-        in_order &= visits.get(number) == Some(item);
+        in_order &= items.get(number) == Some(item);
         number = number.wrapping_add(1);
         kept.contains(item)
     });
@@ -225,18 +226,14 @@ fn retains(items: &[u8], kept: &[u8], visits: &[u8]) -> bool {
 
 #[test]
 fn each_item_is_visited_once_in_turn(rt: HostRuntime) {
-    let visited: [(&[u8], &[u8], &[u8]); 4] = [
-        (&[1, 2, 3, 4, 5], &[4, 2], &[1, 5, 4, 2, 3]),
-        (
-            &[9, 1, 2, 3, 4, 5, 6, 7, 8, 10],
-            &[10, 8, 2, 6, 4],
-            &[9, 10, 1, 8, 2, 3, 7, 6, 4, 5],
-        ),
-        (&[1, 2, 3], &[1, 2, 3], &[1, 2, 3]),
-        (&[1, 2, 3], &[], &[1, 3, 2]),
+    let visited: [(&[u8], &[u8]); 4] = [
+        (&[1, 2, 3, 4, 5], &[2, 4]),
+        (&[9, 1, 2, 3, 4, 5, 6, 7, 8, 10], &[2, 4, 6, 8, 10]),
+        (&[1, 2, 3], &[1, 2, 3]),
+        (&[1, 2, 3], &[]),
     ];
-    for (items, kept, visits) in visited {
-        assert!(rt; retains(items, kept, visits));
+    for (items, kept) in visited {
+        assert!(rt; retains(items, kept));
     }
 }
 
@@ -244,5 +241,5 @@ fn each_item_is_visited_once_in_turn(rt: HostRuntime) {
 fn even_items_are_kept(rt: HostRuntime) {
     let mut set: Set<u8, 5> = numbers(&[1, 2, 3, 4, 5]);
     keep_even(&mut set);
-    assert!(rt; holds(&set, &[4, 2]));
+    assert!(rt; holds(&set, &[2, 4]));
 }

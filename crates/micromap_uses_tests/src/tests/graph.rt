@@ -21,7 +21,7 @@ fn an_edge_goes_both_ways_or_is_refused(rt: HostRuntime) {
     assert!(rt; graph.remove_edge(1, 0));
     assert!(rt; !graph.has_edge(0, 1));
     assert!(rt; !graph.remove_edge(0, 1));
-    assert!(rt; graph.neighbours(0).eq(&[7, 2]));
+    assert!(rt; graph.neighbours(0).eq(&[2, 7]));
     assert_eq!(rt; graph.degree(1), 0);
 }
 

@@ -1,5 +1,6 @@
 //! Callers that are proved by the laws of the map and the set alone: one line names the laws, and no proof is written.
-ghost use Rattle.std.specs.Prelude.{◌≡◌, ◌≤◌, ◌+◌, ◌&&◌, IfOk, Some, None, IsTrue, is_some, length, nat_eq, not, if◌then◌else◌};
+ghost use Rattle.std.specs.Prelude.{◌≡◌, ◌≤◌, ◌+◌, ◌&&◌, IfOk, Some, None, IsTrue, filter, is_some, length, nat_eq, not, if◌then◌else◌};
+ghost use Rattle.std.specs.Map.{keys_of};
 ghost use Rattle.std.specs.Option.{option_map_or};
 ghost use Rattle.std.specs.Ordering.{on};
 ghost use Rattle.std.specs.String.{string_bytes, string_eq};
@@ -8,6 +9,7 @@ ghost use Rattle.micromap.specs.Pairs.{at, fits, has, put, take_out};
 ghost use Rattle.micromap.specs.Probe.{at_matched, is_text, put_matched, take_out_matched};
 ghost use Rattle.micromap.specs.Texts.{item_texts, key_texts, same_text, texts};
 
+use micromap::map::Entry;
 use micromap::{Map, Set, Text};
 use micromap_testing::Marked;
 use std::alloc::{AllocError, Global};
@@ -97,6 +99,28 @@ fn put_any<K: Eq + Drop>(map: &mut Map<K, u8, 8>, a: K, b: &K) -> Option<u8>
 {
     map.insert(a, 1);
     map.get(b).copied()
+}
+
+// Takes a number out by its entry, and answers whether it was there. The other keys keep their order.
+#[tactic(auto, using(micromap_core::proofs::MapLaws::map_laws))]
+fn leave_out<const N: usize>(map: &mut Map<u8, u8, N>, number: u8) -> bool
+    ensures { keys_of map.new ≡ filter (λ k. not (nat_eq number k)) (keys_of map.old) }
+{
+    match map.entry(number) {
+        Entry::Occupied(entry) => {
+            entry.remove();
+            true
+        }
+        Entry::Vacant(_entry) => false,
+    }
+}
+
+// Takes a word out. The others keep their order.
+#[tactic(auto, using(micromap::proofs::SetLaws::set_laws))]
+fn strike<const N: usize>(words: &mut Set<String, N>, word: &str)
+    ensures { words.new ≡ filter (λ x. not (is_text word.now x)) words.old }
+{
+    words.take_by(&Text(word));
 }
 
 // Takes a name out, which isn't found any more.

@@ -3,6 +3,7 @@ ghost use Rattle.std.specs.Prelude.{◌≡◌, All, IsOk, IfOk};
 ghost use Rattle.std.specs.List.{AllZip};
 ghost use Rattle.std.specs.Set.{ClonesAreEqual};
 ghost use Rattle.micromap.specs.Clones.{AreIdentical};
+ghost use Rattle.micromap.specs.Items.{IsItems};
 ghost use Rattle.micromap.specs.Operations.{difference, intersection};
 
 use crate::Set;
@@ -18,14 +19,16 @@ impl<T: Eq + Clone + Drop, const N: usize> Set<T, N> {
         requires { ClonesAreEqual T.eq T.is_clone }
         ensures clones { IfOk result (AllZip T.is_clone (intersection T.eq self.now other.now)) }
         ensures same { AreIdentical T.is_clone → IfOk result (λ new. new ≡ intersection T.eq self.now other.now) }
+        ensures content { IfOk result (IsItems T.eq N) }
         ensures succeeds { All T.is_infallible (intersection T.eq self.now other.now) → IsOk result }
     {
         let _content = self.len();
-        let mut set = Set::new();
+        let mut both: Self = Set::new();
         for x in self.intersection(other) {
-            set.insert(x.clone()?);
+            both.insert(x.clone()?);
         }
-        Ok(set)
+        let _made = both.len();
+        Ok(both)
     }
 
     /// A set of the clones of the items without an equal one in `other`, in their order. An item's clone must be equal
@@ -37,13 +40,15 @@ impl<T: Eq + Clone + Drop, const N: usize> Set<T, N> {
         requires { ClonesAreEqual T.eq T.is_clone }
         ensures clones { IfOk result (AllZip T.is_clone (difference T.eq self.now other.now)) }
         ensures same { AreIdentical T.is_clone → IfOk result (λ new. new ≡ difference T.eq self.now other.now) }
+        ensures content { IfOk result (IsItems T.eq N) }
         ensures succeeds { All T.is_infallible (difference T.eq self.now other.now) → IsOk result }
     {
         let _content = self.len();
-        let mut set = Set::new();
+        let mut rest: Self = Set::new();
         for x in self.difference(other) {
-            set.insert(x.clone()?);
+            rest.insert(x.clone()?);
         }
-        Ok(set)
+        let _made = rest.len();
+        Ok(rest)
     }
 }

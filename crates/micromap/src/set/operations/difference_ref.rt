@@ -1,5 +1,5 @@
 //! The difference of two sets of references, by what they point to.
-ghost use Rattle.std.specs.Prelude.{◌≡◌, ◌≤◌, Ok, IfSome, length};
+ghost use Rattle.std.specs.Prelude.{◌≡◌, ⊤, ◌≤◌, IfSome, length};
 ghost use Rattle.std.specs.Borrow.{Bor};
 ghost use Rattle.std.specs.Iterator.{UpTo, item_count};
 ghost use Rattle.std.specs.Iterator.Runs.{YieldsInOrder};
@@ -35,23 +35,17 @@ impl<'s, R: Eq, O> Model for DifferenceRefIn<'s, R, O> {
     ghost view = { λ d. d.items };
 }
 
-impl<'a, 's, T: Eq, const M: usize> DifferenceRefIn<'s, &'a T, Set<&'a T, M>> {
-    // The same.
-    #[inline]
-    fn left(&self) -> Self
-        ensures { result ≡ self.now }
-    {
-        DifferenceRefIn {
-            items: self.items.left(),
-        }
-    }
+/// A clone goes on where the iterator stands. It never lacks memory.
+impl<'s, R: Eq, O> Clone for DifferenceRefIn<'s, R, O> {
+    ghost is_clone = { λ walk new. new ≡ walk };
 
-    /// An iterator that goes on where this one stands. It never lacks memory.
+    ghost is_infallible = { λ _. ⊤ };
+
     #[inline]
-    pub fn clone(&self) -> Result<Self, AllocError>
-        ensures { result ≡ Ok self.now }
-    {
-        Ok(self.left())
+    fn clone(&self) -> Result<Self, AllocError> {
+        Ok(DifferenceRefIn {
+            items: self.items.clone()?,
+        })
     }
 }
 
@@ -82,7 +76,7 @@ impl<'a, 's, T: Eq, const M: usize> FusedIterator for DifferenceRefIn<'s, &'a T,
 impl<'a, 's, T: Eq + fmt::Debug, const M: usize> fmt::Debug
     for DifferenceRefIn<'s, &'a T, Set<&'a T, M>> {
     fn fmt<W: fmt::Write>(&self, f: &mut fmt::Formatter<W>) -> fmt::Result {
-        f.debug_list().entries(self.left()).finish()
+        f.debug_list().entries(self.clone().unwrap()).finish()
     }
 }
 

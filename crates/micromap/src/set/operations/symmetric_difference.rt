@@ -1,5 +1,5 @@
 //! The items of either of two sets without an equal one in the other.
-ghost use Rattle.std.specs.Prelude.{◌≡◌, ◌+◌, ◌≤◌, [], Ok, IfSome, length};
+ghost use Rattle.std.specs.Prelude.{◌≡◌, ⊤, ◌+◌, ◌≤◌, [], IfSome, length};
 ghost use Rattle.std.specs.Iterator.{UpTo, item_count};
 ghost use Rattle.std.specs.Iterator.Runs.{YieldsRefsInOrder};
 ghost use Rattle.std.specs.Iterator.SizeHint.{IsWithinCount};
@@ -41,24 +41,18 @@ impl<'a, T: Eq, O, P> Model for SymmetricDifferenceIn<'a, T, O, P> {
     ghost view = { λ s. record { first = s.first; second = s.second } };
 }
 
-impl<'a, T: Eq, const N: usize, const M: usize> SymmetricDifferenceIn<'a, T, Set<T, M>, Set<T, N>> {
-    // The same.
-    #[inline]
-    fn left(&self) -> Self
-        ensures { result ≡ self.now }
-    {
-        SymmetricDifferenceIn {
-            first: self.first.left(),
-            second: self.second.left(),
-        }
-    }
+/// A clone goes on where the iterator stands. It never lacks memory.
+impl<'a, T: Eq, O, P> Clone for SymmetricDifferenceIn<'a, T, O, P> {
+    ghost is_clone = { λ walk new. new ≡ walk };
 
-    /// An iterator that goes on where this one stands. It never lacks memory.
+    ghost is_infallible = { λ _. ⊤ };
+
     #[inline]
-    pub fn clone(&self) -> Result<Self, AllocError>
-        ensures { result ≡ Ok self.now }
-    {
-        Ok(self.left())
+    fn clone(&self) -> Result<Self, AllocError> {
+        Ok(SymmetricDifferenceIn {
+            first: self.first.clone()?,
+            second: self.second.clone()?,
+        })
     }
 }
 
@@ -95,7 +89,7 @@ impl<'a, T: Eq, const N: usize, const M: usize> FusedIterator
 impl<'a, T: Eq + fmt::Debug, const N: usize, const M: usize> fmt::Debug
     for SymmetricDifferenceIn<'a, T, Set<T, M>, Set<T, N>> {
     fn fmt<W: fmt::Write>(&self, f: &mut fmt::Formatter<W>) -> fmt::Result {
-        f.debug_list().entries(self.left()).finish()
+        f.debug_list().entries(self.clone().unwrap()).finish()
     }
 }
 

@@ -1,5 +1,5 @@
 //! The items of either of two sets.
-ghost use Rattle.std.specs.Prelude.{◌≡◌, ◌+◌, ◌≤◌, [], Ok, IfSome, length};
+ghost use Rattle.std.specs.Prelude.{◌≡◌, ⊤, ◌+◌, ◌≤◌, [], IfSome, length};
 ghost use Rattle.std.specs.Iterator.{UpTo, item_count};
 ghost use Rattle.std.specs.Iterator.Runs.{YieldsRefsInOrder};
 ghost use Rattle.std.specs.Iterator.SizeHint.{IsWithinCount};
@@ -38,27 +38,18 @@ impl<'a, T: Eq, O> Model for UnionIn<'a, T, O> {
     ghost view = { λ u. record { others = u.others; beyond = u.beyond } };
 }
 
-impl<'a, T: Eq, const M: usize> UnionIn<'a, T, Set<T, M>> {
-    // The same.
-    #[inline]
-    fn left(&self) -> Self
-        ensures { result ≡ self.now }
-    {
-        match self.others.clone() {
-            Ok(others) => UnionIn {
-                others,
-                beyond: self.beyond.left(),
-            },
-            Err(_) => unreachable!(),
-        }
-    }
+/// A clone goes on where the iterator stands. It never lacks memory.
+impl<'a, T: Eq, O> Clone for UnionIn<'a, T, O> {
+    ghost is_clone = { λ walk new. new ≡ walk };
 
-    /// An iterator that goes on where this one stands. It never lacks memory.
+    ghost is_infallible = { λ _. ⊤ };
+
     #[inline]
-    pub fn clone(&self) -> Result<Self, AllocError>
-        ensures { result ≡ Ok self.now }
-    {
-        Ok(self.left())
+    fn clone(&self) -> Result<Self, AllocError> {
+        Ok(UnionIn {
+            others: self.others.clone()?,
+            beyond: self.beyond.clone()?,
+        })
     }
 }
 
@@ -92,7 +83,7 @@ impl<'a, T: Eq, const M: usize> FusedIterator for UnionIn<'a, T, Set<T, M>> {}
 /// As the list of what is left.
 impl<'a, T: Eq + fmt::Debug, const M: usize> fmt::Debug for UnionIn<'a, T, Set<T, M>> {
     fn fmt<W: fmt::Write>(&self, f: &mut fmt::Formatter<W>) -> fmt::Result {
-        f.debug_list().entries(self.left()).finish()
+        f.debug_list().entries(self.clone().unwrap()).finish()
     }
 }
 

@@ -1,4 +1,4 @@
-use Rattle.std.proofs.Common.{◌≤◌, length, subst, arith, rules}
+use Rattle.std.proofs.Common.{◌≤◌, length, refl, subst, arith, rules}
 use Rattle.std.proofs.lemmas.List.Elements.{same_from_all_zip}
 use Rattle.micromap.specs.Operations.{intersection, intersection_left}
 use Rattle.micromap.proofs.AddedItems.{clone_fits, clones_end, clones_next, next_member}
@@ -19,5 +19,8 @@ insert-requires g c =
 pub loop-x-preserved : goal.loop-x-preserved
 loop-x-preserved g c = clones_next g.met.T.Eq.laws c.requires c.loop-x.invariant c.in-Some.x.now (intersection_left g.T.PartialEq.eq c.next.new.self) c.in-Some.ensures.steps.member c.in_ok-clone.field-0 c.insert.new.self c.intersection-x-items.ensures.unique c.in_ok-clone.ensures.cases c.insert.ensures.items
 
+pub returns-clause-succeeds : goal.returns-clause-succeeds
+returns-clause-succeeds g c = λ all. refl
+
 pub returns-clause-same : goal.returns-clause-same
-returns-clause-same g c = λ identical. same_from_all_zip g.T.Clone.is_clone (intersection g.T.PartialEq.eq c.args.self.now c.args.other.now) c.loop-x.set (clones_end c.loop-x.invariant c.in-None.ensures.steps.member.0) identical
+returns-clause-same g c = λ identical. same_from_all_zip g.T.Clone.is_clone _ _ (clones_end c.loop-x.invariant c.in-None.ensures.steps.member.0) identical

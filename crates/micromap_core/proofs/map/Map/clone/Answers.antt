@@ -1,4 +1,4 @@
-use Rattle.std.proofs.Common.{ap, ◌∙◌}
+use Rattle.std.proofs.Common.{refl, ap, ◌∙◌}
 use Rattle.std.proofs.lemmas.Bool.{false≢true}
 use Rattle.std.proofs.lemmas.List.Elements.{same_from_all_zip}
 use Rattle.micromap_core.proofs.CloneLemmas.{IsUnique-clones}
@@ -18,3 +18,6 @@ returns-clause-clones g c = rw (← c.self.view_is) c.in_ok-pairs.ensures.clones
 
 pub returns-in_err-pairs-clause-succeeds : goal.returns-in_err-pairs-clause-succeeds
 returns-in_err-pairs-clause-succeeds g c = λ all. absurd (false≢true (c.in_err-pairs.ensures.succeeds (rw c.self.view_is all)))
+
+pub returns-clause-succeeds : goal.returns-clause-succeeds
+returns-clause-succeeds g c all = refl

@@ -1,10 +1,10 @@
-use Rattle.std.proofs.Common.{reverse, ap, ◌∙◌}
+use Rattle.std.proofs.Common.{ap, ◌∙◌}
 use Rattle.std.specs.Map.{keys_of}
 use Rattle.micromap_walk.proofs.Runs.{gives_in_order}
 use Rattle.micromap_core.proofs.map.Map.into_keys.Goals as goal
 
 pub returns-clause-answer : goal.returns-clause-answer
-returns-clause-answer g c = c.over.ensures ∙ ap (λ l. keys_of (reverse l)) (c.into_array_vecs-keys.ensures.pairs ∙ c.self.view_is)
+returns-clause-answer g c = c.over.ensures ∙ ap keys_of (c.into_array_vecs-keys.ensures.pairs ∙ c.self.view_is)
 
 pub returns-clause-runs : goal.returns-clause-runs
 returns-clause-runs g c = gives_in_order

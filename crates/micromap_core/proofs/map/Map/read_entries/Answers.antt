@@ -1,9 +1,9 @@
-use Rattle.std.proofs.Common.{◌≡◌, true, false, Ok, is_some, refl, ap, sym, ◌∙◌}
+use Rattle.std.proofs.Common.{◌≡◌, true, false, Ok, is_some, refl, ap, sym, ◌∙◌, arith}
 use Rattle.micromap_core.specs.Build.{pair_fits}
 use Rattle.micromap_core.specs.Pairs.{at}
 use Rattle.micromap_core.proofs.CountLemmas.{pairs_keyed}
 use Rattle.micromap_core.proofs.Lists.{is_some-if}
-use Rattle.micromap_core.proofs.StreamLemmas.{still_faultless, reading_more, reads_all, reads_up_to, reads_to_misfit, same_read, none_refused}
+use Rattle.micromap_core.proofs.StreamLemmas.{first_fault, still_faultless, reading_more, reads_all, reads_up_to, reads_to_misfit, same_read, none_refused}
 use Rattle.micromap_core.proofs.map.Map.read_entries.Goals as goal
 
 pub loop-key-preserved : goal.loop-key-preserved
@@ -34,3 +34,17 @@ returns-in-Ok-None-clause-round_trip g c content faultless = ap Ok (same_read g.
 
 pub returns-in-Err-clause-failed : goal.returns-in-Err-clause-failed
 returns-in-Err-clause-failed g c e failed = rw c.in-Err.ensures.kept (reads_up_to _ _ _ _ c.loop-key.invariant.reading)
+
+pub returns-then-is_none-clause-no_fault : goal.returns-then-is_none-clause-no_fault
+returns-then-is_none-clause-no_fault g c refused = still_faultless c.loop-key.invariant.faultless c.in-Ok-Some.ensures.faultless
+
+pub returns-in-Ok-None-clause-too_many : goal.returns-in-Ok-None-clause-too_many
+returns-in-Ok-None-clause-too_many g c refused = cc
+
+pub returns-in-Err-clause-fault : goal.returns-in-Err-clause-fault
+returns-in-Err-clause-fault g c e failed =
+    let same : c.in-Err.fault ≡ e = cc in
+    rw (← same) (first_fault c.loop-key.invariant.faultless c.in-Err.ensures.fault)
+
+pub returns-in-Err-clause-round_trip : goal.returns-in-Err-clause-round_trip
+returns-in-Err-clause-round_trip g c content faultless = absurd (omega (arith, (first_fault c.loop-key.invariant.faultless c.in-Err.ensures.fault).count, faultless))

@@ -1,47 +1,20 @@
-use Rattle.std.proofs.Common.{◌≡◌, true, false, [], is_some, ap, sym, ◌∙◌, arith}
-use Rattle.micromap_core.specs.Build.{pair_fits, put_pair}
-use Rattle.micromap_core.specs.Pairs.{at}
-use Rattle.micromap_core.proofs.BuildLemmas.{has_put_more, puts_up_to, puts_all, run_puts, run_stops}
-use Rattle.micromap_core.proofs.CountLemmas.{pairs_keyed, builds_all, builds_up_to}
-use Rattle.micromap_core.proofs.Lists.{is_some-if}
+use Rattle.std.proofs.lemmas.Result.{err_from_is_err_and}
+use Rattle.micromap_core.proofs.CountLemmas.{builds_all, builds_up_to, pairs_keyed}
 use Rattle.micromap_core.proofs.map.Map.try_from_iter.Goals as goal
-
-pub loop-key-preserved : goal.loop-key-preserved
-loop-key-preserved g c =
-    let l = c.loop-key in
-    let eq = g.K.PartialEq.eq in
-    let p : g.row.K.Denot × g.row.V.Denot = (c.in-Some.key, c.in-Some.value) in
-    let fit : pair_fits eq g.row.N l.map p ≡ true = sym (is_some-if _ (at eq l.map p.0)) ∙ ap is_some (sym c.checked_insert.ensures.answer) ∙ c.if-is_none.ensures in
-    let goes = c.in-Some.ensures.goes.on l.invariant.finite in
-    record {
-      can = goes.0;
-      finite = goes.1;
-      counted = omega (arith, goes.2, l.invariant.counted);
-      put = has_put_more (pair_fits eq g.row.N) (put_pair eq) [] l.yielded l.at l.map c.checked_insert.new.self p l.invariant.put c.checked_insert.ensures.pairs fit;
-    }
-
-pub returns-then-is_none-clause-misfit : goal.returns-then-is_none-clause-misfit
-returns-then-is_none-clause-misfit g c =
-    let l = c.loop-key in
-    let eq = g.K.PartialEq.eq in
-    let p : g.row.K.Denot × g.row.V.Denot = (c.in-Some.key, c.in-Some.value) in
-    let misfit : pair_fits eq g.row.N l.map p ≡ false = sym (is_some-if _ (at eq l.map p.0)) ∙ ap is_some (sym c.checked_insert.ensures.answer) ∙ c.if-is_none.ensures in
-    builds_up_to g.met.K.Eq.laws (pairs_keyed eq g.row.N)
-    (puts_up_to (pair_fits eq g.row.N) (put_pair eq) [] l.yielded l.at l.map c.checked_insert.new.self p l.invariant.put c.checked_insert.ensures.pairs g.I.Iterator.next_gives c.args.items c.next.new.self misfit
-    (rw (← c.into_iter-key-iterator.ensures.into_iter_gives) (l.key-iterator, l.yielded_by, c.in-Some.ensures.steps)))
 
 pub returns-clause-built : goal.returns-clause-built
 returns-clause-built g c =
-    let l = c.loop-key in
-    let eq = g.K.PartialEq.eq in
-    builds_all g.met.K.Eq.laws (pairs_keyed eq g.row.N)
-    (puts_all (pair_fits eq g.row.N) (put_pair eq) g.I.Iterator.next_gives c.args.items [] l.map l.yielded l.at l.invariant.put
-    (rw (← c.into_iter-key-iterator.ensures.into_iter_gives) (c.next.new.self, (l.key-iterator, l.yielded_by, c.in-None.ensures.steps))))
+    builds_all g.met.K.Eq.laws (pairs_keyed g.K.PartialEq.eq g.row.N) (rw (← c.new-map.ensures) c.in_ok-try_extend.ensures.extends)
+
+pub returns-in_err-try_extend-clause-misfit : goal.returns-in_err-try_extend-clause-misfit
+returns-in_err-try_extend-clause-misfit g c =
+    let same = err_from_is_err_and c.from_residual.result c.from_residual.ensures.1 in
+    rw (same.1, same.2) (builds_up_to g.met.K.Eq.laws (pairs_keyed g.K.PartialEq.eq g.row.N) (rw c.new-map.ensures at c.in_err-try_extend.ensures.misfit))
+
+pub returns-in_err-try_extend-clause-stops : goal.returns-in_err-try_extend-clause-stops
+returns-in_err-try_extend-clause-stops g c =
+    let same = err_from_is_err_and c.from_residual.result c.from_residual.ensures.1 in
+    rw (same.1, same.2) (rw c.new-map.ensures at c.in_err-try_extend.ensures.stops)
 
 pub returns-clause-runs : goal.returns-clause-runs
-returns-clause-runs g c = run_puts (pair_fits g.K.PartialEq.eq g.row.N) (put_pair g.K.PartialEq.eq) g.I.Iterator.next_gives c.args.items [] c.loop-key.map (returns-clause-built g c).all
-
-pub returns-then-is_none-clause-stops : goal.returns-then-is_none-clause-stops
-returns-then-is_none-clause-stops g c =
-    let misfit = returns-then-is_none-clause-misfit g c in
-    run_stops (pair_fits g.K.PartialEq.eq g.row.N) (put_pair g.K.PartialEq.eq) g.I.Iterator.next_gives c.args.items [] misfit.built c.loop-key.at misfit.first
+returns-clause-runs g c = rw (← c.new-map.ensures) c.in_ok-try_extend.ensures.runs

@@ -1,6 +1,6 @@
 use Rattle.std.proofs.Common.{rules}
-use Rattle.micromap.proofs.ClosureLemmas.{retained_by}
+use Rattle.std.proofs.lemmas.Map.Made.{filter_same_pairs}
 use Rattle.micromap_map_tests.proofs.tests.closures.keep_even.Goals as goal
 
 pub returns : goal.returns
-returns g c = retained_by _ c.retain.ensures.pairs (λ k v b w t said. search rules)
+returns g c = filter_same_pairs _ _ _ (λ k v b w t said. search rules) _ _ c.retain.ensures.pairs

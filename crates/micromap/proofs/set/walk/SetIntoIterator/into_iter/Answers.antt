@@ -1,7 +1,6 @@
-use Rattle.std.proofs.Common.{reverse, sym, ◌∙◌, ap}
+use Rattle.std.proofs.Common.{◌∙◌}
 use Rattle.micromap_walk.proofs.Runs.{gives_in_order}
-use Rattle.micromap.proofs.ItemLemmas.{reverse-keys}
 use Rattle.micromap.proofs.set.walk.SetIntoIterator.into_iter.Goals as goal
 
 pub returns : goal.returns
-returns g c = record { into_iter_gives = (c.into_keys.ensures.answer ∙ sym (reverse-keys c.self.inside.map) ∙ ap reverse c.self.view_is, gives_in_order) }
+returns g c = record { into_iter_gives = (c.into_keys.ensures.answer ∙ c.self.view_is, gives_in_order) }

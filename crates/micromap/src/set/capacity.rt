@@ -1,0 +1,24 @@
+//! A set in another capacity.
+ghost use Rattle.std.specs.Prelude.{◌≡◌, ◌<◌, ◌↔◌, length, IsErr, IfOk, IfErr};
+ghost use Rattle.micromap.specs.Items.{IsItems};
+
+use super::Set;
+
+impl<T: Eq + Drop, const N: usize> Set<T, N> {
+    /// This set with room for `M` items: the same list, whose items are each moved once. No item is compared, and no
+    /// memory is taken.
+    ///
+    /// The answer is `Err` exactly where there are more than `M` items; then it is this set, unchanged.
+    pub fn into_capacity<const M: usize>(self) -> Result<Set<T, M>, Self>
+        ensures refuses { IsErr result ↔ (M < length self) }
+        ensures items { IfOk result (λ set. set ≡ self) }
+        ensures unchanged { IfErr result (λ set. set ≡ self) }
+        ensures content { IfOk result (IsItems T.eq M) }
+    {
+        let Set { map } = self;
+        match map.into_capacity() {
+            Ok(map) => Ok(Set { map }),
+            Err(map) => Err(Set { map }),
+        }
+    }
+}

@@ -1,5 +1,0 @@
-use Rattle.micromap.proofs.MisfitLemmas.{misfit_in}
-use Rattle.micromap_build_tests.proofs.tests.building.of_items.Goals as goal
-
-pub returns-clause-misfit : goal.returns-clause-misfit
-returns-clause-misfit g c = misfit_in _ _ _ _ _ _ c.into_iter.ensures.runs c.into_iter.ensures.rest c.try_from_iter.ensures.stops

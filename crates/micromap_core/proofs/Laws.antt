@@ -1,0 +1,71 @@
+-- For callers: what the lengths of two lists with unequal items, or with unequal keys, tell of the two, and that sameness
+-- is an equivalence. `Lawful` and the unequal items or keys come from a map's or a set's `content`.
+use Rattle.std.proofs.Common.{◌≡◌, ◌<◌, ◌≤◌, Bool, true, false, ◌&&◌, ◌||◌, IsTrue, List, [], ◌∷◌, filter, length, refl, ap, ◌∙◌, arith}
+use Rattle.std.specs.Cmp.{IsEquivalence}
+use Rattle.std.specs.Cmp.Derive.{both_true}
+use Rattle.std.specs.List.{IsDistinct, list_all}
+use Rattle.std.specs.Map.{keys_of}
+use Rattle.std.specs.Set.{is_member}
+use Rattle.std.proofs.Math.Bool.{or-true}
+use Rattle.std.proofs.lemmas.Bool.{true≢false}
+use Rattle.std.proofs.lemmas.Map.Entries.{length-keys_of}
+use Rattle.std.proofs.lemmas.Map.Made.{is_some-lookup}
+use Rattle.micromap_core.specs.Equalities.{Lawful}
+use Rattle.micromap_core.specs.Pairs.{has, IsUnique}
+use Rattle.micromap_core.specs.Same.{have_equal_items, has_value, is_same, Same}
+use Rattle.micromap_core.specs.SameLaws.{have_equal_items_equiv, is_same_equiv}
+use Rattle.micromap_core.proofs.DistinctLemmas.{length-filter_members, members_turned, missing_in_shorter}
+use Rattle.micromap_core.proofs.Equalities.{lawful, of_lawful}
+use Rattle.micromap_core.proofs.OneSideLemmas.{long_from_same, same_from_long}
+
+-- where not all items pass a test, one fails it
+some_fails : {T : Type 0} {eq : T → T → Bool} (laws : IsEquivalence eq) (test : T → Bool) (xs : List T) → list_all test xs ≡ false → (x : T) × (is_member eq xs x ≡ true) × (test x ≡ false)
+some_fails laws test [] fails = absurd (true≢false fails)
+some_fails {T = T} {eq = eq} laws test (x ∷ xs) fails = by (test x) refl (some_fails laws test xs) fails
+  where
+    by : (b : Bool) → test x ≡ b → (list_all test xs ≡ false → (y : T) × (is_member eq xs y ≡ true) × (test y ≡ false)) → (b && list_all test xs) ≡ false → (y : T) × (is_member eq (x ∷ xs) y ≡ true) × (test y ≡ false)
+    by true passes rest more =
+        let there = rest more in
+        (there.0, ap (λ b. eq there.0 x || b) there.1 ∙ or-true (eq there.0 x), there.2)
+    by false here rest more = (x, ap (λ b. b || is_member eq xs x) (laws.refl x), here)
+
+-- of items
+module _ {T : Type 0} (eq : T → T → Bool) (equality : Lawful eq) where
+  pub sameness_of_items : Lawful (have_equal_items eq)
+  sameness_of_items = lawful (have_equal_items eq) (have_equal_items_equiv (of_lawful eq equality))
+
+  module _ (xs ys : List T) (distinct : IsDistinct eq xs) where
+    -- at most as many of the one list have an equal one in the other as the other is long
+    pub few_have_equals : length (filter (is_member eq ys) xs) ≤ length ys
+    few_have_equals = length-filter_members (of_lawful eq equality) xs ys distinct
+
+    -- the longer list has an item that the other lacks
+    pub longer_has_item : length ys < length xs → (x : T) × (is_member eq xs x ≡ true) × (is_member eq ys x ≡ false)
+    longer_has_item longer = some_fails (of_lawful eq equality) (is_member eq ys) xs (missing_in_shorter (of_lawful eq equality) xs ys distinct longer)
+
+    -- of equally long lists, one side tells of both
+    pub equal_items_from_one_side : length xs ≡ length ys → IsTrue (list_all (is_member eq ys) xs) → IsTrue (have_equal_items eq xs ys)
+    equal_items_from_one_side long all = both_true all (members_turned (of_lawful eq equality) xs ys distinct all (omega (arith, long)))
+
+-- of pairs
+module _ {K V : Type 0} (eq : K → K → Bool) (equality : Lawful eq) where
+  -- the longer list has a key that the other lacks
+  pub longer_has_key : (first second : List (K × V)) → IsUnique eq first → length second < length first → (k : K) × (has eq first k ≡ true) × (has eq second k ≡ false)
+  longer_has_key first second unique longer =
+      let key = longer_has_item eq equality (keys_of first) (keys_of second) unique (omega (arith, longer, length-keys_of first, length-keys_of second)) in
+      (key.0, is_some-lookup (eq key.0) first ∙ key.1, is_some-lookup (eq key.0) second ∙ key.2)
+
+  module _ (same : V → V → Bool) (values : Lawful same) where
+    -- reflexive and symmetric, and a third list is the same as the one exactly where it is the same as the other: of any
+    -- lists, also with repeated keys
+    pub sameness : Lawful (is_same eq same)
+    sameness = lawful (is_same eq same) (is_same_equiv (of_lawful eq equality) (of_lawful same values))
+
+    module _ (first second : List (K × V)) (unique_first : IsUnique eq first) (unique_second : IsUnique eq second) where
+      -- of equally long lists, one side tells of both
+      pub same_from_one_side : length first ≡ length second → IsTrue (list_all (has_value eq same second) first) → Same eq same first second
+      same_from_one_side = same_from_long eq same (of_lawful eq equality) (of_lawful same values) first second unique_first unique_second
+
+      -- and lists that are the same are equally long
+      pub length-same : Same eq same first second → length first ≡ length second
+      length-same = long_from_same eq same (of_lawful eq equality) (of_lawful same values) first second unique_first unique_second

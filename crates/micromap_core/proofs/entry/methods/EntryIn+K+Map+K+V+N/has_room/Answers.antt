@@ -1,0 +1,4 @@
+use Rattle.micromap_core.proofs.entry.methods.EntryIn+K+Map+K+V+N.has_room.Goals as goal
+
+pub returns-in-Occupied : goal.returns-in-Occupied
+returns-in-Occupied g c = rw c.in-Occupied.is

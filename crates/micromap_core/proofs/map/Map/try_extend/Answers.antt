@@ -1,0 +1,43 @@
+use Rattle.std.proofs.Common.{◌≡◌, true, false, is_some, ap, sym, ◌∙◌, arith}
+use Rattle.micromap_core.specs.Build.{pair_fits, put_pair}
+use Rattle.micromap_core.specs.Pairs.{at}
+use Rattle.micromap_core.proofs.BuildLemmas.{has_put_more, puts_up_to, puts_all, run_puts, run_stops}
+use Rattle.micromap_core.proofs.Lists.{is_some-if}
+use Rattle.micromap_core.proofs.map.Map.try_extend.Goals as goal
+
+pub loop-key-preserved : goal.loop-key-preserved
+loop-key-preserved g c =
+    let l = c.loop-key in
+    let eq = g.K.PartialEq.eq in
+    let p : g.row.K.Denot × g.row.V.Denot = (c.in-Some.key, c.in-Some.value) in
+    let fit : pair_fits eq g.row.N l.self p ≡ true = sym (is_some-if _ (at eq l.self p.0)) ∙ ap is_some (sym c.checked_insert.ensures.answer) ∙ c.if-is_none.ensures in
+    let goes = c.in-Some.ensures.goes.on l.invariant.finite in
+    record {
+      can = goes.0;
+      finite = goes.1;
+      counted = omega (arith, goes.2, l.invariant.counted);
+      put = has_put_more (pair_fits eq g.row.N) (put_pair eq) c.args.self.now l.yielded l.at l.self c.checked_insert.new.self p l.invariant.put c.checked_insert.ensures.pairs fit;
+    }
+
+pub returns-then-is_none-clause-misfit : goal.returns-then-is_none-clause-misfit
+returns-then-is_none-clause-misfit g c =
+    let l = c.loop-key in
+    let eq = g.K.PartialEq.eq in
+    let p : g.row.K.Denot × g.row.V.Denot = (c.in-Some.key, c.in-Some.value) in
+    let misfit : pair_fits eq g.row.N l.self p ≡ false = sym (is_some-if _ (at eq l.self p.0)) ∙ ap is_some (sym c.checked_insert.ensures.answer) ∙ c.if-is_none.ensures in
+    puts_up_to (pair_fits eq g.row.N) (put_pair eq) c.args.self.now l.yielded l.at l.self c.checked_insert.new.self p l.invariant.put c.checked_insert.ensures.pairs g.I.Iterator.next_gives c.args.items c.next.new.self misfit
+    (rw (← c.into_iter-key-iterator.ensures.into_iter_gives) (l.key-iterator, l.yielded_by, c.in-Some.ensures.steps))
+
+pub returns-then-is_none-clause-stops : goal.returns-then-is_none-clause-stops
+returns-then-is_none-clause-stops g c =
+    run_stops (pair_fits g.K.PartialEq.eq g.row.N) (put_pair g.K.PartialEq.eq) g.I.Iterator.next_gives c.args.items c.args.self.now c.checked_insert.new.self c.loop-key.at (returns-then-is_none-clause-misfit g c)
+
+pub returns-clause-extends : goal.returns-clause-extends
+returns-clause-extends g c =
+    let l = c.loop-key in
+    let eq = g.K.PartialEq.eq in
+    puts_all (pair_fits eq g.row.N) (put_pair eq) g.I.Iterator.next_gives c.args.items c.args.self.now l.self l.yielded l.at l.invariant.put
+    (rw (← c.into_iter-key-iterator.ensures.into_iter_gives) (c.next.new.self, (l.key-iterator, l.yielded_by, c.in-None.ensures.steps)))
+
+pub returns-clause-runs : goal.returns-clause-runs
+returns-clause-runs g c = run_puts (pair_fits g.K.PartialEq.eq g.row.N) (put_pair g.K.PartialEq.eq) g.I.Iterator.next_gives c.args.items c.args.self.now c.loop-key.self (returns-clause-extends g c)

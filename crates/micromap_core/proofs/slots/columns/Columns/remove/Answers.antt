@@ -1,0 +1,24 @@
+use Rattle.std.proofs.Common.{arith, rules}
+use Rattle.micromap_core.proofs.ColumnLemmas.{as_long, equal_remove, get_zip, zip_remove}
+use Rattle.micromap_core.proofs.slots.columns.Columns.remove.Goals as goal
+
+pub remove-key-requires : goal.remove-key-requires
+remove-key-requires g c =
+    (search rules, omega (arith, as_long _ _ _ c.self.invariant c.self.view_is, c.requires))
+
+pub remove-value-requires : goal.remove-value-requires
+remove-value-requires g c =
+    (search rules, omega (arith, as_long _ _ _ c.self.invariant c.self.view_is, c.requires, c.self.invariant))
+
+pub invariant_of-self : goal.invariant_of-self
+invariant_of-self g c = rw (c.remove-key.ensures.items, c.remove-value.ensures.items) (equal_remove _ _ c.args.index c.self.invariant)
+
+pub returns-clause-answer : goal.returns-clause-answer
+returns-clause-answer g c = rw (← c.self.view_is) (get_zip _ _ c.args.index _ _ c.remove-key.ensures.answer c.remove-value.ensures.answer)
+
+pub returns-clause-pairs : goal.returns-clause-pairs
+returns-clause-pairs g c = rw (c.remove-key.ensures.items, c.remove-value.ensures.items, ← c.self.view_is) (zip_remove _ _ c.args.index c.self.invariant)
+
+pub hint_equal-requires : goal.hint_equal-requires
+hint_equal-requires g c =
+    omega (arith, as_long _ _ _ c.self.invariant c.self.view_is, c.self.invariant, c.len.ensures.answer, c.len-len.ensures.answer)

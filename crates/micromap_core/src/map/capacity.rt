@@ -1,0 +1,28 @@
+//! A map in another capacity.
+ghost use Rattle.std.specs.Prelude.{◌≡◌, ◌<◌, ◌↔◌, length, IsErr, IfOk, IfErr};
+ghost use Rattle.micromap_core.specs.Pairs.{IsContent};
+
+use super::Map;
+
+impl<K: Eq + Drop, V: Drop, const N: usize> Map<K, V, N> {
+    /// This map with room for `M` pairs: the same list, whose pairs are each moved once. No key is compared, and no
+    /// memory is taken.
+    ///
+    /// The answer is `Err` exactly where there are more than `M` pairs; then it is this map, unchanged.
+    pub fn into_capacity<const M: usize>(self) -> Result<Map<K, V, M>, Self>
+        ensures refuses { IsErr result ↔ (M < length self) }
+        ensures pairs { IfOk result (λ map. map ≡ self) }
+        ensures unchanged { IfErr result (λ map. map ≡ self) }
+        ensures content { IfOk result (IsContent K.eq M) }
+    {
+        if self.len() > M {
+            return Err(self);
+        }
+        let Map { pairs } = self;
+        let map = Map {
+            pairs: pairs.into_capacity(),
+        };
+        let _content = map.len();
+        Ok(map)
+    }
+}

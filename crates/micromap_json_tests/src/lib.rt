@@ -1,5 +1,0 @@
-//! Tests of reading and writing JSON.
-#![tactic(auto)]
-
-#[cfg(test)]
-mod tests;

@@ -1,0 +1,231 @@
+//! Entries as a user writes them, and the proofs of callers with a contract over the final list.
+ghost use Rattle.std.specs.Prelude.{◌≡◌, ◌+ℤ◌, IfSome, IsTrue, if◌then◌else◌, nat_eq, pos};
+ghost use Rattle.std.specs.Int.{saturate_signed, w32};
+ghost use Rattle.std.specs.Option.{option_map_or, unwrap_or};
+ghost use Rattle.micromap.specs.Entry.{IsSound, entry_has_room};
+ghost use Rattle.micromap_core.specs.declared.entry.EntryIn.TheVariants.{Occupied, Vacant};
+ghost use Rattle.micromap.specs.Pairs.{at, fits, has, put, take_out};
+
+use micromap::Map;
+use micromap::map::{Entry, OccupiedEntry, VacantEntry};
+use micromap_testing::Marked;
+
+// Counts one more `letter`.
+fn count<const N: usize>(counts: &mut Map<char, i32, N>, letter: char)
+    requires { IsTrue (fits nat_eq N counts.old letter) }
+    ensures { counts.new ≡ put nat_eq counts.old letter (option_map_or (λ n. saturate_signed w32 (n +ℤ pos 1)) (at nat_eq counts.old letter) (pos 1)) }
+{
+    counts
+        .entry(letter)
+        .and_modify(|count| *count = count.saturating_add(1))
+        .or_insert(1);
+}
+
+// The value of `key`, which is `value` from now on where it had none.
+fn get_or_insert<const N: usize>(map: &mut Map<u8, u8, N>, key: u8, value: u8) -> u8
+    requires { IsTrue (fits nat_eq N map.old key) }
+    ensures answer { result ≡ unwrap_or (at nat_eq map.old key) value }
+    ensures pairs { map.new ≡ put nat_eq map.old key result }
+{
+    *map.entry(key).or_insert(value)
+}
+
+// Writes `value` at `key`, where there is room for it, and answers whether there was.
+fn overwrite<const N: usize>(map: &mut Map<u8, u8, N>, key: u8, value: u8) -> bool
+    ensures answer { result ≡ fits nat_eq N map.old key }
+    ensures pairs { map.new ≡ (if fits nat_eq N map.old key then put nat_eq map.old key value else map.old) }
+{
+    let entry = map.entry(key);
+    if entry.has_room() {
+        *entry.or_insert(0) = value;
+        true
+    } else {
+        false
+    }
+}
+
+// Writes 7 at `key`, where it is stored.
+fn overwrite_stored<K: Eq + Drop, const N: usize>(map: &mut Map<K, u8, N>, key: K)
+    ensures { map.new ≡ (if has K.eq map.old key then put K.eq map.old key 7 else map.old) }
+{
+    map.entry(key).and_modify(|value| *value = 7);
+}
+
+// Whether `key` is stored.
+fn is_stored<K: Eq + Drop, V, const N: usize>(map: &mut Map<K, V, N>, key: K) -> bool
+    ensures answer { result ≡ has K.eq map.old key }
+    ensures pairs { map.new ≡ map.old }
+{
+    matches!(map.entry(key), Entry::Occupied(_))
+}
+
+// Puts `value` at `key`, and reads it by the entry that the call answers.
+fn put_and_read<const N: usize>(map: &mut Map<u8, u8, N>, key: u8, value: u8) -> u8
+    requires { IsTrue (fits nat_eq N map.old key) }
+    ensures answer { result ≡ value }
+    ensures pairs { map.new ≡ put nat_eq map.old key value }
+{
+    let entry = map.entry(key).insert_entry(value);
+    *entry.get()
+}
+
+// Raises the value of a key that is there, and takes it out by the same entry.
+fn raise_and_take<const N: usize>(map: &mut Map<u8, u8, N>, key: u8) -> bool
+    ensures answer { result ≡ has nat_eq map.old key }
+    ensures pairs { map.new ≡ take_out nat_eq map.old key }
+{
+    let entry = map.entry(key);
+    match entry.and_modify(|value| *value = value.wrapping_add(1)) {
+        Entry::Occupied(entry) => {
+            entry.remove();
+            true
+        }
+        Entry::Vacant(entry) => {
+            entry.into_key();
+            false
+        }
+    }
+}
+
+// The entry of `key`, where it can have a value.
+fn open<const N: usize>(map: &mut Map<char, u8, N>, key: char) -> Option<Entry<'_, char, u8, N>>
+    ensures { IfSome result (λ e. IsSound nat_eq e × IsTrue (entry_has_room N e)) }
+{
+    let entry = map.entry(key);
+    if entry.has_room() { Some(entry) } else { None }
+}
+
+// The entry of a key that is stored.
+fn stored<const N: usize>(
+    map: &mut Map<char, u8, N>,
+    key: char,
+) -> Option<OccupiedEntry<'_, char, u8, N>>
+    ensures { IfSome result (λ o. IsSound nat_eq (Occupied o)) }
+{
+    match map.entry(key) {
+        Entry::Occupied(entry) => Some(entry),
+        Entry::Vacant(_entry) => None,
+    }
+}
+
+// The entry of a new key for which there is room.
+fn free<const N: usize>(
+    map: &mut Map<char, u8, N>,
+    key: char,
+) -> Option<VacantEntry<'_, char, u8, N>>
+    ensures { IfSome result (λ e. IsSound nat_eq (Vacant e) × IsTrue (entry_has_room N (Vacant e))) }
+{
+    match map.entry(key) {
+        Entry::Vacant(entry) if entry.has_room() => Some(entry),
+        Entry::Vacant(_entry) => None,
+        Entry::Occupied(_entry) => None,
+    }
+}
+
+#[test]
+fn a_dropped_entry_leaves_the_map(rt: HostRuntime) {
+    let mut map: Map<u8, u8, 1> = Map::new();
+    map.insert(1, 10);
+    assert!(rt; !overwrite(&mut map, 2, 20));
+    assert!(rt; is_stored(&mut map, 1));
+    assert!(rt; !is_stored(&mut map, 2));
+    assert_eq!(rt; map.get(&1), Some(&10));
+    overwrite_stored(&mut map, 1);
+    assert_eq!(rt; map.get(&1), Some(&7));
+}
+
+#[test]
+fn letters_are_counted(rt: HostRuntime) {
+    let mut counts: Map<char, i32, 13> = Map::new();
+    for letter in "a short treatise on fungi".chars() {
+        if counts.fits(&letter) {
+            count(&mut counts, letter);
+        }
+    }
+    for (letter, times) in [
+        ('s', Some(&2)),
+        ('t', Some(&3)),
+        ('u', Some(&1)),
+        ('y', None),
+    ] {
+        assert_eq!(rt; counts.get(&letter), times);
+    }
+    assert_eq!(rt; counts.len(), 13);
+}
+
+#[test]
+#[tactic(auto, unfolding(micromap_core::specs::Pairs::put))]
+fn a_first_value_stays(rt: HostRuntime) {
+    let mut map: Map<u8, u8, 1> = Map::new();
+    assert_eq!(rt; get_or_insert(&mut map, 1, 10), 10);
+    assert_eq!(rt; get_or_insert(&mut map, 1, 11), 10);
+    assert_eq!(rt; put_and_read(&mut map, 1, 12), 12);
+    assert_eq!(rt; map.get(&1), Some(&12));
+}
+
+#[test]
+fn a_written_pair_is_taken_out(rt: HostRuntime) {
+    let mut map: Map<u8, u8, 3> = Map::from([(1, 10), (2, 20), (3, 30)]);
+    assert!(rt; raise_and_take(&mut map, 1));
+    assert!(rt; !raise_and_take(&mut map, 1));
+    assert!(rt; map.drain().eq([(2, 20), (3, 30)]));
+}
+
+// The key of the entry of a new key, and whether it has room.
+fn new_key<K: Eq + Drop, const N: usize>(map: &mut Map<K, u8, N>, key: K) -> Option<(K, bool)> {
+    match map.entry(key) {
+        Entry::Vacant(entry) => {
+            let has_room = entry.has_room();
+            Some((entry.into_key(), has_room))
+        }
+        Entry::Occupied(_entry) => None,
+    }
+}
+
+#[test]
+fn room_decides_at_a_full_map(rt: HostRuntime) {
+    let mut map: Map<u8, u8, 1> = Map::new();
+    map.insert(1, 10);
+    assert!(rt; map.entry(1).has_room());
+    assert!(rt; !map.entry(2).has_room());
+    assert_eq!(rt; new_key(&mut map, 1), None);
+    assert_eq!(rt; new_key(&mut map, 2), Some((2, false)));
+    assert_eq!(rt; map.get(&1), Some(&10));
+    assert_eq!(rt; map.len(), 1);
+    assert_eq!(rt; new_key(&mut Map::<u8, u8, 0>::new(), 1), Some((1, false)));
+}
+
+#[test]
+fn an_entry_fills_a_map_of_one_pair(rt: HostRuntime) {
+    let mut map: Map<u8, u8, 1> = Map::new();
+    assert_eq!(rt; get_or_insert(&mut map, 2, 20), 20);
+    assert!(rt; !map.entry(3).has_room());
+    assert!(rt; map.drain().eq([(2, 20)]));
+}
+
+#[test]
+fn a_stored_key_stays_in_its_entry(rt: HostRuntime) {
+    let mut map: Map<Marked, u8, 1> = Map::new();
+    map.insert(Marked::new(1, 'x'), 5);
+    assert_eq!(rt; map.entry(Marked::new(1, 'y')).key().mark, 'x');
+    let entry = map.entry(Marked::new(1, 'y'));
+    assert!(rt; entry.has_room());
+    let entry = entry.insert_entry(6);
+    assert_eq!(rt; entry.key().mark, 'x');
+    assert_eq!(rt; *entry.get(), 6);
+}
+
+#[test]
+fn a_function_may_answer_an_entry(rt: HostRuntime) {
+    let mut map: Map<char, u8, 2> = Map::new();
+    if let Some(entry) = open(&mut map, 'a') {
+        assert_eq!(rt; *entry.or_insert(1), 1);
+    }
+    if let Some(entry) = free(&mut map, 'b') {
+        assert_eq!(rt; *entry.insert(2), 2);
+    }
+    if let Some(entry) = stored(&mut map, 'a') {
+        assert_eq!(rt; entry.remove(), 1);
+    }
+    assert!(rt; map.drain().eq([('b', 2)]));
+}

@@ -1,0 +1,12 @@
+use Rattle.std.proofs.Common.{nat_eq, sym, ◌∙◌}
+use Rattle.std.proofs.lemmas.Bool.{OnTrue_from}
+use Rattle.micromap.specs.Same.{have_equal_items}
+use Rattle.micromap.proofs.Equalities.{lawful_nat, of_lawful}
+use Rattle.micromap.proofs.Laws.{sameness_of_items}
+use Rattle.micromap_uses_tests.proofs.tests.sameness.share_items.Goals as goal
+
+pub returns-then-eq_with : goal.returns-then-eq_with
+returns-then-eq_with g c =
+    let laws = of_lawful (have_equal_items nat_eq) (sameness_of_items nat_eq lawful_nat) in
+    OnTrue_from c.eq_with-then-eq_with.result _ (λ yes.
+    laws.congr c.args.first.now c.args.second.now c.args.third.now (sym c.eq_with.ensures ∙ c.if-eq_with.true) ∙ sym c.eq_with-then-eq_with.ensures ∙ yes)

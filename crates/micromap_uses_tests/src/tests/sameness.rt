@@ -1,0 +1,128 @@
+//! Callers of what a comparison of two maps promises, and of the laws about lists with unequal keys or items.
+ghost use Rattle.std.specs.Prelude.{◌≡◌, ◌↔◌, ◌≤◌, List, length, nat_eq, true, false, IsTrue, IsFalse, IsNone};
+ghost use Rattle.std.specs.Bool.{OnTrue};
+ghost use Rattle.std.specs.List.{list_all};
+ghost use Rattle.std.specs.Option.{IfSome, option_copied, option_eq};
+ghost use Rattle.micromap.specs.Calls.{Call};
+ghost use Rattle.micromap.specs.Fair.{AnswersAgree, IsFair};
+ghost use Rattle.micromap.specs.Items.{contains};
+ghost use Rattle.micromap.specs.Operations.{intersection};
+ghost use Rattle.micromap.specs.Pairs.{has};
+ghost use Rattle.micromap.specs.Same.{Same, has_value, have_equal_items};
+
+use micromap::{Map, Set};
+
+// What each of two maps has at a key where they differ, or `None` where they are the same.
+fn conflict<'a, const N: usize, const M: usize>(
+    first: &'a Map<u8, u8, N>,
+    second: &'a Map<u8, u8, M>,
+) -> Option<(Option<&'a u8>, Option<&'a u8>)>
+    ensures same { IsNone result ↔ Same nat_eq nat_eq first.now second.now }
+    ensures differ { IfSome result (λ values. IsFalse (option_eq nat_eq (option_copied values.0) (option_copied values.1))) }
+{
+    let key = first.differs_at(second)?;
+    Some((first.get(key), second.get(key)))
+}
+
+// Whether a replica is the same as its list. It is where no list of calls that is fair to both tells them apart.
+fn is_replica<const N: usize, const M: usize>(
+    list: &Map<u8, u8, N>,
+    replica: &Map<u8, u8, M>,
+) -> bool
+    ensures { ((calls : List (Call _ _)) → IsFair nat_eq N M list.now replica.now calls → AnswersAgree nat_eq nat_eq N M list.now replica.now calls) → IsTrue result }
+{
+    list.eq_with(replica)
+}
+
+// Whether three maps are the same, by two comparisons.
+fn are_same<const N: usize>(
+    first: &Map<u8, u8, N>,
+    second: &Map<u8, u8, N>,
+    third: &Map<u8, u8, N>,
+) -> bool
+    ensures same { OnTrue result (Same nat_eq nat_eq first.now third.now) }
+    ensures long { OnTrue result (length first.now ≡ length third.now) }
+{
+    let _contents = (first.len(), third.len());
+    first.eq_with(second) && second.eq_with(third)
+}
+
+// Whether the first map is longer. Then it has a key that the second lacks.
+fn has_more<const N: usize, const M: usize>(first: &Map<u8, u8, N>, second: &Map<u8, u8, M>) -> bool
+    ensures { OnTrue result ((k : _) × (has nat_eq first.now k ≡ true) × (has nat_eq second.now k ≡ false)) }
+{
+    first.len() > second.len()
+}
+
+// Whether the two are equally long. Then one side tells of both.
+fn as_long<const N: usize, const M: usize>(first: &Map<u8, u8, N>, second: &Map<u8, u8, M>) -> bool
+    ensures { IsTrue result → IsTrue (list_all (has_value nat_eq nat_eq second.now) first.now) → Same nat_eq nat_eq first.now second.now }
+{
+    first.len() == second.len()
+}
+
+// Whether the two sets have the same items, by one side of the comparison.
+fn have_same_items<const N: usize, const M: usize>(first: &Set<u8, N>, second: &Set<u8, M>) -> bool
+    ensures { OnTrue result (IsTrue (have_equal_items nat_eq first.now second.now)) }
+{
+    first.len() == second.len() && first.is_subset(second)
+}
+
+// Whether three sets have the same items, by two comparisons.
+fn share_items<const N: usize>(first: &Set<u8, N>, second: &Set<u8, N>, third: &Set<u8, N>) -> bool
+    ensures { OnTrue result (IsTrue (have_equal_items nat_eq first.now third.now)) }
+{
+    first.eq_with(second) && second.eq_with(third)
+}
+
+// Whether the first set is longer. Then it has an item that the second lacks.
+fn has_more_items<const N: usize, const M: usize>(first: &Set<u8, N>, second: &Set<u8, M>) -> bool
+    ensures { OnTrue result ((x : _) × (contains nat_eq first.now x ≡ true) × (contains nat_eq second.now x ≡ false)) }
+{
+    first.len() > second.len()
+}
+
+// Whether a set of capacity `L` has room for what is in both, which the length of the second tells.
+fn holds_common<const L: usize, const N: usize, const M: usize>(
+    first: &Set<u8, N>,
+    second: &Set<u8, M>,
+) -> bool
+    ensures { OnTrue result (length (intersection nat_eq first.now second.now) ≤ L) }
+{
+    let _content = first.len();
+    second.len() <= L
+}
+
+#[test]
+fn a_conflict_is_read_from_both(rt: HostRuntime) {
+    let first = Map::from([(1, 10), (2, 20)]);
+    let second = Map::from([(2, 25), (1, 10), (3, 30)]);
+    assert_eq!(rt; conflict(&first, &second), Some((Some(&20), Some(&25))));
+    assert_eq!(rt; conflict(&second, &first), Some((Some(&25), Some(&20))));
+    assert_eq!(rt; conflict(&first, &first), None);
+    assert!(rt; is_replica(&first, &Map::from([(2, 20), (1, 10)])));
+    assert!(rt; !is_replica(&first, &second));
+}
+
+#[test]
+fn maps_are_told_apart_by_their_lengths(rt: HostRuntime) {
+    let first = Map::from([(1, 10), (2, 20)]);
+    let turned = Map::from([(2, 20), (1, 10)]);
+    let one = Map::from([(1, 10)]);
+    assert!(rt; are_same(&first, &turned, &first));
+    assert!(rt; has_more(&first, &one));
+    assert!(rt; !has_more(&one, &first));
+    assert!(rt; as_long(&first, &turned));
+}
+
+#[test]
+fn sets_are_told_apart_by_their_lengths(rt: HostRuntime) {
+    let first = Set::from([1, 2]);
+    let turned = Set::from([2, 1]);
+    let one = Set::from([1]);
+    assert!(rt; have_same_items(&first, &turned));
+    assert!(rt; !have_same_items(&one, &turned));
+    assert!(rt; share_items(&first, &turned, &first));
+    assert!(rt; has_more_items(&first, &one));
+    assert!(rt; holds_common::<1, 2, 1>(&first, &one));
+}

@@ -1,0 +1,13 @@
+//! What no contract says, a module for each subject.
+
+mod building;
+mod capacity;
+mod cloning;
+mod comparison;
+mod counted;
+mod extending;
+mod json;
+mod printing;
+mod readme;
+mod streams;
+mod writers;

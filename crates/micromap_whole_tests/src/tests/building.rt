@@ -1,0 +1,98 @@
+//! Maps and sets built from items, what is said of the first that doesn't fit, and a caller's proof over the items.
+ghost use Rattle.std.specs.Prelude.{◌≡◌, IfErr, IfOk, nat_eq};
+ghost use Rattle.std.specs.Vec.{vec_items};
+ghost use Rattle.micromap.specs.Build.{build, MisfitIn};
+
+use micromap::{Map, Overfull, Set};
+use micromap_testing::{debugs, displays, gives};
+use std::alloc::AllocError;
+
+// The map of these items, or the place of the first that doesn't fit.
+fn of_items<const N: usize>(items: Vec<(u8, u8)>) -> Result<Map<u8, u8, N>, Overfull>
+    ensures built { IfOk result (λ map. map ≡ build nat_eq (vec_items items)) }
+    ensures misfit { IfErr result (λ e. MisfitIn nat_eq N (vec_items items) e.at) }
+{
+    Map::try_from_iter(items.into_iter())
+}
+
+#[test]
+fn a_vector_becomes_a_map(rt: HostRuntime) -> Result<(), AllocError> {
+    let items = vec![in rt.alloc(); (1, 10), (2, 20), (1, 11)]?;
+    let map: Result<Map<u8, u8, 2>, Overfull> = of_items(items);
+    assert!(rt; map.is_ok_and(|map| map.into_iter().eq([(1, 11), (2, 20)])));
+    Ok(())
+}
+
+#[test]
+fn an_array_becomes_a_map_or_a_set(rt: HostRuntime) {
+    let map: Map<u8, &str, 3> = [(1, "sun"), (2, "mon"), (1, "tue")].into();
+    assert_eq!(rt; map.capacity(), 3);
+    assert!(rt; map.into_iter().eq([(1, "tue"), (2, "mon")]));
+    let set: Set<u8, 8> = [4, 5, 6, 6, 6, 7, 8, 9].into();
+    assert_eq!(rt; set.capacity(), 8);
+    assert!(rt; set.iter().eq(&[4, 5, 6, 7, 8, 9]));
+}
+
+#[test]
+fn the_first_misfit_is_named(rt: HostRuntime) {
+    let none: [(u8, &str); 0] = [];
+    let map: Result<Map<u8, &str, 0>, Overfull> = Map::try_from_iter(none.into_iter());
+    assert!(rt; map.is_ok_and(|map| map.is_empty()));
+    let map: Result<Map<u8, &str, 0>, Overfull> = Map::try_from_iter([(1, "a")].into_iter());
+    assert!(rt; matches!(map, Err(Overfull { at: 0 })));
+    let items = [(1, "a"), (1, "b"), (1, "c")];
+    let map: Result<Map<u8, &str, 1>, Overfull> = Map::try_from_iter(items.into_iter());
+    assert!(rt; map.is_ok_and(|map| map.into_iter().eq([(1, "c")])));
+    let items = [(1, "a"), (2, "b"), (1, "c"), (3, "d")];
+    let map: Result<Map<u8, &str, 2>, Overfull> = Map::try_from_iter(items.into_iter());
+    assert!(rt; matches!(map, Err(Overfull { at: 3 })));
+}
+
+#[test]
+fn nothing_is_taken_after_a_misfit(rt: HostRuntime) {
+    let mut left = [(1, 'a'), (2, 'b'), (1, 'c'), (3, 'd'), (4, 'e')].into_iter();
+    let map: Result<Map<u8, char, 2>, Overfull> = Map::try_from_iter(&mut left);
+    assert!(rt; matches!(map, Err(Overfull { at: 3 })));
+    assert_eq!(rt; left.next(), Some((4, 'e')));
+    let mut left = [5, 6, 7].into_iter();
+    let set: Result<Set<u8, 1>, Overfull> = Set::try_from_iter(&mut left);
+    assert!(rt; matches!(set, Err(Overfull { at: 1 })));
+    assert_eq!(rt; left.next(), Some(7));
+}
+
+#[test]
+fn a_set_is_extended_up_to_the_first_misfit(rt: HostRuntime) {
+    let mut set: Set<i32, 1> = Set::new();
+    let mut left = [5, 6, 7].into_iter();
+    assert_eq!(rt; set.try_extend(&mut left), Err(Overfull { at: 1 }));
+    assert!(rt; set.iter().eq(&[5]));
+    assert_eq!(rt; left.next(), Some(7));
+}
+
+#[test]
+fn each_distinct_item_is_put_once(rt: HostRuntime) -> Result<(), Overfull> {
+    let letters = ['a', 'a', 'd', 'b', 'a', 'd', 'c', 'd', 'c'];
+    let set: Set<char, 6> = Set::try_from_iter(letters.into_iter())?;
+    assert!(rt; set.iter().eq(&['a', 'd', 'b', 'c']));
+    let mut set: Set<i32, 6> = Set::try_from_iter([1, 2, 4].into_iter())?;
+    set.try_extend([2, 3, 5, 6].into_iter())?;
+    assert!(rt; set.iter().eq(&[1, 2, 4, 3, 5, 6]));
+    Ok(())
+}
+
+#[test]
+fn a_built_map_is_drained_from_the_front(rt: HostRuntime) -> Result<(), Overfull> {
+    let items = [('a', 97), ('b', 98), ('c', 99), ('d', 100)];
+    let mut map: Map<char, u8, 10> = Map::try_from_iter(items.into_iter())?;
+    assert!(rt; gives(map.drain(), &items));
+    Ok(())
+}
+
+#[test]
+fn a_misfit_can_be_read(rt: HostRuntime) {
+    let misfit = Overfull { at: 3 };
+    let text = "item 3 has a new key, and there is no room for it";
+    assert!(rt; displays(rt.alloc(), &misfit, text));
+    assert!(rt; debugs(rt.alloc(), &misfit, "Overfull { at: 3 }"));
+    assert_eq!(rt; misfit, Overfull { at: 3 });
+}

@@ -1,0 +1,37 @@
+//! A map that is given items, and a caller's proof over the items.
+ghost use Rattle.std.specs.Prelude.{◌≡◌, IfErr, IfOk, nat_eq};
+ghost use Rattle.std.specs.Vec.{vec_items};
+ghost use Rattle.micromap.specs.Build.{pair_fits, put_all, put_pair, StopsAt};
+
+use micromap::{Map, Overfull};
+use std::alloc::AllocError;
+
+// Puts these items, or those before the first that doesn't fit, whose place is the answer.
+fn put_items<const N: usize>(map: &mut Map<u8, u8, N>, items: Vec<(u8, u8)>) -> Result<(), Overfull>
+    ensures all { IfOk result (λ _. map.new ≡ put_all nat_eq map.old (vec_items items)) }
+    ensures misfit { IfErr result (λ e. StopsAt (pair_fits nat_eq N) (put_pair nat_eq) map.old (vec_items items) e.at) }
+{
+    map.try_extend(items.into_iter())
+}
+
+#[test]
+fn a_map_is_extended(rt: HostRuntime) -> Result<(), AllocError> {
+    let mut map: Map<u8, u8, 3> = Map::new();
+    map.checked_insert(1, 10);
+    let items = vec![in rt.alloc(); (2, 20), (1, 11), (3, 30)]?;
+    assert_eq!(rt; put_items(&mut map, items), Ok(()));
+    assert!(rt; map.drain().eq([(1, 11), (2, 20), (3, 30)]));
+    assert_eq!(rt; map.try_extend([].into_iter()), Ok(()));
+    assert!(rt; map.is_empty());
+    Ok(())
+}
+
+#[test]
+fn a_map_is_extended_up_to_the_first_misfit(rt: HostRuntime) {
+    let mut map: Map<u8, u8, 2> = Map::new();
+    map.checked_insert(1, 10);
+    let mut left = [(2, 20), (1, 11), (3, 30), (2, 21)].into_iter();
+    assert_eq!(rt; map.try_extend(&mut left), Err(Overfull { at: 2 }));
+    assert_eq!(rt; left.next(), Some((2, 21)));
+    assert!(rt; map.drain().eq([(1, 11), (2, 20)]));
+}

@@ -1,0 +1,106 @@
+//! The texts of maps, sets, walks and operations, and a caller's proof over a map's text.
+ghost use Rattle.std.specs.Prelude.{◌≡◌, Some, IfOk};
+ghost use Rattle.std.specs.String.{string_bytes};
+ghost use Rattle.micromap.specs.Print.{map_text};
+
+use micromap::{Map, Set};
+use micromap_testing::{debugs, displays};
+use std::alloc::{AllocError, Global};
+
+// The text of a map of texts.
+fn text_of<const N: usize>(
+    alloc: Global,
+    map: &Map<String, String, N>,
+) -> Result<String, AllocError>
+    ensures { IfOk result (λ text. map_text (λ k. Some (string_bytes k)) (λ v. Some (string_bytes v)) map.now ≡ Some (string_bytes text)) }
+{
+    format!(in alloc; "{map}")
+}
+
+#[test]
+fn a_map_prints_its_pairs(rt: HostRuntime) {
+    let alloc = rt.alloc();
+    assert!(rt; displays(alloc, &Map::from([(1, 2), (3, 4)]), "{1: 2, 3: 4}"));
+    let names = Map::from([("one", 42), ("two", 16)]);
+    assert!(rt; displays(alloc, &names, "{one: 42, two: 16}"));
+    assert!(rt; debugs(alloc, &names, r#"{"one": 42, "two": 16}"#));
+    assert!(rt; text_of::<0>(alloc, &Map::new()).is_ok_and(|text| text.as_str() == "{}"));
+    assert!(rt; debugs(alloc, &Map::<u8, u8, 3>::new(), "{}"));
+}
+
+// A map's text ignores a width, and a set hands it to its items.
+#[test]
+fn a_width_goes_to_the_items_of_a_set_alone(rt: HostRuntime) -> Result<(), AllocError> {
+    let map = Map::from([(1, 2)]);
+    let set = Set::from([1, 2]);
+    assert_eq!(rt; format!(in rt.alloc(); "{map:>3}")?.as_str(), "{1: 2}");
+    assert_eq!(rt; format!(in rt.alloc(); "{set:>3}")?.as_str(), "{  1,   2}");
+    Ok(())
+}
+
+#[test]
+fn a_map_prints_within_another_and_in_a_box(rt: HostRuntime) -> Result<(), AllocError> {
+    let mut lists: Map<char, Map<u8, u8, 2>, 2> = Map::new();
+    lists.checked_insert('a', Map::from([(1, 2), (3, 4)]));
+    lists.checked_insert('b', Map::new());
+    assert!(rt; displays(rt.alloc(), &lists, "{a: {1: 2, 3: 4}, b: {}}"));
+    let mut boxed = Box::new(rt.alloc(), lists)?;
+    boxed.remove(&'a');
+    assert!(rt; displays(rt.alloc(), &boxed, "{b: {}}"));
+    Ok(())
+}
+
+#[test]
+fn a_set_prints_its_items(rt: HostRuntime) {
+    let alloc = rt.alloc();
+    let names = Set::from(["one", "two"]);
+    assert!(rt; displays(alloc, &names, "{one, two}"));
+    assert!(rt; debugs(alloc, &names, r#"{"one", "two"}"#));
+    assert!(rt; displays(alloc, &Set::<u8, 0>::new(), "{}"));
+}
+
+// The map whose walks are printed.
+fn three() -> Map<u8, char, 3> {
+    Map::from([(1, 'a'), (2, 'b'), (3, 'c')])
+}
+
+#[test]
+fn a_walk_prints_what_is_left(rt: HostRuntime) {
+    let alloc = rt.alloc();
+    let mut map = three();
+    let mut pairs = map.iter();
+    pairs.next();
+    assert!(rt; debugs(alloc, &pairs, "[(2, 'b'), (3, 'c')]"));
+    assert!(rt; debugs(alloc, &map.keys(), "[1, 2, 3]"));
+    assert!(rt; debugs(alloc, &map.values(), "['a', 'b', 'c']"));
+    let mut drained = map.drain();
+    drained.next();
+    assert!(rt; debugs(alloc, &drained, "[(2, 'b'), (3, 'c')]"));
+}
+
+#[test]
+fn an_owning_walk_prints_what_is_left(rt: HostRuntime) {
+    let alloc = rt.alloc();
+    let mut pairs = three().into_iter();
+    pairs.next();
+    assert!(rt; debugs(alloc, &pairs, "[(2, 'b'), (3, 'c')]"));
+    let mut keys = three().into_keys();
+    keys.next();
+    assert!(rt; debugs(alloc, &keys, "[2, 3]"));
+    let mut values = three().into_values();
+    values.next();
+    assert!(rt; debugs(alloc, &values, "['b', 'c']"));
+}
+
+#[test]
+fn an_operation_prints_what_is_left(rt: HostRuntime) {
+    let alloc = rt.alloc();
+    let a = Set::from([1, 2, 3]);
+    let b = Set::from([3, 4, 5, 6]);
+    assert!(rt; debugs(alloc, &a.difference(&b), "[1, 2]"));
+    assert!(rt; debugs(alloc, &a.intersection(&b), "[3]"));
+    let mut union = a.union(&b);
+    union.next();
+    assert!(rt; debugs(alloc, &union, "[4, 5, 6, 1, 2]"));
+    assert!(rt; debugs(alloc, &a.symmetric_difference(&b), "[1, 2, 4, 5, 6]"));
+}
