@@ -1,5 +1,5 @@
-//! Maps of texts to whole numbers, and sets of texts, as JSON. `serde_json` alone reads and writes the text: what it says
-//! of a text is what the contracts say.
+//! Maps of texts to whole numbers, and sets of texts, as JSON. `serde_json` alone reads and writes the text: what it
+//! says of a text is what the contracts say.
 ghost use Rattle.std.specs.Prelude.{◌≡◌, Some};
 ghost use Rattle.micromap.specs.Json.{code, message};
 ghost use Rattle.micromap.specs.declared.json.JsonFault.TheVariants.{Memory};
@@ -13,8 +13,8 @@ use std::error::Error;
 use std::fmt;
 pub use write::{map_to_json, set_to_json};
 
-/// Why a text wasn't read, or not written. Those but `Memory` are tested in this order, each over the whole text, and the
-/// first that applies is answered.
+/// Why a text wasn't read or written. All but `Memory` are tested in this order, each over the whole text. The first
+/// that applies is returned.
 #[derive(Debug, Clone, Copy, PartialEq, Eq)]
 pub enum JsonFault {
     /// The text isn't JSON as `serde_json` reads it.
@@ -23,7 +23,7 @@ pub enum JsonFault {
     NotObject,
     /// For a set, the text isn't an array.
     NotArray,
-    /// Some member's value isn't a whole number that an `i64` holds. A float never is, also `1.0`.
+    /// Some member's value isn't a whole number that fits `i64`. A float never is, not even `1.0`.
     NotWhole,
     /// Some element isn't a text.
     NotText,
@@ -34,7 +34,7 @@ pub enum JsonFault {
 }
 
 impl JsonFault {
-    /// The fault's number, from 1 in their order.
+    /// Returns the fault's number, from 1 in this order.
     pub fn code(&self) -> u8
         ensures { result ≡ code self.now }
     {

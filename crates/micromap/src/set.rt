@@ -1,4 +1,4 @@
-//! The set: a list of at most `N` items, kept as the keys of a map.
+//! The set: a list of at most `N` items, stored as the keys of a map.
 ghost use Rattle.std.specs.Prelude.{◌≡◌, ◌==◌, [], length, Some, IsTrue};
 ghost use Rattle.std.specs.Option.{option_copied};
 ghost use Rattle.micromap.specs.Items.{IsItems, item, contains, item_fits};
@@ -21,10 +21,10 @@ pub use operations::{Difference, DifferenceRef, Intersection, SymmetricDifferenc
 use std::marker::Model;
 pub use walk::{Drain, IntoIter, Iter};
 
-/// A set of at most `N` items, which are found by `==` from the front and pairwise unequal.
+/// A set of at most `N` pairwise unequal items, which are found by `==`, from the front.
 ///
-/// A contract sees it as the list of its items, from front to end. It is a map with the value `()`, and no call takes
-/// memory of its own. A scan compares the items from the front, each at most once.
+/// A contract sees it as the list of its items, from front to end. It is a map with the value `()`, and no call
+/// allocates memory of its own. A *scan* compares the items from the front, each at most once.
 #[derive(Drop)]
 pub struct Set<T: Eq, const N: usize> {
     map: Map<T, (), N>,
@@ -40,7 +40,7 @@ impl<T: Eq, const N: usize> Model for Set<T, N> {
 }
 
 impl<T: Eq, const N: usize> Set<T, N> {
-    /// An empty set.
+    /// Creates an empty set.
     #[inline]
     pub fn new() -> Self
         ensures { result ≡ [] }
@@ -48,7 +48,9 @@ impl<T: Eq, const N: usize> Set<T, N> {
         Set { map: Map::new() }
     }
 
-    /// The number of items. Callers also learn here what holds of each set's content.
+    /// Returns the number of items.
+    ///
+    /// Its clause `content` says what is true of every set's content.
     #[inline]
     pub fn len(&self) -> usize
         ensures answer { result ≡ length self.now }
@@ -57,7 +59,7 @@ impl<T: Eq, const N: usize> Set<T, N> {
         self.map.len()
     }
 
-    /// Whether there is no item.
+    /// Returns `true` if the set has no items.
     #[inline]
     pub fn is_empty(&self) -> bool
         ensures { result ≡ (length self.now == 0) }
@@ -65,7 +67,7 @@ impl<T: Eq, const N: usize> Set<T, N> {
         self.map.is_empty()
     }
 
-    /// The greatest number of items, which is `N`.
+    /// Returns the greatest number of items, which is `N`.
     #[inline]
     pub fn capacity(&self) -> usize
         ensures { result ≡ N }
@@ -73,7 +75,9 @@ impl<T: Eq, const N: usize> Set<T, N> {
         self.map.capacity()
     }
 
-    /// Whether an item can be put: an equal one is stored, or there is room. Where there is room no item is compared.
+    /// Returns `true` if the item can be inserted: an equal one is stored, or there is room.
+    ///
+    /// Compares no item if there is room. Else it makes one scan.
     #[inline]
     pub fn fits(&self, x: &T) -> bool
         ensures { result ≡ item_fits T.eq N self.now x.now }
@@ -81,7 +85,7 @@ impl<T: Eq, const N: usize> Set<T, N> {
         self.map.fits(x)
     }
 
-    /// Whether some stored item equals `x`, by one scan.
+    /// Returns `true` if a stored item equals `x`. Makes one scan.
     #[inline]
     pub fn contains(&self, x: &T) -> bool
         ensures { result ≡ contains T.eq self.now x.now }
@@ -89,7 +93,7 @@ impl<T: Eq, const N: usize> Set<T, N> {
         self.map.contains_key(x)
     }
 
-    /// The stored item that equals `x`, or `None` where there is none, by one scan.
+    /// Returns a reference to the stored item that equals `x`, or `None` if there is none. Makes one scan.
     #[inline]
     pub fn get(&self, x: &T) -> Option<&T>
         ensures { option_copied result ≡ item T.eq self.now x.now }
@@ -104,7 +108,7 @@ impl<T: Eq, const N: usize> Set<T, N> {
 impl<T: Eq, const N: usize> Default for Set<T, N> {
     ghost is_default = { λ s. s ≡ [] };
 
-    /// An empty set.
+    /// Creates an empty set.
     fn default() -> Self {
         Set::new()
     }

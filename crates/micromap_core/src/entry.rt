@@ -1,9 +1,9 @@
-//! The entry of a key in a map: the pair that has the key, or the key itself where it is new.
+//! The entry of a key in a map: the stored pair, or the key itself if it is new.
 //!
-//! An entry's types are generic over the whole map, under aliases with the names that callers write. An entry is made
-//! by `Map::entry`, and each call that answers one hands on what it ensures: that an occupied entry points at a pair,
-//! and that the key of a vacant one is new. A clause's `self.exit.0.now` is the map behind the reference that the entry
-//! held, once the entry is used up.
+//! The types are generic over the whole map. Callers write the aliases, which have the Rust crate's names. `Map::entry`
+//! makes an entry. Each call that returns one ensures that it is sound: an occupied entry has the index of a pair, and
+//! the key of a vacant entry is new. In a clause, `self.exit.0.now` is the map behind the reference that the entry
+//! held, after the entry is consumed.
 ghost use Rattle.std.specs.Prelude.{◌≡◌};
 
 mod methods;
@@ -18,7 +18,7 @@ pub type Entry<'a, K, V, const N: usize> = EntryIn<'a, K, Map<K, V, N>>;
 /// An entry whose key is stored.
 pub type OccupiedEntry<'a, K, V, const N: usize> = OccupiedIn<'a, Map<K, V, N>>;
 
-/// A key that the map lacks.
+/// An entry whose key is new. It holds the key.
 pub type VacantEntry<'a, K, V, const N: usize> = VacantIn<'a, K, Map<K, V, N>>;
 
 /// An `Entry` of the map `M`.
@@ -41,7 +41,7 @@ pub struct VacantIn<'a, K, M> {
 }
 
 impl<'a, M> Drop for OccupiedIn<'a, M> {
-    /// Leaves the map as it is.
+    /// Leaves the map unchanged.
     fn drop(self)
         ensures { self.exit.0.now ≡ self.entry.map.now }
     {
@@ -50,7 +50,7 @@ impl<'a, M> Drop for OccupiedIn<'a, M> {
 }
 
 impl<'a, K: Drop, M> Drop for VacantIn<'a, K, M> {
-    /// Leaves the map as it is.
+    /// Leaves the map unchanged.
     fn drop(self)
         ensures { self.exit.0.now ≡ self.entry.map.now }
     {

@@ -1,4 +1,4 @@
-//! A map of fixed capacity that finds its keys by `==` alone: no hash, no order, no memory but its own.
+//! A map of fixed capacity that finds its keys by `==` alone: no hash, no order on keys, no heap.
 #![tactic(auto)]
 
 pub mod entry;

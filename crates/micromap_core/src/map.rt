@@ -1,4 +1,4 @@
-//! The map: a list of at most `N` pairs, kept in the value itself.
+//! The map: a list of at most `N` pairs, stored in the value itself.
 ghost use Rattle.std.specs.Prelude.{◌≡◌, ◌==◌, ◌≤◌, [], length};
 ghost use Rattle.micromap_core.specs.Pairs.{IsContent};
 
@@ -22,10 +22,10 @@ use crate::slots::Columns;
 pub use micromap_walk::{Drain, IntoIter, IntoKeys, IntoValues, Iter, Keys, Values};
 use std::marker::Model;
 
-/// A map of at most `N` pairs, whose keys are found by `==` from the front and pairwise unequal.
+/// A map of at most `N` pairs with pairwise unequal keys, which are found by `==`, from the front.
 ///
-/// A contract sees it as the list of its pairs, from front to end. All its room is part of the value, so no call
-/// takes memory of its own. A scan compares the keys from the front, each at most once.
+/// A contract sees it as the list of its pairs, from front to end. All `N` slots are part of the value, so no call
+/// allocates memory of its own. A *scan* compares the keys from the front, each at most once.
 #[derive(Drop)]
 pub struct Map<K: Eq, V, const N: usize> {
     pairs: Columns<K, V, N>,
@@ -43,7 +43,7 @@ impl<K: Eq, V, const N: usize> Model for Map<K, V, N> {
 }
 
 impl<K: Eq, V, const N: usize> Map<K, V, N> {
-    /// An empty map.
+    /// Creates an empty map.
     #[inline]
     pub fn new() -> Self
         ensures { result ≡ [] }
@@ -53,7 +53,7 @@ impl<K: Eq, V, const N: usize> Map<K, V, N> {
         }
     }
 
-    /// An empty map, where `capacity` is the one that the type has.
+    /// Creates an empty map. Requires that `capacity` is `N`.
     #[inline]
     pub fn with_capacity(capacity: usize) -> Self
         requires { capacity ≡ N }
@@ -63,7 +63,9 @@ impl<K: Eq, V, const N: usize> Map<K, V, N> {
         Map::new()
     }
 
-    /// The number of pairs. Callers also learn here what holds of each map's content.
+    /// Returns the number of pairs.
+    ///
+    /// Its clause `content` says what is true of every map's content.
     #[inline]
     pub fn len(&self) -> usize
         ensures answer { result ≡ length self.now }
@@ -72,7 +74,7 @@ impl<K: Eq, V, const N: usize> Map<K, V, N> {
         self.pairs.len()
     }
 
-    /// Whether there is no pair.
+    /// Returns `true` if the map has no pairs.
     #[inline]
     pub fn is_empty(&self) -> bool
         ensures { result ≡ (length self.now == 0) }
@@ -80,7 +82,7 @@ impl<K: Eq, V, const N: usize> Map<K, V, N> {
         self.len() == 0
     }
 
-    /// The greatest number of pairs, which is `N`.
+    /// Returns the greatest number of pairs, which is `N`.
     #[inline]
     pub fn capacity(&self) -> usize
         ensures { result ≡ N }
@@ -90,7 +92,7 @@ impl<K: Eq, V, const N: usize> Map<K, V, N> {
 }
 
 impl<K: Eq + Drop, V: Drop, const N: usize> Map<K, V, N> {
-    /// Drops every pair.
+    /// Removes and drops every pair.
     pub fn clear(&mut self)
         ensures emptied { self.new ≡ [] }
         ensures content { IsContent K.eq N self.old }
@@ -103,7 +105,7 @@ impl<K: Eq + Drop, V: Drop, const N: usize> Map<K, V, N> {
 impl<K: Eq, V, const N: usize> Default for Map<K, V, N> {
     ghost is_default = { λ m. m ≡ [] };
 
-    /// An empty map.
+    /// Creates an empty map.
     fn default() -> Self {
         Map::new()
     }

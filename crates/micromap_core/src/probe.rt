@@ -1,18 +1,18 @@
-//! Finding a key by something other than a key.
+//! Finding a key by a value of another type.
 ghost use Rattle.std.specs.Prelude.{◌≡◌, Bool, true};
 ghost use Rattle.std.specs.String.{string_bytes};
 ghost use Rattle.std.proofs.lemmas.Cmp.{nat_list_eq_equiv};
 ghost use Rattle.micromap_core.specs.Probe.{is_str, is_text};
 ghost use Rattle.micromap_core.specs.ProbeLaws.{alike, equal};
 
-/// What a stored key can be found by.
+/// A value by which a stored key can be found.
 ///
 /// An implementation says which keys it matches, and proves two laws: equal keys match alike, and two keys that match
-/// are equal. So at most one stored key matches, and the calls of a map by probe act on that one.
+/// are equal. So at most one stored key matches, and a map's calls by probe act on that key.
 pub trait Probe<K: Eq> {
     ghost matches: { Self → K → Bool };
 
-    /// Whether the probe matches `key`.
+    /// Returns `true` if the probe matches `key`.
     fn matches(&self, key: &K) -> bool
         ensures { result ≡ matches self.now key.now };
 

@@ -1,5 +1,5 @@
-//! The slots in which a map keeps its keys, and those in which it keeps its values. Only this module knows that a slot is
-//! an `Option`, and that each is filled.
+//! The slots in which a map keeps its keys, and those in which it keeps its values. Only this module knows that a slot
+//! is an `Option`, and that each is filled.
 ghost use Rattle.std.specs.Prelude.{◌≡◌, ◌<◌, ◌≤◌, [], ◌∷◌, ◌++◌, length, take, All, Some, IsOk, IfOk, slice_get};
 ghost use Rattle.std.specs.Borrow.{sem};
 ghost use Rattle.std.specs.List.{AllZip, remove, swap};
@@ -14,7 +14,7 @@ use micromap_walk::slot::{into_item, item_of, item_of_mut};
 use std::alloc::AllocError;
 use std::marker::Model;
 
-/// At most `N` items. A contract sees their list, from front to end.
+/// A list of at most `N` items. A contract sees it as that list, from front to end.
 #[derive(Drop)]
 pub(crate) struct Slots<T, const N: usize> {
     slots: ArrayVec<Option<T>, N>,
@@ -32,7 +32,7 @@ impl<T, const N: usize> Model for Slots<T, N> {
 }
 
 impl<T, const N: usize> Slots<T, N> {
-    /// No item.
+    /// Creates an empty list.
     #[inline]
     pub(crate) fn new() -> Self
         ensures { result ≡ [] }
@@ -42,7 +42,7 @@ impl<T, const N: usize> Slots<T, N> {
         }
     }
 
-    /// The number of items.
+    /// Returns the number of items.
     #[inline]
     pub(crate) fn len(&self) -> usize
         ensures answer { result ≡ length self.now }
@@ -51,7 +51,7 @@ impl<T, const N: usize> Slots<T, N> {
         self.slots.len()
     }
 
-    /// The slots, each with its item.
+    /// Returns the slots, all of which are filled.
     #[inline]
     pub(crate) fn as_slice(&self) -> &[Option<T>]
         ensures filled { AreFilled result.now }
@@ -60,7 +60,7 @@ impl<T, const N: usize> Slots<T, N> {
         self.slots.as_slice()
     }
 
-    /// The slots by value, each with its item.
+    /// Returns the slots by value, all of which are filled.
     #[inline]
     pub(crate) fn into_array_vec(self) -> ArrayVec<Option<T>, N>
         ensures filled { AreFilled result.items }
@@ -70,7 +70,7 @@ impl<T, const N: usize> Slots<T, N> {
         slots
     }
 
-    /// The item at `index`.
+    /// Returns a reference to the item at `index`.
     #[inline]
     pub(crate) fn item_at(&self, index: usize) -> &T
         requires { index < length self.now }
@@ -79,7 +79,7 @@ impl<T, const N: usize> Slots<T, N> {
         item_of(&self.slots.as_slice()[index])
     }
 
-    /// The item at `index`, for writing.
+    /// Returns a mutable reference to the item at `index`.
     #[inline]
     pub(crate) fn item_at_mut(&mut self, index: usize) -> &mut T
         requires { index < length self.old }
@@ -92,7 +92,7 @@ impl<T, const N: usize> Slots<T, N> {
         }
     }
 
-    /// Puts each of two items in the other's place.
+    /// Swaps two items.
     #[inline]
     pub(crate) fn swap(&mut self, a: usize, b: usize)
         requires a_in_bounds { a < length self.old }
@@ -112,7 +112,7 @@ impl<T: Drop, const N: usize> Slots<T, N> {
         self.slots.truncate(len);
     }
 
-    /// The same items in `M` slots, each moved once.
+    /// Returns the same items in `M` slots. Moves each once.
     #[inline]
     pub(crate) fn into_capacity<const M: usize>(self) -> Slots<T, M>
         requires { length self ≤ M }
@@ -126,7 +126,7 @@ impl<T: Drop, const N: usize> Slots<T, N> {
         Slots { slots }
     }
 
-    /// Puts an item last.
+    /// Inserts an item last.
     #[inline]
     pub(crate) fn push(&mut self, item: T)
         requires { length self.old < N }
@@ -135,7 +135,7 @@ impl<T: Drop, const N: usize> Slots<T, N> {
         self.slots.push(Some(item));
     }
 
-    /// Takes the item at `index` out; those behind it move up by one.
+    /// Removes and returns the item at `index`. Those behind it move up by one.
     #[inline]
     pub(crate) fn remove(&mut self, index: usize) -> T
         requires { index < length self.old }
@@ -145,7 +145,7 @@ impl<T: Drop, const N: usize> Slots<T, N> {
         into_item(self.slots.remove(index))
     }
 
-    /// Drops every item.
+    /// Removes and drops every item.
     #[inline]
     pub(crate) fn clear(&mut self)
         ensures { self.new ≡ [] }
@@ -155,7 +155,7 @@ impl<T: Drop, const N: usize> Slots<T, N> {
 }
 
 impl<T: Clone + Drop, const N: usize> Slots<T, N> {
-    /// The clones of the items, in the same order. `Err` comes only where a clone of an item answers so.
+    /// Returns the clones of the items, in the same order. The result is `Err` only if the clone of an item is.
     #[inline]
     pub(crate) fn clone(&self) -> Result<Self, AllocError>
         ensures clones { IfOk result (AllZip T.is_clone self.now) }

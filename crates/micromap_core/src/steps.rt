@@ -5,7 +5,7 @@ use std::marker::Model;
 
 /// A counter of steps. A step is one comparison of two keys by `same`.
 ///
-/// A contract sees it as the number of the steps.
+/// A contract sees it as the number of steps.
 #[derive(Debug, Drop)]
 pub struct Steps {
     counted: u128,
@@ -20,7 +20,7 @@ impl Model for Steps {
 }
 
 impl Steps {
-    /// A counter at 0, which has room for a comparison of any two maps.
+    /// Creates a counter at 0, which has room for a comparison of any two maps.
     pub fn new() -> Self
         ensures answer { result ≡ 0 }
         ensures room { (len : ℕ) → len < 2 ^ 64 → result + len * len < 2 ^ 128 }
@@ -28,14 +28,14 @@ impl Steps {
         Steps { counted: 0 }
     }
 
-    /// The number of steps.
+    /// Returns the number of steps.
     pub fn count(&self) -> u128
         ensures { result ≡ self.now }
     {
         self.counted
     }
 
-    /// Whether the two keys are equal, which is one step more.
+    /// Returns `true` if the two keys are equal, and adds one step. Requires that the counter has room for one.
     pub fn same<K: Eq>(&mut self, first: &K, second: &K) -> bool
         requires { self.old + 1 < 2 ^ 128 }
         ensures answer { result ≡ K.eq first.now second.now }

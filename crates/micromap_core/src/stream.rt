@@ -1,7 +1,7 @@
-//! Streams of entries: a sink takes pairs one after the other, and a source gives them.
+//! Streams of entries: a sink takes pairs one after the other, and a source yields them.
 //!
-//! Each counts the faults that it answered and knows the last one, so that a caller can tell a fault of this call from
-//! an older one.
+//! Each counts the errors that it has returned and stores the last one, so that a caller can tell an error of this call
+//! from an older one.
 ghost use Rattle.std.specs.Prelude.{◌≡◌, ℕ, ◌<◌, ◌++◌, ◌∷◌, [], List, Option, IfOk, OnOk, IfErr, OnErr};
 ghost use Rattle.std.specs.Map.Iter.{TakesFirst};
 ghost use Rattle.micromap_core.specs.Print.{read_fault_text};
@@ -15,24 +15,26 @@ use std::error::Error;
 use std::fmt;
 pub use vec_sink::VecSink;
 
-/// What pairs can be written to.
+/// A type to which pairs can be written.
 pub trait EntrySink<K, V> {
     type Error: Copy;
 
     /// The pairs taken, in the order in which they came.
     ghost taken: { Self → List (K × V) };
 
-    /// The number of faults answered.
+    /// The number of errors returned.
     ghost faults: { Self → ℕ };
 
-    /// The last fault, or `None` before any.
+    /// The last error, or `None` before any.
     ghost last_fault: { Self → Option Self.Error };
 
-    /// The number of faults answered.
+    /// Returns the number of errors returned.
     fn faults(&self) -> u128
         ensures { result ≡ faults self.now };
 
-    /// Takes a pair, or answers a fault and takes nothing.
+    /// Takes a pair, or returns an error and takes nothing.
+    ///
+    /// Requires that fewer than `u128::MAX` errors were returned.
     fn entry(&mut self, key: &K, value: &V) -> Result<(), Self::Error>
         requires { faults self.old < most_faults }
         ensures taken { OnOk result (taken self.new ≡ taken self.old ++ (key.now, value.now) ∷ []) }
@@ -41,24 +43,26 @@ pub trait EntrySink<K, V> {
         ensures fault { IfErr result (Faults faults last_fault self.old self.new) };
 }
 
-/// What pairs can be read from.
+/// A type from which pairs can be read.
 pub trait EntrySource<K, V> {
     type Error: Copy;
 
     /// The pairs left, in the order in which they come.
     ghost left: { Self → List (K × V) };
 
-    /// The number of faults answered.
+    /// The number of errors returned.
     ghost faults: { Self → ℕ };
 
-    /// The last fault, or `None` before any.
+    /// The last error, or `None` before any.
     ghost last_fault: { Self → Option Self.Error };
 
-    /// The number of faults answered.
+    /// Returns the number of errors returned.
     fn faults(&self) -> u128
         ensures { result ≡ faults self.now };
 
-    /// Gives the next pair, or `None` where none is left, or answers a fault and gives nothing.
+    /// Returns the next pair, or `None` if none is left, or returns an error and yields nothing.
+    ///
+    /// Requires that fewer than `u128::MAX` errors were returned.
     fn next_entry(&mut self) -> Result<Option<(K, V)>, Self::Error>
         requires { faults self.old < most_faults }
         ensures gave { IfOk result (λ entry. TakesFirst (λ p. p) (left self.old) entry (left self.new)) }
@@ -67,12 +71,12 @@ pub trait EntrySource<K, V> {
         ensures fault { IfErr result (Faults faults last_fault self.old self.new) };
 }
 
-/// Why nothing was made of the pairs of a source.
+/// The error of `read_entries`.
 #[derive(Debug, Clone, Copy, PartialEq, Eq, Drop)]
 pub enum ReadFault<E> {
-    /// The source answered this fault. What was taken before it is dropped, and the rest is left.
+    /// The source returned this error. What was taken before it is dropped, and the rest is left.
     Source(E),
-    /// A new key came, and there was no room for it. Its pair and what was taken before it are dropped, and the rest is
+    /// A pair had a new key, and there was no room for it. It and what was taken before it are dropped, and the rest is
     /// left.
     TooMany,
 }

@@ -1,4 +1,4 @@
-//! The walks that lend pairs, keys or values from the front.
+//! The iterators that borrow pairs, keys or values, from the front.
 ghost use Rattle.std.specs.Prelude.{◌≡◌, ⊤, IfSome, Some, [], length};
 ghost use Rattle.std.specs.Iterator.{UpTo, at_most};
 ghost use Rattle.std.specs.Iterator.SizeHint.{IsWithinCount};
@@ -12,7 +12,8 @@ use std::iter::FusedIterator;
 use std::marker::{Model, PhantomData};
 use std::slice;
 
-/// The items of one column, from the front: each walk here is made of one such walk or of two.
+/// An iterator over references to the items of one column, from the front. Each public iterator here has one or two of
+/// these.
 #[derive(Drop)]
 pub(crate) struct Lent<'a, X> {
     slots: slice::Iter<'a, Option<X>>,
@@ -31,7 +32,7 @@ impl<'a, X> Model for Lent<'a, X> {
 }
 
 impl<'a, X> Lent<'a, X> {
-    /// A walk over the items in `slots`.
+    /// Creates an iterator over the items in `slots`. No slot may be empty.
     #[inline]
     pub(crate) fn over(slots: &'a [Option<X>]) -> Self
         requires { AreFilled slots.now }
@@ -42,7 +43,7 @@ impl<'a, X> Lent<'a, X> {
         }
     }
 
-    /// The number of items left.
+    /// Returns the number of items left.
     #[inline]
     pub(crate) fn len(&self) -> usize
         ensures { result ≡ length self.now }
@@ -50,7 +51,7 @@ impl<'a, X> Lent<'a, X> {
         self.slots.len()
     }
 
-    /// A walk over what is left.
+    /// Creates an iterator over the items left.
     #[inline]
     pub(crate) fn left(&self) -> Lent<'_, X>
         ensures { result ≡ self.now }
@@ -96,7 +97,7 @@ impl<'a, X> Iterator for Lent<'a, X> {
     }
 }
 
-/// The pairs from the front, each as `(&K, &V)`.
+/// An iterator over the pairs of a map as `(&K, &V)`, from the front.
 #[derive(Drop)]
 pub struct Iter<'a, K, V> {
     pub(crate) keys: Lent<'a, K>,
@@ -115,7 +116,8 @@ impl<'a, K, V> Model for Iter<'a, K, V> {
 }
 
 impl<'a, K, V> Iter<'a, K, V> {
-    /// A walk over the pairs in `keys` and `values`, none of which may be empty, and of which there are as many.
+    /// Creates an iterator over the pairs in `keys` and `values`. No slot may be empty, and the two slices must have
+    /// the same length.
     #[inline]
     pub fn over(keys: &'a [Option<K>], values: &'a [Option<V>]) -> Self
         requires keys { AreFilled keys.now }
@@ -129,7 +131,7 @@ impl<'a, K, V> Iter<'a, K, V> {
         }
     }
 
-    // A walk over what is left.
+    // Creates an iterator over the pairs left.
     #[inline]
     pub(crate) fn left(&self) -> Iter<'_, K, V>
         ensures { result ≡ self.now }
@@ -175,7 +177,7 @@ impl<'a, K, V> ExactSizeIterator for Iter<'a, K, V> {
     }
 }
 
-/// A clone goes on where the iterator stands. It never lacks memory.
+/// A clone has the same items left. The result is always `Ok`.
 impl<'a, K, V> Clone for Iter<'a, K, V> {
     ghost is_clone = { λ walk new. new ≡ walk };
 
@@ -198,7 +200,7 @@ impl<'a, K, V> Default for Iter<'a, K, V> {
     }
 }
 
-/// The keys of the pairs, from the front.
+/// An iterator over references to the keys of a map, from the front.
 #[derive(Drop)]
 pub struct Keys<'a, K, V> {
     pub(crate) keys: Lent<'a, K>,
@@ -214,7 +216,7 @@ impl<'a, K, V> Model for Keys<'a, K, V> {
 }
 
 impl<'a, K, V> Keys<'a, K, V> {
-    /// A walk over the keys in `keys`, none of which may be empty.
+    /// Creates an iterator over the keys in `keys`. No slot may be empty.
     #[inline]
     pub fn over(keys: &'a [Option<K>]) -> Self
         requires { AreFilled keys.now }
@@ -258,7 +260,7 @@ impl<'a, K, V> ExactSizeIterator for Keys<'a, K, V> {
     }
 }
 
-/// A clone goes on where the iterator stands. It never lacks memory.
+/// A clone has the same items left. The result is always `Ok`.
 impl<'a, K, V> Clone for Keys<'a, K, V> {
     ghost is_clone = { λ walk new. new ≡ walk };
 
@@ -281,7 +283,7 @@ impl<'a, K, V> Default for Keys<'a, K, V> {
     }
 }
 
-/// The values of the pairs, from the front.
+/// An iterator over references to the values of a map, from the front.
 #[derive(Drop)]
 pub struct Values<'a, K, V> {
     pub(crate) values: Lent<'a, V>,
@@ -297,7 +299,7 @@ impl<'a, K, V> Model for Values<'a, K, V> {
 }
 
 impl<'a, K, V> Values<'a, K, V> {
-    /// A walk over the values in `values`, none of which may be empty.
+    /// Creates an iterator over the values in `values`. No slot may be empty.
     #[inline]
     pub fn over(values: &'a [Option<V>]) -> Self
         requires { AreFilled values.now }
@@ -341,7 +343,7 @@ impl<'a, K, V> ExactSizeIterator for Values<'a, K, V> {
     }
 }
 
-/// A clone goes on where the iterator stands. It never lacks memory.
+/// A clone has the same items left. The result is always `Ok`.
 impl<'a, K, V> Clone for Values<'a, K, V> {
     ghost is_clone = { λ walk new. new ≡ walk };
 

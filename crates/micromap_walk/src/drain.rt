@@ -1,4 +1,4 @@
-//! The walk that owns what a map had, from the front.
+//! The iterator that `Map::drain` returns.
 ghost use Rattle.std.specs.Prelude.{◌≡◌, IfSome, Some, length};
 ghost use Rattle.std.specs.Iterator.{UpTo, at_most};
 ghost use Rattle.std.specs.Iterator.SizeHint.{IsWithinCount};
@@ -11,7 +11,7 @@ use arrayvec::ArrayVec;
 use std::iter::FusedIterator;
 use std::marker::Model;
 
-/// The pairs by value, from the front. What isn't taken is dropped with the walk.
+/// An iterator over the pairs that a map had, by value, from the front. Pairs that aren't taken are dropped with it.
 #[derive(Drop)]
 pub struct Drain<K, V, const N: usize> {
     pub(crate) pairs: IntoIter<K, V, N>,
@@ -26,7 +26,8 @@ impl<K, V, const N: usize> Model for Drain<K, V, N> {
 }
 
 impl<K, V, const N: usize> Drain<K, V, N> {
-    /// A walk over the pairs in `keys` and `values`, none of which may be empty, and of which there are as many.
+    /// Creates an iterator over the pairs in `keys` and `values`. No slot may be empty, and the two columns must have
+    /// the same length.
     #[inline]
     pub fn over(keys: ArrayVec<Option<K>, N>, values: ArrayVec<Option<V>, N>) -> Self
         requires keys { AreFilled keys.items }

@@ -1,6 +1,7 @@
-//! The walks over the pairs of a map of fixed capacity, which lend them from the front or give them away.
+//! The iterators over the pairs of a map of fixed capacity, by reference or by value, from the front.
 //!
-//! Each walk is seen as the list of what is left: `next` gives the first of it, and at the end `None` for good.
+//! A contract sees an iterator as the list of the items left. `next` returns the first of them, and `None` ever after
+//! the last.
 #![tactic(auto)]
 
 mod borrowing;

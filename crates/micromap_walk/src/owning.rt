@@ -1,4 +1,4 @@
-//! The walks that give pairs, keys or values away, from the front.
+//! The iterators that yield pairs, keys or values by value, from the front.
 ghost use Rattle.std.specs.Prelude.{◌≡◌, ◌<◌, ◌+◌, [], ◌∷◌, IfSome, Some, drop, length};
 ghost use Rattle.std.specs.Iterator.{UpTo, at_most};
 ghost use Rattle.std.specs.Iterator.SizeHint.{IsWithinCount};
@@ -15,15 +15,15 @@ use std::iter::FusedIterator;
 use std::marker::Model;
 use std::mem;
 
-/// The pairs by value, from the front. What isn't taken is dropped with the walk.
+/// An iterator over the pairs of a map by value, from the front. Pairs that aren't taken are dropped with it.
 ///
-/// Every walk that gives away is made of this one. Both columns have one index, since with an index for each the walk
-/// would be two words larger than the map, and a caller that is generic over `N` couldn't show that it fits in memory.
+/// Every iterator by value is made of this one. Both columns have one index. With an index for each, the iterator would
+/// be two words larger than the map, and a caller that is generic over `N` couldn't show that it fits in memory.
 #[derive(Drop)]
 pub struct IntoIter<K, V, const N: usize> {
     keys: ArrayVec<Option<K>, N>,
     values: ArrayVec<Option<V>, N>,
-    // How many pairs were given: as many slots in front are empty.
+    // The number of pairs yielded. As many slots in front are empty.
     given: usize,
 }
 
@@ -40,7 +40,8 @@ impl<K, V, const N: usize> Model for IntoIter<K, V, N> {
 }
 
 impl<K, V, const N: usize> IntoIter<K, V, N> {
-    /// A walk over the pairs in `keys` and `values`, none of which may be empty, and of which there are as many.
+    /// Creates an iterator over the pairs in `keys` and `values`. No slot may be empty, and the two columns must have
+    /// the same length.
     #[inline]
     pub fn over(keys: ArrayVec<Option<K>, N>, values: ArrayVec<Option<V>, N>) -> Self
         requires keys { AreFilled keys.items }
@@ -55,7 +56,7 @@ impl<K, V, const N: usize> IntoIter<K, V, N> {
         }
     }
 
-    // A walk over what is left.
+    // Creates an iterator over references to the pairs left.
     #[inline]
     pub(crate) fn left(&self) -> Iter<'_, K, V>
         ensures { result ≡ self.now }
@@ -124,7 +125,7 @@ impl<K, V, const N: usize> Default for IntoIter<K, V, N> {
     }
 }
 
-/// The keys of the pairs by value, from the front. What isn't taken is dropped with the walk.
+/// An iterator over the keys of a map by value, from the front. Pairs that aren't taken are dropped with it.
 #[derive(Drop)]
 pub struct IntoKeys<K, V, const N: usize> {
     pub(crate) pairs: IntoIter<K, V, N>,
@@ -140,8 +141,8 @@ impl<K, V, const N: usize> Model for IntoKeys<K, V, N> {
 }
 
 impl<K, V, const N: usize> IntoKeys<K, V, N> {
-    /// A walk over the keys of the pairs in `keys` and `values`, none of which may be empty, and of which there are as
-    /// many.
+    /// Creates an iterator over the keys of the pairs in `keys` and `values`. No slot may be empty, and the two columns
+    /// must have the same length.
     #[inline]
     pub fn over(keys: ArrayVec<Option<K>, N>, values: ArrayVec<Option<V>, N>) -> Self
         requires keys { AreFilled keys.items }
@@ -195,7 +196,7 @@ impl<K, V, const N: usize> Default for IntoKeys<K, V, N> {
     }
 }
 
-/// The values of the pairs by value, from the front. What isn't taken is dropped with the walk.
+/// An iterator over the values of a map by value, from the front. Pairs that aren't taken are dropped with it.
 #[derive(Drop)]
 pub struct IntoValues<K, V, const N: usize> {
     pub(crate) pairs: IntoIter<K, V, N>,
@@ -211,8 +212,8 @@ impl<K, V, const N: usize> Model for IntoValues<K, V, N> {
 }
 
 impl<K, V, const N: usize> IntoValues<K, V, N> {
-    /// A walk over the values of the pairs in `keys` and `values`, none of which may be empty, and of which there are as
-    /// many.
+    /// Creates an iterator over the values of the pairs in `keys` and `values`. No slot may be empty, and the two
+    /// columns must have the same length.
     #[inline]
     pub fn over(keys: ArrayVec<Option<K>, N>, values: ArrayVec<Option<V>, N>) -> Self
         requires keys { AreFilled keys.items }

@@ -1,4 +1,4 @@
-//! Each walk prints as the list of what is left.
+//! `Debug` of each iterator, as the list of the items left.
 use crate::{Drain, IntoIter, IntoKeys, IntoValues, Iter, Keys, Values};
 use std::fmt;
 

@@ -1,4 +1,4 @@
-//! What stands in a filled slot, and what the compiler is told where it doesn't see it by itself.
+//! Access to a filled slot, and what the compiler is told because it doesn't see it by itself.
 ghost use Rattle.std.specs.Prelude.{◌≡◌, Some, IsSome};
 ghost use Rattle.std.specs.Borrow.{sem};
 ghost use Rattle.micromap_walk.specs.Lends.{lends_item};
@@ -6,8 +6,8 @@ ghost use Rattle.micromap_walk.specs.Lends.{lends_item};
 // A list with nothing at index 1.
 const ONE: [usize; 1] = [0];
 
-// Stands where nothing comes. `unreachable!()` alone is compiled to a test and a stop, in every turn of every loop; a
-// loop up to what lies past the end of a list tells the compiler that it can leave the test out.
+// Stands where control never comes. `unreachable!()` alone is compiled to a test and a stop, in every turn of every
+// loop. A loop up to what lies past the end of a list tells the compiler that it can leave the test out.
 macro_rules! nowhere {
     () => {{
         for _ in 0..ONE[1] {}
@@ -15,7 +15,7 @@ macro_rules! nowhere {
     }};
 }
 
-/// The item in a filled slot.
+/// Returns a reference to the item in a slot. The slot must be filled.
 #[inline]
 pub fn item_of<X>(slot: &Option<X>) -> &X
     requires { IsSome slot.now }
@@ -27,7 +27,7 @@ pub fn item_of<X>(slot: &Option<X>) -> &X
     }
 }
 
-/// The item in a filled slot, for writing.
+/// Returns a mutable reference to the item in a slot. The slot must be filled.
 #[inline]
 pub fn item_of_mut<X>(slot: &mut Option<X>) -> &mut X
     requires { IsSome slot.old }
@@ -40,7 +40,7 @@ pub fn item_of_mut<X>(slot: &mut Option<X>) -> &mut X
     }
 }
 
-/// Takes the item out of a filled slot.
+/// Returns the item of a slot by value. The slot must be filled.
 #[inline]
 pub fn into_item<X>(slot: Option<X>) -> X
     requires { IsSome slot }
@@ -52,8 +52,8 @@ pub fn into_item<X>(slot: Option<X>) -> X
     }
 }
 
-/// Tells the compiler that two numbers are equal, as the lengths of two columns, so that it can read the one for the
-/// other.
+/// Tells the compiler that two numbers are equal, such as the lengths of two columns, so that it can read the one for
+/// the other. They must be equal.
 #[inline]
 pub fn hint_equal(left: usize, right: usize)
     requires { left ≡ right }

@@ -1,4 +1,4 @@
-//! Reading a map of an object, and a set of an array.
+//! Reading a map from an object, and a set from an array.
 ghost use Rattle.std.specs.Prelude.{◌≡◌, IfOk, IfErr, MatchResult, Ok, Err, ok_or, option_map, string_bytes, bytes_eq, if◌then◌else◌};
 ghost use Rattle.std.specs.Ordering.{int_eq};
 ghost use Rattle.std.specs.String.{string_eq};
@@ -17,9 +17,10 @@ use crate::{Map, Set};
 use serde_json::Value;
 use std::alloc::Global;
 
-/// The map of an object's members, which come in the order of `serde_json`'s own map; of a repeated name it keeps one.
+/// Creates a map of an object's members, or returns why there is none.
 ///
-/// It takes memory for the values that are read. Each member costs one scan.
+/// The pairs have the order of `serde_json`'s own map, which keeps one member of a repeated name. Allocates memory for
+/// the values that are read. Makes one scan for each member.
 pub fn map_from_json<const N: usize>(
     alloc: Global,
     text: &str,
@@ -35,9 +36,10 @@ pub fn map_from_json<const N: usize>(
     }
 }
 
-/// The set of an array's texts, each distinct one as it came first.
+/// Creates a set of an array's texts, or returns why there is none.
 ///
-/// It takes memory for the values that are read. Each text costs one scan.
+/// Each distinct text is stored as it first came, in that order. Allocates memory for the values that are read. Makes
+/// one scan for each text.
 pub fn set_from_json<const N: usize>(alloc: Global, text: &str) -> Result<Set<String, N>, JsonFault>
     ensures texts { IfOk result (λ set. texts_for N text.now ≡ Ok (texts_of set)) }
     ensures fault { IfErr result (IsFault (texts_for N text.now)) }
@@ -60,7 +62,7 @@ fn read(alloc: Global, text: &str) -> Result<Value, JsonFault>
     }
 }
 
-// The map of these members, all of which are looked at first.
+// Creates the map of these members. All are looked at before any is inserted.
 fn map_of_members<const N: usize>(
     members: serde_json::Map<String, Value>,
 ) -> Result<Map<String, i64, N>, JsonFault>
@@ -92,7 +94,7 @@ fn whole_of(value: Value) -> Option<i64>
     value.as_i64()
 }
 
-// Puts the pair where it fits, by one scan, and answers whether it did.
+// Inserts the pair if it fits, by one scan, and returns whether it did.
 fn put<const N: usize>(map: &mut Map<String, i64, N>, name: String, whole: i64) -> bool
     ensures answer { result ≡ fits string_eq N map.old name }
     ensures pairs { map.new ≡ (if fits string_eq N map.old name then put string_eq map.old name whole else map.old) }
@@ -100,7 +102,7 @@ fn put<const N: usize>(map: &mut Map<String, i64, N>, name: String, whole: i64) 
     map.checked_insert(name, whole).is_some()
 }
 
-// The set of these elements, all of which are looked at first.
+// Creates the set of these elements. All are looked at before any is inserted.
 fn set_of_elements<const N: usize>(elements: Vec<Value>) -> Result<Set<String, N>, JsonFault>
     ensures texts { IfOk result (λ set. and_then (ok_or (all_texts (items_view elements.items)) NotText) (λ texts. within N (distinct bytes_eq texts)) ≡ Ok (texts_of set)) }
     ensures fault { IfErr result (λ fault. and_then (ok_or (all_texts (items_view elements.items)) NotText) (λ texts. within N (distinct bytes_eq texts)) ≡ Err fault) }

@@ -11,9 +11,9 @@ use crate::{Map, Set};
 use serde_json::Value;
 use std::alloc::Global;
 
-/// The object of the map's pairs, whose members stand in the order of `serde_json`'s own map.
+/// Returns the object of the map's pairs as text.
 ///
-/// It takes memory for a copy of each key and for the text.
+/// The members have the order of `serde_json`'s own map. Allocates memory for a copy of each key and for the text.
 pub fn map_to_json<const N: usize>(
     alloc: Global,
     map: &Map<String, i64, N>,
@@ -29,9 +29,9 @@ pub fn map_to_json<const N: usize>(
     Ok(Value::Object(members).to_string(alloc)?)
 }
 
-/// The array of the set's items, from front to end.
+/// Returns the array of the set's items as text, from front to end.
 ///
-/// It takes memory for a copy of each item and for the text.
+/// Allocates memory for a copy of each item and for the text.
 pub fn set_to_json<const N: usize>(alloc: Global, set: &Set<String, N>) -> Result<String, JsonFault>
     ensures array { IfOk result (λ text. array_texts (string_bytes text) ≡ Ok (texts_of set.now)) }
     ensures again { IfOk result (λ text. (M : ℕ) → length set.now ≤ M → texts_for M (string_bytes text) ≡ Ok (texts_of set.now)) }

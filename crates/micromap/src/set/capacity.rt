@@ -5,10 +5,10 @@ ghost use Rattle.micromap.specs.Items.{IsItems};
 use super::Set;
 
 impl<T: Eq + Drop, const N: usize> Set<T, N> {
-    /// This set with room for `M` items: the same list, whose items are each moved once. No item is compared, and no
-    /// memory is taken.
+    /// Returns this set with the capacity `M`, and the same list of items.
     ///
-    /// The answer is `Err` exactly where there are more than `M` items; then it is this set, unchanged.
+    /// The result is `Err` exactly if there are more than `M` items. The error is this set, unchanged. Moves each item
+    /// once, compares none, and does not allocate.
     pub fn into_capacity<const M: usize>(self) -> Result<Set<T, M>, Self>
         ensures refuses { IsErr result ↔ (M < length self) }
         ensures items { IfOk result (λ set. set ≡ self) }

@@ -1,11 +1,11 @@
-//! Putting items and taking them out.
+//! Inserting and removing items.
 ghost use Rattle.std.specs.Prelude.{◌≡◌, [], Some, None, IsTrue, not, if◌then◌else◌};
 ghost use Rattle.micromap.specs.Items.{IsItems, add, contains, exchange, item, item_fits, take_item};
 
 use super::Set;
 
 impl<T: Eq + Drop, const N: usize> Set<T, N> {
-    /// Drops every item.
+    /// Removes and drops every item.
     pub fn clear(&mut self)
         ensures emptied { self.new ≡ [] }
         ensures content { IsItems T.eq N self.old }
@@ -13,9 +13,10 @@ impl<T: Eq + Drop, const N: usize> Set<T, N> {
         self.map.clear();
     }
 
-    /// Puts the item, by one scan, and answers whether it is new. A stored item stays, and a new one goes last.
+    /// Inserts the item, and returns `true` if it is new.
     ///
-    /// There must be room for a new item: `fits` tells.
+    /// Requires that an equal item is stored or the set has room, which `fits` tests. A stored item stays. A new item
+    /// goes last. Makes one scan.
     #[inline]
     pub fn insert(&mut self, x: T) -> bool
         requires { IsTrue (item_fits T.eq N self.old x) }
@@ -26,7 +27,7 @@ impl<T: Eq + Drop, const N: usize> Set<T, N> {
         self.map.insert(x, ()).is_none()
     }
 
-    /// `insert`, with the same condition.
+    /// Does what `insert` does, with the same precondition.
     #[inline]
     pub fn insert_unchecked(&mut self, x: T) -> bool
         requires { IsTrue (item_fits T.eq N self.old x) }
@@ -37,9 +38,9 @@ impl<T: Eq + Drop, const N: usize> Set<T, N> {
         self.insert(x)
     }
 
-    /// Puts the item, by one scan, in the place of an equal one or last, and answers the one that was there.
+    /// Inserts the item in the place of an equal one or last, and returns the one that was there, or `None`.
     ///
-    /// There must be room for a new item: `fits` tells.
+    /// Requires that an equal item is stored or the set has room, which `fits` tests. Makes one scan.
     #[inline]
     pub fn replace(&mut self, x: T) -> Option<T>
         requires { IsTrue (item_fits T.eq N self.old x) }
@@ -51,11 +52,12 @@ impl<T: Eq + Drop, const N: usize> Set<T, N> {
         Some(old)
     }
 
-    /// Puts the item, or hands it back where an equal one is stored.
+    /// Inserts the item if it is new and fits, and returns it if an equal one is stored.
     ///
-    /// A new item goes last, and the answer is `None`. At a full set a new item is refused: the answer is `None` too,
-    /// the set is unchanged, and the item is dropped. It costs one scan, and where the set isn't full a second one for an
-    /// item that is stored.
+    /// If an equal item is stored, the result is `Some(x)`, and the set is unchanged. If the item is new and there is
+    /// room, it goes last, and the result is `None`. If it is new and the set is full, the result is `None` too, the
+    /// set is unchanged, and the item is dropped. Makes one scan, and a second one for a stored item if the set isn't
+    /// full.
     #[inline]
     pub fn checked_insert(&mut self, x: T) -> Option<T>
         ensures answer { result ≡ (if contains T.eq self.old x then Some x else None) }
@@ -63,15 +65,16 @@ impl<T: Eq + Drop, const N: usize> Set<T, N> {
         ensures content { IsItems T.eq N self.old }
     {
         if self.len() < N {
-            // An equal item gives its place to x, and takes it back.
+            // `x` stands where the equal item was. Now that item goes back, and `x` comes out.
             let stored = self.replace(x)?;
             return self.replace(stored);
         }
         if self.contains(&x) { Some(x) } else { None }
     }
 
-    /// Takes the item that equals `x` out, by one scan, and answers it. The others keep their order: those behind it
-    /// move up by one. Where there is none the answer is `None`, and the set is unchanged.
+    /// Removes the item that equals `x`, and returns it, or `None` if there is none.
+    ///
+    /// The others keep their order: those behind it move up by one. After `None` the set is unchanged. Makes one scan.
     #[inline]
     pub fn take(&mut self, x: &T) -> Option<T>
         ensures answer { result ≡ item T.eq self.old x.now }
@@ -82,7 +85,9 @@ impl<T: Eq + Drop, const N: usize> Set<T, N> {
         Some(stored)
     }
 
-    /// Takes the item that equals `x` out, as `take` does, and answers whether it was there.
+    /// Removes the item that equals `x`, and returns `true` if there was one.
+    ///
+    /// The others keep their order: those behind it move up by one. After `false` the set is unchanged. Makes one scan.
     #[inline]
     pub fn remove(&mut self, x: &T) -> bool
         ensures answer { result ≡ contains T.eq self.old x.now }

@@ -9,10 +9,10 @@ use super::Set;
 use std::alloc::AllocError;
 
 impl<T: Eq + Clone + Drop, const N: usize> Set<T, N> {
-    /// A set of the clones, in the same order. An item's clone must be equal to the item.
+    /// Returns a set of the clones of all items, in the same order.
     ///
-    /// It takes no memory of its own, so the answer is `Err` only where a clone of an item is. Then what was cloned is
-    /// dropped. This set is unchanged either way.
+    /// Requires that an item's clone is equal to the item. The result is `Err` only if the clone of an item is; then
+    /// the clones made so far are dropped. This set is unchanged in any case. The call allocates no memory of its own.
     pub fn clone(&self) -> Result<Self, AllocError>
         requires { ClonesAreEqual T.eq T.is_clone }
         ensures clones { IfOk result (AllZip T.is_clone self.now) }

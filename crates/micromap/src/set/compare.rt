@@ -7,17 +7,18 @@ ghost use Rattle.micromap.specs.SameLaws.{have_equal_items_equiv};
 use super::Set;
 
 impl<T: Eq, const N: usize> Set<T, N> {
-    /// Whether each item of either set has an equal one in the other: whether each set is a subset of the other. Neither
-    /// order nor capacity matters. It compares no item where the lengths differ; else it costs what `is_subset` does.
+    /// Returns `true` if each item of either set has an equal one in the other. Neither order nor capacity matters.
+    ///
+    /// Compares no item if the lengths differ. Else it costs what `is_subset` costs.
     pub fn eq_with<const M: usize>(&self, other: &Set<T, M>) -> bool
         ensures { result ≡ have_equal_items T.eq self.now other.now }
     {
-        // Equally many items, each of which `other` has too: so `other` has no other item.
+        // Both have the same number of items, and `other` has each item of this set. So `other` has no other item.
         self.len() == other.len() && self.is_subset(other)
     }
 }
 
-/// `eq_with` within one type.
+/// `==` is `eq_with` within one type.
 impl<T: Eq, const N: usize> PartialEq for Set<T, N> {
     ghost eq = { have_equal_items T.eq };
 

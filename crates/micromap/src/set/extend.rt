@@ -1,5 +1,5 @@
-//! Putting the items of an iterator, one after the other by the rule of `insert`: each distinct item is stored as it
-//! came first, in that order.
+//! Inserting the items of an iterator, one after the other, as `insert` does. Each distinct item is stored as it first
+//! came, in that order.
 ghost use Rattle.std.specs.Prelude.{◌≡◌, ◌+◌, [], IfOk, IfErr, IsTrue, if◌then◌else◌};
 ghost use Rattle.std.specs.Iterator.{UpTo};
 ghost use Rattle.std.specs.Iterator.Runs.{SomeRun, WholeRun};
@@ -11,7 +11,7 @@ use super::Set;
 use crate::Overfull;
 
 impl<T: Eq + Drop, const N: usize> Set<T, N> {
-    // Puts the item where it fits, by one scan, and answers whether it did.
+    // Inserts the item if it fits, by one scan, and returns whether it did.
     #[inline]
     pub(crate) fn put(&mut self, x: T) -> bool
         ensures answer { result ≡ item_fits T.eq N self.old x }
@@ -20,10 +20,10 @@ impl<T: Eq + Drop, const N: usize> Set<T, N> {
         self.map.checked_insert(x, ()).is_some()
     }
 
-    /// Puts the items, or answers the position of the first that doesn't fit, counted from 0 over all items. Each item
-    /// costs one scan.
+    /// Inserts the items of an iterator, or returns the position of the first item that doesn't fit, counted from 0.
     ///
-    /// Where one doesn't fit, all before it are in the set, it is dropped, and nothing after it is taken.
+    /// Requires that the iterator ends, after fewer than `usize::MAX` items. After an `Err`, the set has all items
+    /// before that position. The item at it is dropped, and no later item is taken. Makes one scan for each item.
     pub fn try_extend<I: Iterator<Item = T>>(&mut self, items: I) -> Result<(), Overfull>
         requires can { I.can_next items }
         requires ends { UpTo (I.remaining items) most_items }
@@ -44,10 +44,12 @@ impl<T: Eq + Drop, const N: usize> Set<T, N> {
         Ok(())
     }
 
-    /// The set of these items, or the position of the first that doesn't fit, counted from 0 over all items; then no
-    /// set is made, and what was put and what is left is dropped. Each item costs one scan.
+    /// Creates a set of an iterator's items, or returns the position of the first item that doesn't fit, counted from
+    /// 0.
     ///
-    /// The answer is `Err` exactly where the items have more than `N` distinct ones.
+    /// Requires that the iterator ends, after fewer than `usize::MAX` items. The result is `Err` exactly if more than
+    /// `N` of the items are distinct. Then the items inserted before and those left are dropped. Makes one scan for
+    /// each item.
     pub fn try_from_iter<I: Iterator<Item = T>>(items: I) -> Result<Self, Overfull>
         requires can { I.can_next items }
         requires ends { UpTo (I.remaining items) most_items }
@@ -67,7 +69,9 @@ impl<T: Eq + Drop, const N: usize> Set<T, N> {
 impl<T: Eq + Copy, const N: usize> From<[T; N]> for Set<T, N> {
     ghost from_gives = { λ items set. (set ≡ distinct T.eq items) × IsTrue (all_items_fit T.eq N items) };
 
-    /// The set of these items: each distinct item as it came first. Each item fits, and costs one scan.
+    /// Creates a set of the items of an array: each distinct item as it first came.
+    ///
+    /// Every item fits. Makes one scan for each item.
     fn from(items: [T; N]) -> Self {
         let mut set = Set::new();
         for index in 0..N {

@@ -1,5 +1,5 @@
-//! The operations on two sets, which may have different capacities. Each answers an iterator that lends the members:
-//! making it compares nothing, and each call of `next` goes up to and including the next member.
+//! The operations on two sets, which may have different capacities. Each returns an iterator over references to the
+//! members. Making it compares nothing. Each call of `next` goes up to and including the next member.
 ghost use Rattle.std.specs.Prelude.{◌≡◌};
 ghost use Rattle.micromap.specs.Operations.{both_hints};
 
@@ -16,7 +16,7 @@ pub use intersection::Intersection;
 pub use symmetric_difference::SymmetricDifference;
 pub use union::Union;
 
-// The hint of two iterators, one after the other.
+// Returns the size hint of two iterators, one after the other.
 fn hint_of_both(
     first: (usize, Option<usize>),
     second: (usize, Option<usize>),

@@ -4,8 +4,8 @@ ghost use Rattle.micromap.specs.Print.{set_text};
 use super::Set;
 use std::fmt;
 
-/// `{a, b}`, from the front. Width and other flags are handed to the items; an error of the writer ends it with that
-/// error.
+/// `{a, b}`, from the front. Width and other flags are passed to the items. An error of the writer ends the printing
+/// and is returned.
 impl<T: Eq + fmt::Display, const N: usize> fmt::Display for Set<T, N> {
     ghost output = { set_text T.output };
 
@@ -23,7 +23,7 @@ impl<T: Eq + fmt::Display, const N: usize> fmt::Display for Set<T, N> {
     }
 }
 
-/// As Rust prints a set, from the front.
+/// The form in which Rust prints a set, from the front.
 impl<T: Eq + fmt::Debug, const N: usize> fmt::Debug for Set<T, N> {
     fn fmt<W: fmt::Write>(&self, f: &mut fmt::Formatter<W>) -> fmt::Result {
         f.debug_set().entries(self).finish()

@@ -1,5 +1,5 @@
-//! The set's calls by probe: each does what its plain form does at the one stored item that matches, or what the plain
-//! form does at a missing item.
+//! The set's calls by probe. Each does what its plain form does at the one stored item that matches, or at a missing
+//! item if none matches.
 ghost use Rattle.std.specs.Prelude.{◌≡◌, is_some};
 ghost use Rattle.std.specs.Option.{option_copied};
 ghost use Rattle.micromap.specs.Items.{IsItems, contains_matched, item_matched, take_item_matched};
@@ -8,7 +8,7 @@ use super::Set;
 use crate::Probe;
 
 impl<T: Eq, const N: usize> Set<T, N> {
-    /// The item that matches, or `None` where none does, by one scan.
+    /// Returns a reference to the item that matches, or `None` if none does. Makes one scan.
     #[inline]
     pub fn get_by<P: Probe<T>>(&self, probe: &P) -> Option<&T>
         ensures { option_copied result ≡ item_matched T.eq (P.matches probe.now) self.now }
@@ -19,7 +19,7 @@ impl<T: Eq, const N: usize> Set<T, N> {
         }
     }
 
-    /// Whether a stored item matches, by one scan.
+    /// Returns `true` if a stored item matches. Makes one scan.
     #[inline]
     pub fn contains_by<P: Probe<T>>(&self, probe: &P) -> bool
         ensures { result ≡ contains_matched (P.matches probe.now) self.now }
@@ -29,8 +29,9 @@ impl<T: Eq, const N: usize> Set<T, N> {
 }
 
 impl<T: Eq + Drop, const N: usize> Set<T, N> {
-    /// Takes the item that matches out, by one scan, and answers it. The others keep their order: those behind it move up
-    /// by one. Where none matches the answer is `None`, and the set is unchanged.
+    /// Removes the item that matches, and returns it, or `None` if none does.
+    ///
+    /// The others keep their order: those behind it move up by one. After `None` the set is unchanged. Makes one scan.
     #[inline]
     pub fn take_by<P: Probe<T>>(&mut self, probe: &P) -> Option<T>
         ensures answer { result ≡ item_matched T.eq (P.matches probe.now) self.old }
@@ -41,7 +42,9 @@ impl<T: Eq + Drop, const N: usize> Set<T, N> {
         Some(stored)
     }
 
-    /// Takes the item that matches out, as `take_by` does, and answers whether one did.
+    /// Removes the item that matches, and returns `true` if there was one.
+    ///
+    /// The others keep their order: those behind it move up by one. After `false` the set is unchanged. Makes one scan.
     #[inline]
     pub fn remove_by<P: Probe<T>>(&mut self, probe: &P) -> bool
         ensures answer { result ≡ is_some (item_matched T.eq (P.matches probe.now) self.old) }

@@ -1,4 +1,4 @@
-//! Whether one set lies within another, or apart from it. The two may have different capacities.
+//! Subsets and disjoint sets. The two sets may have different capacities.
 ghost use Rattle.std.specs.Prelude.{◌≡◌, ◌↔◌, [], not, IsTrue};
 ghost use Rattle.std.specs.List.{list_all};
 ghost use Rattle.micromap.specs.Items.{contains};
@@ -7,28 +7,32 @@ ghost use Rattle.micromap.specs.Operations.{difference, intersection};
 use super::Set;
 
 impl<T: Eq, const N: usize> Set<T, N> {
-    /// Whether each item of this set has an equal one in `other`. It compares no item where this set has more; else each
-    /// item costs one scan of `other`, up to the first that has none.
+    /// Returns `true` if each item of this set has an equal one in `other`.
+    ///
+    /// Compares no item if this set has more items. Else it makes one scan of `other` for each item, up to the first
+    /// that has no equal one.
     pub fn is_subset<const M: usize>(&self, other: &Set<T, M>) -> bool
         ensures answer { result ≡ list_all (contains T.eq other.now) self.now }
         ensures nothing_beyond { IsTrue result ↔ (difference T.eq self.now other.now ≡ []) }
     {
-        // Of fewer items, not each of these can have an equal one.
+        // With fewer items in `other`, not each of these can have an equal one.
         if self.len() > other.len() {
             return false;
         }
         self.is_within(other)
     }
 
-    /// Whether each item of `other` has an equal one in this set: `other.is_subset(self)`.
+    /// Returns `true` if each item of `other` has an equal one in this set. It is `other.is_subset(self)`.
     pub fn is_superset<const M: usize>(&self, other: &Set<T, M>) -> bool
         ensures { result ≡ list_all (contains T.eq self.now) other.now }
     {
         other.is_subset(self)
     }
 
-    /// Whether no item of this set has an equal one in `other`. Each item of the shorter set, of this one where neither
-    /// is, costs one scan of the longer, up to the first that has an equal one.
+    /// Returns `true` if no item of this set has an equal one in `other`.
+    ///
+    /// Makes one scan of the longer set for each item of the shorter, up to the first that has an equal one. If both
+    /// are equally long, it takes the items of this set.
     pub fn is_disjoint<const M: usize>(&self, other: &Set<T, M>) -> bool
         ensures answer { result ≡ list_all (λ x. not (contains T.eq other.now x)) self.now }
         ensures turned { result ≡ list_all (λ x. not (contains T.eq self.now x)) other.now }
@@ -41,7 +45,7 @@ impl<T: Eq, const N: usize> Set<T, N> {
         }
     }
 
-    // Whether each item has an equal one in `other`, by a scan for each.
+    // Returns `true` if each item has an equal one in `other`, by a scan for each.
     fn is_within<const M: usize>(&self, other: &Set<T, M>) -> bool
         ensures { result ≡ list_all (contains T.eq other.now) self.now }
     {
@@ -53,7 +57,7 @@ impl<T: Eq, const N: usize> Set<T, N> {
         true
     }
 
-    // Whether no item has an equal one in `other`, by a scan for each.
+    // Returns `true` if no item has an equal one in `other`, by a scan for each.
     fn is_apart_from<const M: usize>(&self, other: &Set<T, M>) -> bool
         ensures { result ≡ list_all (λ x. not (contains T.eq other.now x)) self.now }
     {

@@ -7,9 +7,10 @@ ghost use Rattle.micromap.specs.Items.{IsItems, MayRetainItems};
 use super::Set;
 
 impl<T: Eq + Drop, const N: usize> Set<T, N> {
-    /// Keeps the items for which `keep` answers `true`, in their order, and drops the others.
+    /// Keeps the items for which `keep` returns `true`, and drops the others.
     ///
-    /// It visits the items from front to end, each once, and moves each kept item at most once. It compares no item.
+    /// The kept items stay in their order. `keep` is called on the items from front to end, once each. Moves each kept
+    /// item at most once. Compares no item.
     pub fn retain<F: FnMut(&T) -> bool>(&mut self, mut keep: F)
         requires { MayRetainItems F.FnMut keep self.old }
         ensures items { IsFiltered (CalledAt F.FnMut) keep self.old self.new }

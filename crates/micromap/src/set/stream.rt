@@ -11,7 +11,9 @@ use crate::Map;
 use crate::stream::{EntrySink, EntrySource, ReadFault};
 
 impl<T: Eq, const N: usize> Set<T, N> {
-    /// Writes the items to the sink, from the front, up to the first fault of the sink, which is then the answer.
+    /// Writes the items to the sink, from the front, up to the sink's first error, which is returned.
+    ///
+    /// Requires that the sink has returned fewer than `u128::MAX` errors.
     pub fn write_entries<S: EntrySink<T, ()>>(&self, sink: &mut S) -> Result<(), S::Error>
         requires { S.faults sink.old < most_faults }
         ensures whole { OnOk result (S.taken sink.new ≡ S.taken sink.old ++ entries_of self.now) }
@@ -24,11 +26,12 @@ impl<T: Eq, const N: usize> Set<T, N> {
 }
 
 impl<T: Eq + Drop, const N: usize> Set<T, N> {
-    /// The set of the items that are left in the source, which are put by the rule of `insert`: each distinct item is
-    /// stored as it comes first. Each item costs one scan.
+    /// Creates a set of the items left in the source, as `insert` inserts them.
     ///
-    /// Reading ends with the source, with its first fault, or with the first item that doesn't fit, and takes nothing
-    /// behind that. Where no set is made, what was taken is dropped.
+    /// Requires that the source has returned fewer than `u128::MAX` errors. Each distinct item is stored as it first
+    /// came, in that order. Reading ends at the end of the source, at its first error, or at the first item that
+    /// doesn't fit. Nothing after that is taken. After an `Err` the items taken are dropped. Makes one scan for each
+    /// item.
     pub fn read_entries<S: EntrySource<T, ()>>(source: &mut S) -> Result<Self, ReadFault<S::Error>>
         requires { S.faults source.old < most_faults }
         ensures built { IfOk result (SetReadsAll T.eq N (S.left source.old)) }

@@ -1,4 +1,4 @@
-//! The walks over a set, which lend its items from the front or give them away.
+//! The iterators over a set, by reference and by value, from the front.
 ghost use Rattle.std.specs.Prelude.{◌≡◌, IfSome, Some, [], length};
 ghost use Rattle.std.specs.Iterator.{UpTo, at_most};
 ghost use Rattle.std.specs.Iterator.SizeHint.{IsWithinCount};
@@ -10,13 +10,13 @@ use crate::map;
 use std::iter::FusedIterator;
 use std::marker::Model;
 
-/// The items, from the front.
+/// An iterator over the items of a set by reference, from the front.
 pub type Iter<'a, T> = map::Keys<'a, T, ()>;
 
-/// The items by value, from the front. What isn't taken is dropped with the walk.
+/// An iterator over the items of a set by value, from the front. Items that aren't taken are dropped with it.
 pub type IntoIter<T, const N: usize> = map::IntoKeys<T, (), N>;
 
-/// The items by value, from the front. What isn't taken is dropped with the walk.
+/// An iterator over the items that a set had, by value, from the front. Items that aren't taken are dropped with it.
 #[derive(Drop)]
 pub struct Drain<T, const N: usize> {
     pairs: map::Drain<T, (), N>,
@@ -64,7 +64,7 @@ impl<T: Drop, const N: usize> ExactSizeIterator for Drain<T, N> {
 }
 
 impl<T: Eq, const N: usize> Set<T, N> {
-    /// The items from the front.
+    /// Returns an iterator over the items by reference, from the front.
     #[inline]
     pub fn iter(&self) -> Iter<'_, T>
         ensures answer { result ≡ self.now }
@@ -75,7 +75,9 @@ impl<T: Eq, const N: usize> Set<T, N> {
 }
 
 impl<T: Eq + Drop, const N: usize> Set<T, N> {
-    /// Takes all items out, from the front. The set is empty at once; what isn't taken is dropped with the walk.
+    /// Removes all items, and returns an iterator over them by value, from the front.
+    ///
+    /// The set is empty as soon as the call returns. Items that aren't taken are dropped with the iterator.
     #[inline]
     pub fn drain(&mut self) -> Drain<T, N>
         ensures answer { result ≡ self.old }
@@ -89,7 +91,7 @@ impl<T: Eq + Drop, const N: usize> Set<T, N> {
     }
 }
 
-/// A loop over a set gives its items away from the front. What isn't taken is dropped with the walk.
+/// A loop over a set yields its items by value, from the front. Items that aren't taken are dropped with the iterator.
 impl<T: Eq + Drop, const N: usize> IntoIterator for Set<T, N> {
     type Item = T;
 
@@ -103,7 +105,7 @@ impl<T: Eq + Drop, const N: usize> IntoIterator for Set<T, N> {
     }
 }
 
-/// A loop over a reference to a set lends its items from the front.
+/// A loop over a reference to a set yields references to its items, from the front.
 impl<'a, T: Eq, const N: usize> IntoIterator for &'a Set<T, N> {
     type Item = &'a T;
 

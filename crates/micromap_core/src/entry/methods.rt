@@ -1,5 +1,5 @@
-//! What makes an entry, and the calls of `Entry`. A clause `writes_back` says what the map holds once the borrow that
-//! the call answers has ended.
+//! `Map::entry` and the calls of `Entry`. A clause `writes_back` says what the map holds after the returned borrow
+//! ends.
 ghost use Rattle.std.specs.Prelude.{◌≡◌, Some, None, IsTrue, unwrap_or};
 ghost use Rattle.std.specs.Borrow.{sem, Bor, MutBor};
 ghost use Rattle.std.specs.Map.Calls.{ModifiesValue};
@@ -11,8 +11,10 @@ use super::{Entry, EntryIn, OccupiedEntry, OccupiedIn, VacantIn};
 use crate::Map;
 
 impl<K: Eq, V, const N: usize> Map<K, V, N> {
-    /// The entry of `key`, by one scan: occupied where an equal key is stored, and then `key` is dropped; else vacant,
-    /// and it holds `key`.
+    /// Returns the entry of `key`.
+    ///
+    /// It is occupied if an equal key is stored; then `key` is dropped. Else it is vacant, and holds `key`. Makes one
+    /// scan.
     #[inline]
     pub fn entry(&mut self, key: K) -> Entry<'_, K, V, N>
     where
@@ -28,7 +30,7 @@ impl<K: Eq, V, const N: usize> Map<K, V, N> {
 }
 
 impl<'a, K: Eq, V, const N: usize> EntryIn<'a, K, Map<K, V, N>> {
-    /// The stored key, or the held one.
+    /// Returns a reference to the stored key, or to the held key if the entry is vacant.
     pub fn key(&self) -> &K
         requires { IsSound K.eq self.now }
         ensures { entry_key self.now ≡ Some result.now }
@@ -39,7 +41,7 @@ impl<'a, K: Eq, V, const N: usize> EntryIn<'a, K, Map<K, V, N>> {
         }
     }
 
-    /// Whether a value can be put: the entry is occupied, or there is room. It compares no key.
+    /// Returns `true` if the entry is occupied or the map has room. Compares no key.
     pub fn has_room(&self) -> bool
         ensures { result ≡ entry_has_room N self.now }
     {
@@ -49,7 +51,7 @@ impl<'a, K: Eq, V, const N: usize> EntryIn<'a, K, Map<K, V, N>> {
         }
     }
 
-    /// Calls `f` on the value, if there is one, and answers the entry. It compares no key.
+    /// Calls `f` on the value of an occupied entry, and returns the entry. Compares no key.
     pub fn and_modify<F: FnOnce(&mut V)>(self, f: F) -> Self
         requires sound { IsSound K.eq self }
         requires callable { (p : MutBor V) → entry_value self ≡ Some p.now → F.pre f p }
@@ -73,9 +75,10 @@ impl<'a, K: Eq, V, const N: usize> EntryIn<'a, K, Map<K, V, N>> {
 }
 
 impl<'a, K: Eq + Drop, V: Drop, const N: usize> EntryIn<'a, K, Map<K, V, N>> {
-    /// Puts `default` where the key is new, and lends the key's value.
+    /// Inserts `default` if the entry is vacant, and returns a mutable reference to the value.
     ///
-    /// The entry must be occupied, or there must be room: `has_room` tells. It compares no key.
+    /// Requires that the entry is occupied or the map has room, which `has_room` tests. A new pair goes last. Compares
+    /// no key.
     pub fn or_insert(self, default: V) -> &'a mut V
         requires sound { IsSound K.eq self }
         requires room { IsTrue (entry_has_room N self) }
@@ -85,9 +88,10 @@ impl<'a, K: Eq + Drop, V: Drop, const N: usize> EntryIn<'a, K, Map<K, V, N>> {
         self.or_insert_with(|| default)
     }
 
-    /// Puts what `default` answers where the key is new, and lends the key's value. `default` is called only there.
+    /// Inserts the result of `default` if the entry is vacant, and returns a mutable reference to the value.
     ///
-    /// The entry must be occupied, or there must be room: `has_room` tells. It compares no key.
+    /// Requires that the entry is occupied or the map has room, which `has_room` tests. `default` is called only for a
+    /// vacant entry. A new pair goes last. Compares no key.
     pub fn or_insert_with<F: FnOnce() -> V>(self, default: F) -> &'a mut V
         requires sound { IsSound K.eq self }
         requires room { IsTrue (entry_has_room N self) }
@@ -98,10 +102,11 @@ impl<'a, K: Eq + Drop, V: Drop, const N: usize> EntryIn<'a, K, Map<K, V, N>> {
         self.or_insert_with_key(|_| default())
     }
 
-    /// Puts what `default` answers of the held key where it is new, and lends the key's value. `default` is called
-    /// only there.
+    /// Inserts the result of `default` of the held key if the entry is vacant, and returns a mutable reference to the
+    /// value.
     ///
-    /// The entry must be occupied, or there must be room: `has_room` tells. It compares no key.
+    /// Requires that the entry is occupied or the map has room, which `has_room` tests. `default` is called only for a
+    /// vacant entry. A new pair goes last. Compares no key.
     pub fn or_insert_with_key<F: FnOnce(&K) -> V>(self, default: F) -> &'a mut V
         requires sound { IsSound K.eq self }
         requires room { IsTrue (entry_has_room N self) }
@@ -118,9 +123,10 @@ impl<'a, K: Eq + Drop, V: Drop, const N: usize> EntryIn<'a, K, Map<K, V, N>> {
         }
     }
 
-    /// Puts a default value where the key is new, and lends the key's value.
+    /// Inserts a default value if the entry is vacant, and returns a mutable reference to the value.
     ///
-    /// The entry must be occupied, or there must be room: `has_room` tells. It compares no key.
+    /// Requires that the entry is occupied or the map has room, which `has_room` tests. A new pair goes last. Compares
+    /// no key.
     pub fn or_default(self) -> &'a mut V
     where
         V: Default,
@@ -132,9 +138,10 @@ impl<'a, K: Eq + Drop, V: Drop, const N: usize> EntryIn<'a, K, Map<K, V, N>> {
         self.or_insert_with(|| V::default())
     }
 
-    /// Sets the value, where the stored key stays, or puts the held key with it last, and answers the occupied entry.
+    /// Sets the value, and returns the occupied entry.
     ///
-    /// The entry must be occupied, or there must be room: `has_room` tells. It compares no key.
+    /// Requires that the entry is occupied or the map has room, which `has_room` tests. A stored key stays. Else the
+    /// held key and the value go last. Compares no key.
     pub fn insert_entry(self, value: V) -> OccupiedEntry<'a, K, V, N>
         requires sound { IsSound K.eq self }
         requires room { IsTrue (entry_has_room N self) }

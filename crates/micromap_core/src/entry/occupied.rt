@@ -1,5 +1,5 @@
-//! The calls of `OccupiedEntry`. A clause's `self.exit.0.now` is the map behind the reference that the entry held, once
-//! the entry is used up.
+//! The calls of `OccupiedEntry`. In a clause, `self.exit.0.now` is the map behind the reference that the entry held,
+//! after the entry is consumed.
 ghost use Rattle.std.specs.Prelude.{◌≡◌, Some, slice_get};
 ghost use Rattle.std.specs.Borrow.{sem};
 ghost use Rattle.micromap_core.specs.Entry.{Occupied, entry_key, entry_value, entry_taken, IsSound, IsWritten, entry_lends, occupied_lends};
@@ -8,7 +8,7 @@ use super::OccupiedIn;
 use crate::Map;
 
 impl<'a, K: Eq, V, const N: usize> OccupiedIn<'a, Map<K, V, N>> {
-    /// The stored key.
+    /// Returns a reference to the stored key.
     pub fn key(&self) -> &K
         requires { IsSound K.eq (Occupied self.now) }
         ensures { entry_key (Occupied self.now) ≡ Some result.now }
@@ -16,7 +16,7 @@ impl<'a, K: Eq, V, const N: usize> OccupiedIn<'a, Map<K, V, N>> {
         self.map.pair_at(self.index).0
     }
 
-    /// The value.
+    /// Returns a reference to the value.
     pub fn get(&self) -> &V
         requires { IsSound K.eq (Occupied self.now) }
         ensures { entry_value (Occupied self.now) ≡ Some result.now }
@@ -24,7 +24,7 @@ impl<'a, K: Eq, V, const N: usize> OccupiedIn<'a, Map<K, V, N>> {
         self.map.pair_at(self.index).1
     }
 
-    /// The value, for writing while the entry stays.
+    /// Returns a mutable reference to the value, which borrows the entry.
     pub fn get_mut(&mut self) -> &mut V
         requires { IsSound K.eq (Occupied self.old) }
         ensures* writes_back { sem 𝓛 (occupied_lends K.row V.row N.row K.eq self.entry result) }
@@ -34,7 +34,7 @@ impl<'a, K: Eq, V, const N: usize> OccupiedIn<'a, Map<K, V, N>> {
         self.map.value_at(index)
     }
 
-    /// The value, for writing as long as the map is lent.
+    /// Converts the entry into a mutable reference to the value, which lives as long as the map's borrow.
     pub fn into_mut(self) -> &'a mut V
         requires { IsSound K.eq (Occupied self) }
         ensures* writes_back { sem 𝓛 (entry_lends K.row V.row N.row K.eq (Occupied self.entry) result) }
@@ -44,7 +44,7 @@ impl<'a, K: Eq, V, const N: usize> OccupiedIn<'a, Map<K, V, N>> {
         map.value_at(index)
     }
 
-    /// Sets the value, and answers the old one.
+    /// Sets the value, and returns the old value.
     pub fn insert(&mut self, value: V) -> V
         requires { IsSound K.eq (Occupied self.old) }
         ensures old { entry_value (Occupied self.old) ≡ Some result }
@@ -56,7 +56,7 @@ impl<'a, K: Eq, V, const N: usize> OccupiedIn<'a, Map<K, V, N>> {
 }
 
 impl<'a, K: Eq + Drop, V: Drop, const N: usize> OccupiedIn<'a, Map<K, V, N>> {
-    /// Takes the pair out, and answers its value. The others keep their order: those behind it move up by one.
+    /// Removes the pair, and returns its value. The others keep their order: those behind it move up by one.
     pub fn remove(self) -> V
         requires { IsSound K.eq (Occupied self) }
         ensures answer { entry_value (Occupied self.entry) ≡ Some result }
@@ -67,7 +67,7 @@ impl<'a, K: Eq + Drop, V: Drop, const N: usize> OccupiedIn<'a, Map<K, V, N>> {
         value
     }
 
-    /// Takes the pair out, as `remove` does, and answers the stored key and its value.
+    /// Removes the pair, and returns the stored key and its value. The others keep their order, as after `remove`.
     pub fn remove_entry(self) -> (K, V)
         requires { IsSound K.eq (Occupied self) }
         ensures key { entry_key (Occupied self.entry) ≡ Some result.0 }

@@ -1,5 +1,5 @@
-//! The calls of `VacantEntry`. A clause's `self.exit.0.now` is the map behind the reference that the entry held, once
-//! the entry is used up.
+//! The calls of `VacantEntry`. In a clause, `self.exit.0.now` is the map behind the reference that the entry held,
+//! after the entry is consumed.
 ghost use Rattle.std.specs.Prelude.{◌≡◌, Some, IsTrue};
 ghost use Rattle.std.specs.Borrow.{sem};
 ghost use Rattle.micromap_core.specs.Entry.{Occupied, Vacant, entry_key, entry_pairs, entry_has_room, IsSound, IsWritten, entry_lends};
@@ -8,14 +8,14 @@ use super::{OccupiedEntry, OccupiedIn, VacantIn};
 use crate::Map;
 
 impl<'a, K: Eq, V, const N: usize> VacantIn<'a, K, Map<K, V, N>> {
-    /// The held key.
+    /// Returns a reference to the held key.
     pub fn key(&self) -> &K
         ensures { entry_key (Vacant self.now) ≡ Some result.now }
     {
         &self.key
     }
 
-    /// Hands the held key back, and leaves the map as it is.
+    /// Returns the held key by value. The map is unchanged.
     pub fn into_key(self) -> K
         ensures answer { entry_key (Vacant self.entry) ≡ Some result }
         ensures pairs { self.exit.0.now ≡ entry_pairs (Vacant self.entry) }
@@ -24,7 +24,7 @@ impl<'a, K: Eq, V, const N: usize> VacantIn<'a, K, Map<K, V, N>> {
         key
     }
 
-    /// Whether a value can be put. It compares no key.
+    /// Returns `true` if the map has room. Compares no key.
     pub fn has_room(&self) -> bool
         ensures { result ≡ entry_has_room N (Vacant self.now) }
     {
@@ -33,9 +33,9 @@ impl<'a, K: Eq, V, const N: usize> VacantIn<'a, K, Map<K, V, N>> {
 }
 
 impl<'a, K: Eq + Drop, V: Drop, const N: usize> VacantIn<'a, K, Map<K, V, N>> {
-    /// Puts the held key with `value` last, and lends the value.
+    /// Inserts the held key with `value`, and returns a mutable reference to the value.
     ///
-    /// There must be room: `has_room` tells. It compares no key.
+    /// Requires room, which `has_room` tests. The pair goes last. Compares no key.
     pub fn insert(self, value: V) -> &'a mut V
         requires sound { IsSound K.eq (Vacant self) }
         requires room { IsTrue (entry_has_room N (Vacant self)) }
@@ -48,9 +48,9 @@ impl<'a, K: Eq + Drop, V: Drop, const N: usize> VacantIn<'a, K, Map<K, V, N>> {
         map.value_at(index)
     }
 
-    /// Puts the held key with `value` last, and answers its entry.
+    /// Inserts the held key with `value`, and returns its occupied entry.
     ///
-    /// There must be room: `has_room` tells. It compares no key.
+    /// Requires room, which `has_room` tests. The pair goes last. Compares no key.
     pub fn insert_entry(self, value: V) -> OccupiedEntry<'a, K, V, N>
         requires sound { IsSound K.eq (Vacant self) }
         requires room { IsTrue (entry_has_room N (Vacant self)) }

@@ -1,5 +1,5 @@
-//! Putting the items of an iterator, one after the other by the rule of `insert`: each distinct key is stored as it
-//! came first, in that order, with the value of its last item.
+//! Inserting the items of an iterator, one after the other, as `insert` does. The keys are stored in the order in which
+//! each distinct key first came. Each has the value of its last item.
 ghost use Rattle.std.specs.Prelude.{◌≡◌, ◌+◌, IsTrue, IfOk, IfErr};
 ghost use Rattle.std.specs.Iterator.{UpTo};
 ghost use Rattle.std.specs.Iterator.Runs.{SomeRun, WholeRun};
@@ -10,7 +10,7 @@ use super::Map;
 use std::error::Error;
 use std::fmt;
 
-/// The items have more distinct keys than there is room for.
+/// The error of items that have more distinct keys than there is room for.
 #[derive(Debug, Clone, Copy, PartialEq, Eq)]
 pub struct Overfull {
     /// The position of the first item that didn't fit, counted from 0 over all items.
@@ -34,8 +34,9 @@ impl Error for Overfull {}
 impl<K: Eq + Copy, V: Copy, const N: usize> From<[(K, V); N]> for Map<K, V, N> {
     ghost from_gives = { λ items map. (map ≡ build K.eq items) × IsTrue (all_fit K.eq N items) };
 
-    /// The map of these items: each distinct key as it came first, with the value of its last item. Each item fits,
-    /// and costs one scan.
+    /// Creates a map of the items of an array: each distinct key as it first came, with the value of its last item.
+    ///
+    /// Every item fits. Makes one scan for each item.
     fn from(items: [(K, V); N]) -> Self {
         let mut map = Map::new();
         for index in 0..N {
@@ -47,10 +48,10 @@ impl<K: Eq + Copy, V: Copy, const N: usize> From<[(K, V); N]> for Map<K, V, N> {
 }
 
 impl<K: Eq + Drop, V: Drop, const N: usize> Map<K, V, N> {
-    /// Puts the items, or answers the position of the first that doesn't fit, counted from 0 over all items. Each item
-    /// costs one scan.
+    /// Inserts the items of an iterator, or returns the position of the first item that doesn't fit, counted from 0.
     ///
-    /// Where one doesn't fit, all before it are in the map, it is dropped, and nothing after it is taken.
+    /// Requires that the iterator ends, after fewer than `usize::MAX` items. After an `Err`, the map has all items
+    /// before that position. The item at it is dropped, and no later item is taken. Makes one scan for each item.
     pub fn try_extend<I: Iterator<Item = (K, V)>>(&mut self, items: I) -> Result<(), Overfull>
         requires can { I.can_next items }
         requires ends { UpTo (I.remaining items) most_items }
@@ -71,10 +72,12 @@ impl<K: Eq + Drop, V: Drop, const N: usize> Map<K, V, N> {
         Ok(())
     }
 
-    /// The map of these items, or the position of the first that doesn't fit, counted from 0 over all items; then no
-    /// map is made, and what was put and what is left is dropped. Each item costs one scan.
+    /// Creates a map of an iterator's items, or returns the position of the first item that doesn't fit, counted from
+    /// 0.
     ///
-    /// The answer is `Err` exactly where the items have more than `N` distinct keys.
+    /// Requires that the iterator ends, after fewer than `usize::MAX` items. The result is `Err` exactly if the items
+    /// have more than `N` distinct keys. Then the items inserted before and those left are dropped. Makes one scan for
+    /// each item.
     pub fn try_from_iter<I: Iterator<Item = (K, V)>>(items: I) -> Result<Self, Overfull>
         requires can { I.can_next items }
         requires ends { UpTo (I.remaining items) most_items }

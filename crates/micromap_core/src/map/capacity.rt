@@ -5,10 +5,10 @@ ghost use Rattle.micromap_core.specs.Pairs.{IsContent};
 use super::Map;
 
 impl<K: Eq + Drop, V: Drop, const N: usize> Map<K, V, N> {
-    /// This map with room for `M` pairs: the same list, whose pairs are each moved once. No key is compared, and no
-    /// memory is taken.
+    /// Returns this map with the capacity `M`, and the same list of pairs.
     ///
-    /// The answer is `Err` exactly where there are more than `M` pairs; then it is this map, unchanged.
+    /// The result is `Err` exactly if there are more than `M` pairs. The error is this map, unchanged. Moves each pair
+    /// once, compares no key, and does not allocate.
     pub fn into_capacity<const M: usize>(self) -> Result<Map<K, V, M>, Self>
         ensures refuses { IsErr result ↔ (M < length self) }
         ensures pairs { IfOk result (λ map. map ≡ self) }

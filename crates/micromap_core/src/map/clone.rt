@@ -9,10 +9,11 @@ use super::Map;
 use std::alloc::AllocError;
 
 impl<K: Eq + Clone + Drop, V: Clone + Drop, const N: usize> Map<K, V, N> {
-    /// A map of the clones, pair by pair, in the same order. A key's clone must be equal to the key.
+    /// Returns a map of the clones of all pairs, in the same order.
     ///
-    /// It takes no memory of its own, so the answer is `Err` only where a clone of a key or a value is. Then what was
-    /// cloned is dropped. This map is unchanged either way.
+    /// Requires that a key's clone is equal to the key. The result is `Err` only if the clone of a key or a value is;
+    /// then the clones made so far are dropped. This map is unchanged in any case. The call allocates no memory of its
+    /// own.
     pub fn clone(&self) -> Result<Self, AllocError>
         requires { ClonesAreEqual K.eq K.is_clone }
         ensures clones { IfOk result (AllZip (IsPairClone K.is_clone V.is_clone) self.now) }

@@ -1,7 +1,7 @@
-//! The calls that hand each value to a closure for writing.
+//! The calls that pass each value to a closure by mutable reference.
 //!
-//! A contract says what the closure was called on, in which order, and that each value is what its call left. What the
-//! closure's own captures hold afterwards isn't said.
+//! A contract says what the closure was called on, in which order, and that each value is what its call left. It
+//! doesn't say what the closure's captures hold afterwards.
 ghost use Rattle.std.specs.Prelude.{◌≡◌, map};
 ghost use Rattle.std.specs.Map.{keys_of};
 ghost use Rattle.std.specs.Map.Calls.{CallableOnEachPair, RetainsPairs};
@@ -13,10 +13,10 @@ ghost use Rattle.micromap_core.specs.Sublist.{IsSublist};
 use super::Map;
 
 impl<K: Eq + Drop, V: Drop, const N: usize> Map<K, V, N> {
-    /// Keeps the pairs for which `keep` answers `true`, in their order, with the values that it left, and drops the
-    /// others.
+    /// Keeps the pairs for which `keep` returns `true`, and drops the others.
     ///
-    /// It visits the pairs from front to end, each once, and moves each kept pair at most once. It compares no key.
+    /// The kept pairs stay in their order, with the values that `keep` left. `keep` is called on the pairs from front
+    /// to end, once each. Moves each kept pair at most once. Compares no key.
     pub fn retain<F: FnMut(&K, &mut V) -> bool>(&mut self, keep: F)
         requires { CallableOnEachPair (CalledOnPair F.FnMut) (AcceptsPair F.FnMut) keep self.old }
         ensures pairs { RetainsPairs (CalledOnPair F.FnMut) keep self.old self.new }
@@ -29,7 +29,9 @@ impl<K: Eq + Drop, V: Drop, const N: usize> Map<K, V, N> {
 }
 
 impl<K: Eq, V, const N: usize> Map<K, V, N> {
-    /// Calls `update` at each pair from the front. Keys, order and length stay. It compares no key.
+    /// Calls `update` on each key and its value, from front to end.
+    ///
+    /// Keys, order and length stay. Compares no key.
     pub fn update_all<F: FnMut(&K, &mut V)>(&mut self, mut update: F)
         requires { MayUpdateAll F.FnMut update self.old }
         ensures pairs { UpdatesAll F.FnMut update self.old self.new }
@@ -40,16 +42,16 @@ impl<K: Eq, V, const N: usize> Map<K, V, N> {
         }
     }
 
-    /// Calls `update` with the position in `keys` and the value of each key that is stored, in the order of `keys`, and
-    /// answers which are. No other value changes.
+    /// Calls `update` on the value of each of `keys` that is stored, and returns which of them are stored.
     ///
-    /// The keys must be pairwise unequal: `==` of them tells. Each is looked up by one scan.
+    /// Requires pairwise unequal keys, which `==` of them tests. `update` is called with a key's position in `keys` and
+    /// a mutable reference to its value, in the order of `keys`. No other value changes. Makes one scan for each key.
     pub fn update_disjoint<const J: usize, F: FnMut(usize, &mut V)>(
         &mut self,
         keys: &[K; J],
         mut update: F,
     ) -> [bool; J]
-        // The number of distinct keys is computed where the keys are written out, so that such a call needs no proof.
+        // The number of distinct keys is computed if the keys are written out, so that such a call needs no proof.
         requires distinct { distinct_count K.eq keys.now ≡ J }
         requires callable { MayUpdateDisjoint K.eq F.FnMut update self.old keys.now }
         ensures answer { result ≡ map (has K.eq self.old) keys.now }

@@ -10,36 +10,37 @@ ghost use Rattle.micromap_core.specs.SameLaws.{is_same_equiv};
 use super::Map;
 
 impl<K: Eq, V: Eq, const N: usize> Map<K, V, N> {
-    /// Whether the two maps are the same: each pair of either has an equal key with an equal value in the other. Neither
-    /// order nor capacity matters.
+    /// Returns `true` if the two maps are the same: each pair of either has an equal key with an equal value in the
+    /// other. Neither order nor capacity matters.
     ///
-    /// It compares no key where the lengths differ. Else it costs one `get` on `other` for each key of this map, up to
-    /// and including the first that `other` lacks or has with an unequal value, which is at most the length times itself:
-    /// `eq_with_counted` counts them, with that number proved.
+    /// The result is `true` exactly if no fair list of keyed calls tells the two maps apart. After `true`, every fair
+    /// list of calls has results that agree, and leaves the two maps the same. A list of calls is fair if, at each
+    /// insertion of a key that neither map has at that moment, both have room or neither has.
     ///
-    /// The answer is yes exactly where no fair list of keyed calls tells the two apart, and a yes outlasts every such
-    /// list: all answers agree, and the two are the same afterwards. A list of calls is fair where, at each insertion of
-    /// a key that neither map has at that moment, both have room or neither has.
+    /// Compares no key if the lengths differ. Else it makes one scan of `other` for each key of this map, up to and
+    /// including the first that `other` lacks or has with an unequal value. That is at most the length times itself
+    /// comparisons. `eq_with_counted` counts them, with that number proved.
     pub fn eq_with<const M: usize>(&self, other: &Map<K, V, M>) -> bool
         ensures answer { IsTrue result ↔ Same K.eq V.eq self.now other.now }
         ensures told_apart { IsFalse result ↔ ToldApart K.eq V.eq N M self.now other.now }
         ensures outlasts { OnTrue result (SameForGood K.eq V.eq N M self.now other.now) }
     {
-        // Equally many keys, each of which `other` has too: so `other` has no other key.
+        // Both have the same number of keys, and `other` has each key of this map. So `other` has no other key.
         let lengths = (self.len(), other.len());
         lengths.0 == lengths.1 && self.first_unequal(other).is_none()
     }
 
-    /// A stored key at which `get` on the two maps doesn't agree, or `None` where the maps are the same: the first key
-    /// of this map that `other` lacks or has with an unequal value, else the first key of `other` that this map lacks.
+    /// Returns a reference to a stored key at which `get` on the two maps doesn't agree, or `None` if the maps are the
+    /// same.
     ///
-    /// Each key that is tried costs one scan of the map that it isn't from.
+    /// It is the first key of this map that `other` lacks or has with an unequal value. If there is none, it is the
+    /// first key of `other` that this map lacks. Each key that is tried costs one scan of the other map.
     pub fn differs_at<'a, const M: usize>(&'a self, other: &'a Map<K, V, M>) -> Option<&'a K>
         ensures answer { option_copied result ≡ first_difference K.eq V.eq self.now other.now }
         ensures none { IsNone result ↔ Same K.eq V.eq self.now other.now }
         ensures differs { IfSome result (λ k. DiffersAt K.eq V.eq self.now other.now k.now) }
     {
-        // What holds of each map's content is learnt from `len`.
+        // `len` ensures what is true of each map's content.
         let _held = (self.len(), other.len());
         match self.first_unequal(other) {
             Some(key) => Some(key),
@@ -47,7 +48,7 @@ impl<K: Eq, V: Eq, const N: usize> Map<K, V, N> {
         }
     }
 
-    // The first key that `other` lacks or has with an unequal value.
+    // Returns a reference to the first key that `other` lacks or has with an unequal value.
     fn first_unequal<const M: usize>(&self, other: &Map<K, V, M>) -> Option<&K>
         ensures { option_copied result ≡ first_unequal K.eq V.eq self.now other.now }
     {
@@ -59,7 +60,7 @@ impl<K: Eq, V: Eq, const N: usize> Map<K, V, N> {
         None
     }
 
-    // The first key that `other` lacks.
+    // Returns a reference to the first key that `other` lacks.
     fn first_missing<const M: usize>(&self, other: &Map<K, V, M>) -> Option<&K>
         ensures { option_copied result ≡ first_missing K.eq V.eq self.now other.now }
     {
@@ -72,7 +73,7 @@ impl<K: Eq, V: Eq, const N: usize> Map<K, V, N> {
     }
 }
 
-/// `eq_with` within one type.
+/// `==` is `eq_with` within one type.
 impl<K: Eq, V: Eq, const N: usize> PartialEq for Map<K, V, N> {
     ghost eq = { is_same K.eq V.eq };
 

@@ -1,4 +1,4 @@
-//! A look-up and a comparison that count the keys they compare, all of which they compare by `Steps::same`.
+//! A look-up and a comparison that count the comparisons of keys. All are made by `Steps::same`.
 ghost use Rattle.std.specs.Prelude.{◌≡◌, ◌↔◌, ◌+◌, ◌*◌, ◌^◌, ◌<◌, ◌≤◌, length, IfNone, IsTrue, IsFalse};
 ghost use Rattle.std.specs.Bool.{OnTrue};
 ghost use Rattle.std.specs.List.{list_all};
@@ -13,8 +13,10 @@ use super::Map;
 use crate::steps::Steps;
 
 impl<K: Eq, V, const N: usize> Map<K, V, N> {
-    /// What `get` answers. It adds the index of the key plus one, or the length where the key is missing: room for the
-    /// length is asked.
+    /// Returns what `get` returns, and adds the number of keys compared to `steps`.
+    ///
+    /// Requires that `steps` has room for the length. Adds the index of the key plus one, or the length if the key is
+    /// missing.
     pub fn get_counted(&self, key: &K, steps: &mut Steps) -> Option<&V>
         requires { steps.old + length self.now < 2 ^ 128 }
         ensures answer { option_copied result ≡ at K.eq self.now key.now }
@@ -25,7 +27,7 @@ impl<K: Eq, V, const N: usize> Map<K, V, N> {
         Some(self.pair_at(index).1)
     }
 
-    // The index of the key, by a scan of the keys alone.
+    // Returns the index of the key, by a scan of the keys alone.
     fn index_counted(&self, key: &K, steps: &mut Steps) -> Option<usize>
         requires { steps.old + length self.now < 2 ^ 128 }
         ensures found { IfSome result (FoundAt (K.eq key.now) self.now) }
@@ -47,9 +49,11 @@ impl<K: Eq, V, const N: usize> Map<K, V, N> {
 }
 
 impl<K: Eq, V: Eq, const N: usize> Map<K, V, N> {
-    /// What `eq_with` answers. It adds nothing where the lengths differ; else what `get_counted` on `other` adds for each
-    /// key of this map, from the front up to and including the first that `other` lacks or has with an unequal value. Room
-    /// for the length times itself is asked, also where the lengths differ; a new counter has it.
+    /// Returns what `eq_with` returns, and adds the number of keys compared to `steps`.
+    ///
+    /// Requires that `steps` has room for the length times itself, even if the lengths differ. A new counter has it.
+    /// Adds nothing if the lengths differ. Else it adds what `get_counted` on `other` adds for each key of this map, up
+    /// to and including the first that `other` lacks or has with an unequal value.
     pub fn eq_with_counted<const M: usize>(&self, other: &Map<K, V, M>, steps: &mut Steps) -> bool
         requires { steps.old + length self.now * length self.now < 2 ^ 128 }
         ensures answer { IsTrue result ↔ Same K.eq V.eq self.now other.now }
@@ -62,7 +66,7 @@ impl<K: Eq, V: Eq, const N: usize> Map<K, V, N> {
         lengths.0 == lengths.1 && self.is_within_counted(other, steps)
     }
 
-    // Whether `other` has an equal value at each key, by a look-up of each up to the first at which it hasn't.
+    // Returns `true` if `other` has an equal value at each key. Looks up each key, up to the first at which it hasn't.
     fn is_within_counted<const M: usize>(&self, other: &Map<K, V, M>, steps: &mut Steps) -> bool
         requires { steps.old + length self.now * length other.now < 2 ^ 128 }
         ensures answer { result ≡ list_all (has_value K.eq V.eq other.now) self.now }
@@ -77,7 +81,7 @@ impl<K: Eq, V: Eq, const N: usize> Map<K, V, N> {
         true
     }
 
-    // Whether there is an equal value at the key, by one look-up.
+    // Returns `true` if there is an equal value at the key, by one look-up.
     fn has_value_counted(&self, key: &K, value: &V, steps: &mut Steps) -> bool
         requires { steps.old + length self.now < 2 ^ 128 }
         ensures answer { result ≡ has_value K.eq V.eq self.now (key.now, value.now) }

@@ -1,4 +1,4 @@
-//! The pairs by their index, and the scans that the calls by a key or a probe make.
+//! The pairs by their index, and the scans of the calls by a key or a probe.
 ghost use Rattle.std.specs.Prelude.{◌≡◌, ◌∷◌, [], ◌++◌, ◌<◌, length, Some, None, IfNone, slice_get};
 ghost use Rattle.std.specs.Borrow.{sem};
 ghost use Rattle.std.specs.Map.{lookup, lookup_entry, lookup_key, remove_entry};
@@ -15,7 +15,8 @@ use crate::probe::Probe;
 use std::mem;
 
 impl<K: Eq, V, const N: usize> Map<K, V, N> {
-    // The index of the first pair whose key the probe matches: the scan of every call by a key, and of all that change.
+    // Returns the index of the first pair whose key the probe matches. This is the scan of every call by a key, and of
+    // every call that changes a map.
     #[inline]
     fn first_index<P: Probe<K>>(&self, probe: &P) -> Option<usize>
         ensures { result ≡ index_by (P.matches probe.now) self.now }
@@ -32,8 +33,8 @@ impl<K: Eq, V, const N: usize> Map<K, V, N> {
         None
     }
 
-    // The same without a count on the way, which costs less where keys are texts: the scan of every call by a probe that
-    // reads. Where it ended is told by how many keys are left.
+    // Returns the same index without a count on the way, which costs less for keys that are texts. This is the scan of
+    // every call by probe that only reads. The number of keys left gives the index.
     #[inline]
     fn first_index_by_rest<P: Probe<K>>(&self, probe: &P) -> Option<usize>
         ensures { result ≡ index_by (P.matches probe.now) self.now }
@@ -47,7 +48,7 @@ impl<K: Eq, V, const N: usize> Map<K, V, N> {
         None
     }
 
-    // The first pair whose key the probe matches.
+    // Returns the first pair whose key the probe matches.
     #[inline]
     fn first<P: Probe<K>>(&self, probe: &P) -> Option<(&K, &V)>
         ensures { option_map deref_pair result ≡ lookup_entry (P.matches probe.now) self.now }
@@ -56,7 +57,7 @@ impl<K: Eq, V, const N: usize> Map<K, V, N> {
         Some(self.pair_at(index))
     }
 
-    // The same, in the words of a test and in those of the key that matches.
+    // Returns the same, in the words of a test and in those of the key that matches.
     #[inline]
     pub(crate) fn find<P: Probe<K>>(&self, probe: &P) -> Option<(&K, &V)>
         ensures pair { option_map deref_pair result ≡ lookup_entry (P.matches probe.now) self.now }
@@ -68,7 +69,8 @@ impl<K: Eq, V, const N: usize> Map<K, V, N> {
         self.first(probe)
     }
 
-    // Its index, and what follows of it. Every call that changes a map by a key learns here what holds of its content.
+    // Returns its index, and ensures what follows from it. Its clause `content` serves every call that changes a map by
+    // a key.
     #[inline]
     pub(crate) fn index_of<P: Probe<K>>(&self, probe: &P) -> Option<usize>
         ensures answer { result ≡ index_by (P.matches probe.now) self.now }
@@ -80,7 +82,7 @@ impl<K: Eq, V, const N: usize> Map<K, V, N> {
         self.first_index(probe)
     }
 
-    // Whether there is room for one more pair.
+    // Returns `true` if there is room for one more pair.
     #[inline]
     pub(crate) fn has_room(&self) -> bool
         ensures { result ≡ has_room N self.now }
@@ -88,7 +90,7 @@ impl<K: Eq, V, const N: usize> Map<K, V, N> {
         self.pairs.len() < N
     }
 
-    // The pair at `index`.
+    // Returns the pair at `index`.
     #[inline]
     pub(crate) fn pair_at(&self, index: usize) -> (&K, &V)
         requires { index < length self.now }
@@ -97,7 +99,7 @@ impl<K: Eq, V, const N: usize> Map<K, V, N> {
         self.pairs.pair_at(index)
     }
 
-    // The value at `index`, for writing.
+    // Returns a mutable reference to the value at `index`.
     #[inline]
     pub(crate) fn value_at(&mut self, index: usize) -> &mut V
         requires { index < length self.old }
@@ -107,7 +109,7 @@ impl<K: Eq, V, const N: usize> Map<K, V, N> {
         self.pairs.value_at(index)
     }
 
-    // Calls `visit` at the pair at `index`.
+    // Calls `visit` on the pair at `index`.
     #[inline]
     pub(crate) fn visit_at<R, F: FnMut(&K, &mut V) -> R>(
         &mut self,
@@ -121,7 +123,7 @@ impl<K: Eq, V, const N: usize> Map<K, V, N> {
         self.pairs.visit_at(index, visit)
     }
 
-    // Writes `value` at `index`, and answers the old value.
+    // Sets the value at `index`, and returns the old value.
     #[inline]
     pub(crate) fn replace_at(&mut self, index: usize, value: V) -> V
         requires { index < length self.old }
@@ -131,7 +133,7 @@ impl<K: Eq, V, const N: usize> Map<K, V, N> {
         mem::replace(self.value_at(index), value)
     }
 
-    // Puts `value` at a key that stands at `index`, and answers the old value.
+    // Sets the value of the key stored at `index`, and returns the old value.
     #[inline]
     pub(crate) fn put_at(&mut self, index: usize, key: &K, value: V) -> V
         requires { index_of K.eq self.old key.now ≡ Some index }
@@ -141,7 +143,7 @@ impl<K: Eq, V, const N: usize> Map<K, V, N> {
         mem::replace(self.value_at(index), value)
     }
 
-    // Puts key and value at the index of the key, and answers the old pair.
+    // Replaces the key at `index` and its value, and returns the old pair.
     #[inline]
     pub(crate) fn put_key_at(&mut self, index: usize, key: K, value: V) -> (K, V)
         requires { index_of K.eq self.old key ≡ Some index }
@@ -153,7 +155,7 @@ impl<K: Eq, V, const N: usize> Map<K, V, N> {
 }
 
 impl<K: Eq + Drop, V: Drop, const N: usize> Map<K, V, N> {
-    // Puts a pair with a new key last.
+    // Inserts a pair with a new key last.
     #[inline]
     pub(crate) fn push_pair(&mut self, key: K, value: V)
         requires new { index_of K.eq self.old key ≡ None }
@@ -165,7 +167,7 @@ impl<K: Eq + Drop, V: Drop, const N: usize> Map<K, V, N> {
         self.pairs.push(key, value);
     }
 
-    // Takes the first pair out whose key the probe matches; those behind it move up by one.
+    // Removes and returns the first pair whose key the probe matches. Those behind it move up by one.
     #[inline]
     fn take_first<P: Probe<K>>(&mut self, probe: &P) -> Option<(K, V)>
         ensures pair { result ≡ lookup_entry (P.matches probe.now) self.old }
@@ -177,7 +179,7 @@ impl<K: Eq + Drop, V: Drop, const N: usize> Map<K, V, N> {
         Some(self.take_at(index))
     }
 
-    // The same, said as in `find`.
+    // Does the same. Its clauses are in the words of `find`.
     #[inline]
     pub(crate) fn take<P: Probe<K>>(&mut self, probe: &P) -> Option<(K, V)>
         ensures pair { result ≡ lookup_entry (P.matches probe.now) self.old }
@@ -191,7 +193,7 @@ impl<K: Eq + Drop, V: Drop, const N: usize> Map<K, V, N> {
         self.take_first(probe)
     }
 
-    // Takes the pair at `index` out; those behind it move up by one.
+    // Removes and returns the pair at `index`. Those behind it move up by one.
     #[inline]
     pub(crate) fn take_at(&mut self, index: usize) -> (K, V)
         requires { index < length self.old }

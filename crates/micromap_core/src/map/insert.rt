@@ -1,14 +1,14 @@
-//! Putting a pair.
+//! Inserting a pair.
 ghost use Rattle.std.specs.Prelude.{◌≡◌, Some, None, IsTrue, if◌then◌else◌};
 ghost use Rattle.micromap_core.specs.Pairs.{IsContent, at, pair, fits, put, put_key};
 
 use super::Map;
 
 impl<K: Eq + Drop, V: Drop, const N: usize> Map<K, V, N> {
-    /// Puts the pair, by one scan, and answers the old value.
+    /// Inserts the pair, and returns the old value, or `None` if the key is new.
     ///
-    /// Where an equal key is stored, it stays, and its value is replaced. A new pair goes last, and the answer is
-    /// `None`. There must be room for a new key: `fits` tells.
+    /// Requires that an equal key is stored or the map has room, which `fits` tests. A stored key stays, and its value
+    /// is replaced. A new pair goes last. Makes one scan.
     #[inline]
     pub fn insert(&mut self, key: K, value: V) -> Option<V>
         requires { IsTrue (fits K.eq N self.old key) }
@@ -25,7 +25,7 @@ impl<K: Eq + Drop, V: Drop, const N: usize> Map<K, V, N> {
         }
     }
 
-    /// `insert`, with the same condition.
+    /// Does what `insert` does, with the same precondition.
     #[inline]
     pub fn insert_unchecked(&mut self, key: K, value: V) -> Option<V>
         requires { IsTrue (fits K.eq N self.old key) }
@@ -36,10 +36,10 @@ impl<K: Eq + Drop, V: Drop, const N: usize> Map<K, V, N> {
         self.insert(key, value)
     }
 
-    /// Puts the pair, by one scan, and answers the old pair.
+    /// Inserts the pair, and returns the old pair, or `None` if the key is new.
     ///
-    /// Where an equal key is stored, key and value are both replaced. A new pair goes last, and the answer is `None`.
-    /// There must be room for a new key: `fits` tells.
+    /// Requires that an equal key is stored or the map has room, which `fits` tests. A stored pair is replaced, with
+    /// its key. A new pair goes last. Makes one scan.
     #[inline]
     pub fn insert_key_value(&mut self, key: K, value: V) -> Option<(K, V)>
         requires { IsTrue (fits K.eq N self.old key) }
@@ -56,11 +56,12 @@ impl<K: Eq + Drop, V: Drop, const N: usize> Map<K, V, N> {
         }
     }
 
-    /// Puts the pair, by one scan, or refuses it.
+    /// Inserts the pair if it fits, and returns `None` if it doesn't.
     ///
-    /// Where an equal key is stored, it stays, its value is replaced, and the answer is `Some` of the old value, also
-    /// at a full map. A new pair goes last, and the answer is `Some(None)`. A new key at a full map is refused: the
-    /// answer is `None`, the map is unchanged, and key and value are dropped.
+    /// If an equal key is stored, it stays, its value is replaced, and the result is `Some(Some(old_value))`, at a full
+    /// map too. If the key is new and there is room, the pair goes last, and the result is `Some(None)`. If the key is
+    /// new and the map is full, the result is `None`, the map is unchanged, and `key` and `value` are dropped. Makes
+    /// one scan.
     #[inline]
     pub fn checked_insert(&mut self, key: K, value: V) -> Option<Option<V>>
         ensures answer { result ≡ (if fits K.eq N self.old key then Some (at K.eq self.old key) else None) }

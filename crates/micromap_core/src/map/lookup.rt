@@ -1,4 +1,4 @@
-//! Looking a key up.
+//! Looking up a key.
 ghost use Rattle.std.specs.Prelude.{◌≡◌, Some, IsTrue};
 ghost use Rattle.std.specs.Borrow.{sem};
 ghost use Rattle.std.specs.Map.Iter.{deref_pair};
@@ -10,8 +10,10 @@ use super::Map;
 use std::ops::{Index, IndexMut};
 
 impl<K: Eq, V, const N: usize> Map<K, V, N> {
-    /// The value at `key`, or `None` where the key is missing, by one scan. It compares as many keys as the index of the
-    /// key plus one, or the length where the key is missing: `get_counted` counts them, with that number proved.
+    /// Returns a reference to the value of `key`, or `None` if the key is missing.
+    ///
+    /// Makes one scan. It compares as many keys as the index of the key plus one, or as the length if the key is
+    /// missing. `get_counted` counts them, with that number proved.
     #[inline]
     pub fn get(&self, key: &K) -> Option<&V>
         ensures { option_copied result ≡ at K.eq self.now key.now }
@@ -20,8 +22,9 @@ impl<K: Eq, V, const N: usize> Map<K, V, N> {
         Some(self.pair_at(index).1)
     }
 
-    /// The value at `key`, for writing, or `None` where the key is missing, by one scan. Once the borrow ends the map
-    /// has what was written, and all else is unchanged.
+    /// Returns a mutable reference to the value of `key`, or `None` if the key is missing.
+    ///
+    /// After the borrow ends the map has what was written, and all else is unchanged. Makes one scan.
     #[inline]
     pub fn get_mut(&mut self, key: &K) -> Option<&mut V>
         ensures* writes_back { sem 𝓛 (lends_at_if K.row V.row N.row K.eq self.entry key.now result) }
@@ -34,7 +37,7 @@ impl<K: Eq, V, const N: usize> Map<K, V, N> {
         }
     }
 
-    /// The stored key and its value, or `None` where the key is missing, by one scan.
+    /// Returns references to the stored key and its value, or `None` if the key is missing. Makes one scan.
     #[inline]
     pub fn get_key_value(&self, key: &K) -> Option<(&K, &V)>
         ensures { option_map deref_pair result ≡ pair K.eq self.now key.now }
@@ -43,7 +46,7 @@ impl<K: Eq, V, const N: usize> Map<K, V, N> {
         Some(self.pair_at(index))
     }
 
-    /// Whether some stored key equals `key`, by one scan.
+    /// Returns `true` if a stored key equals `key`. Makes one scan.
     #[inline]
     pub fn contains_key(&self, key: &K) -> bool
         ensures { result ≡ has K.eq self.now key.now }
@@ -51,8 +54,9 @@ impl<K: Eq, V, const N: usize> Map<K, V, N> {
         self.index_of(key).is_some()
     }
 
-    /// Whether a pair with this key can be put: an equal key is stored, or there is room. Where there is room no key
-    /// is compared.
+    /// Returns `true` if a pair with this key can be inserted: an equal key is stored, or there is room.
+    ///
+    /// Compares no key if there is room. Else it makes one scan.
     #[inline]
     pub fn fits(&self, key: &K) -> bool
         ensures { result ≡ fits K.eq N self.now key.now }
@@ -60,7 +64,9 @@ impl<K: Eq, V, const N: usize> Map<K, V, N> {
         self.has_room() || self.contains_key(key)
     }
 
-    /// The value at a key, by one scan. The key must be there: `contains_key` tells.
+    /// Returns a reference to the value of `key`.
+    ///
+    /// Requires that the key is stored, which `contains_key` tests. Makes one scan.
     #[inline]
     pub fn index(&self, key: &K) -> &V
         requires { IsTrue (has K.eq self.now key.now) }
@@ -72,8 +78,10 @@ impl<K: Eq, V, const N: usize> Map<K, V, N> {
         }
     }
 
-    /// The value at a key, for writing, by one scan. The key must be there: `contains_key` tells. Once the borrow ends
-    /// the map has what was written, and all else is unchanged.
+    /// Returns a mutable reference to the value of `key`.
+    ///
+    /// Requires that the key is stored, which `contains_key` tests. After the borrow ends the map has what was written,
+    /// and all else is unchanged. Makes one scan.
     #[inline]
     pub fn index_mut(&mut self, key: &K) -> &mut V
         requires { IsTrue (has K.eq self.old key.now) }
@@ -88,7 +96,7 @@ impl<K: Eq, V, const N: usize> Map<K, V, N> {
     }
 }
 
-/// `map[&key]` is the value at a key, by one scan. The key must be there: `contains_key` tells.
+/// `map[&key]` is the value of a key. Requires that the key is stored, which `contains_key` tests. Makes one scan.
 impl<'k, K: Eq, V, const N: usize> Index<&'k K> for Map<K, V, N> {
     type Output = V;
 
@@ -102,7 +110,7 @@ impl<'k, K: Eq, V, const N: usize> Index<&'k K> for Map<K, V, N> {
     }
 }
 
-/// `map[&key]` lends the value at a key for writing too, as `index_mut` does.
+/// `map[&key]` can be written too, as by `index_mut`.
 impl<'k, K: Eq, V, const N: usize> IndexMut<&'k K> for Map<K, V, N> {
     #[inline]
     fn index_mut(&mut self, key: &'k K) -> &mut V

@@ -5,7 +5,8 @@ use super::Map;
 use std::fmt;
 use std::fmt::Write;
 
-/// `{k: v, k: v}`, from the front. Width and other flags are ignored; an error of the writer ends it with that error.
+/// `{k: v, k: v}`, from the front. Width and other flags are ignored. An error of the writer ends the printing and is
+/// returned.
 impl<K: Eq + fmt::Display, V: fmt::Display, const N: usize> fmt::Display for Map<K, V, N> {
     ghost output = { map_text K.output V.output };
 
@@ -23,7 +24,7 @@ impl<K: Eq + fmt::Display, V: fmt::Display, const N: usize> fmt::Display for Map
     }
 }
 
-// A formatter as a mere writer, whose options no text sees.
+// A formatter as a plain writer, whose options no text sees.
 #[derive(Drop)]
 struct Unstyled<'a, W: fmt::Write> {
     f: &'a mut fmt::Formatter<W>,
@@ -40,7 +41,7 @@ impl<'a, W: fmt::Write> fmt::Write for Unstyled<'a, W> {
     }
 }
 
-/// As Rust prints a map, from the front.
+/// The form in which Rust prints a map, from the front.
 impl<K: Eq + fmt::Debug, V: fmt::Debug, const N: usize> fmt::Debug for Map<K, V, N> {
     fn fmt<W: fmt::Write>(&self, f: &mut fmt::Formatter<W>) -> fmt::Result {
         let mut out = f.debug_map();

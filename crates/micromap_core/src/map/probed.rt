@@ -1,5 +1,5 @@
-//! The keyed calls by probe: each does what its plain form does at the one stored key that matches, or what the plain
-//! form does at a missing key.
+//! The keyed calls by probe. Each does what its plain form does at the one stored key that matches, or at a missing key
+//! if none matches.
 ghost use Rattle.std.specs.Prelude.{◌≡◌, Some, IsTrue};
 ghost use Rattle.std.specs.Borrow.{sem};
 ghost use Rattle.std.specs.Map.Iter.{deref_pair};
@@ -12,7 +12,7 @@ use super::Map;
 use crate::probe::Probe;
 
 impl<K: Eq, V, const N: usize> Map<K, V, N> {
-    /// The value at the key that matches, or `None` where none does, by one scan.
+    /// Returns a reference to the value of the key that matches, or `None` if none does. Makes one scan.
     #[inline]
     pub fn get_by<P: Probe<K>>(&self, probe: &P) -> Option<&V>
         ensures { option_copied result ≡ at_matched K.eq (P.matches probe.now) self.now }
@@ -21,8 +21,9 @@ impl<K: Eq, V, const N: usize> Map<K, V, N> {
         Some(value)
     }
 
-    /// The value at the key that matches, for writing, or `None` where none does, by one scan. Once the borrow ends the
-    /// map has what was written, and all else is unchanged.
+    /// Returns a mutable reference to the value of the key that matches, or `None` if none does.
+    ///
+    /// After the borrow ends the map has what was written, and all else is unchanged. Makes one scan.
     #[inline]
     pub fn get_mut_by<P: Probe<K>>(&mut self, probe: &P) -> Option<&mut V>
         ensures* writes_back { sem 𝓛 (lends_matched_if K.row V.row N.row K.eq self.entry (P.matches probe.now) result) }
@@ -35,7 +36,7 @@ impl<K: Eq, V, const N: usize> Map<K, V, N> {
         }
     }
 
-    /// The key that matches and its value, or `None` where none does, by one scan.
+    /// Returns references to the key that matches and its value, or `None` if none does. Makes one scan.
     #[inline]
     pub fn get_key_value_by<P: Probe<K>>(&self, probe: &P) -> Option<(&K, &V)>
         ensures { option_map deref_pair result ≡ pair_matched K.eq (P.matches probe.now) self.now }
@@ -43,7 +44,7 @@ impl<K: Eq, V, const N: usize> Map<K, V, N> {
         self.find(probe)
     }
 
-    /// Whether a stored key matches, by one scan.
+    /// Returns `true` if a stored key matches. Makes one scan.
     #[inline]
     pub fn contains_key_by<P: Probe<K>>(&self, probe: &P) -> bool
         ensures { result ≡ has_matched (P.matches probe.now) self.now }
@@ -51,7 +52,9 @@ impl<K: Eq, V, const N: usize> Map<K, V, N> {
         self.find(probe).is_some()
     }
 
-    /// The value at the key that matches, by one scan. A stored key must match: `contains_key_by` tells.
+    /// Returns a reference to the value of the key that matches.
+    ///
+    /// Requires that a stored key matches, which `contains_key_by` tests. Makes one scan.
     #[inline]
     pub fn index_by<P: Probe<K>>(&self, probe: &P) -> &V
         requires { IsTrue (has_matched (P.matches probe.now) self.now) }
@@ -63,7 +66,10 @@ impl<K: Eq, V, const N: usize> Map<K, V, N> {
         }
     }
 
-    /// The value at the key that matches, for writing, by one scan. A stored key must match: `contains_key_by` tells.
+    /// Returns a mutable reference to the value of the key that matches.
+    ///
+    /// Requires that a stored key matches, which `contains_key_by` tests. After the borrow ends the map has what was
+    /// written, and all else is unchanged. Makes one scan.
     #[inline]
     pub fn index_mut_by<P: Probe<K>>(&mut self, probe: &P) -> &mut V
         requires { IsTrue (has_matched (P.matches probe.now) self.old) }
@@ -79,8 +85,9 @@ impl<K: Eq, V, const N: usize> Map<K, V, N> {
 }
 
 impl<K: Eq + Drop, V: Drop, const N: usize> Map<K, V, N> {
-    /// Takes the pair of the key that matches out, by one scan, and answers its value. The others keep their order:
-    /// those behind it move up by one. Where none matches the answer is `None`, and the map is unchanged.
+    /// Removes the pair of the key that matches, and returns its value, or `None` if none matches.
+    ///
+    /// The others keep their order: those behind it move up by one. After `None` the map is unchanged. Makes one scan.
     #[inline]
     pub fn remove_by<P: Probe<K>>(&mut self, probe: &P) -> Option<V>
         ensures answer { result ≡ at_matched K.eq (P.matches probe.now) self.old }
@@ -91,7 +98,9 @@ impl<K: Eq + Drop, V: Drop, const N: usize> Map<K, V, N> {
         Some(value)
     }
 
-    /// Takes the pair of the key that matches out, as `remove_by` does, and answers the stored key and its value.
+    /// Removes the pair of the key that matches, and returns the stored key and its value, or `None` if none matches.
+    ///
+    /// The others keep their order: those behind it move up by one. After `None` the map is unchanged. Makes one scan.
     #[inline]
     pub fn remove_entry_by<P: Probe<K>>(&mut self, probe: &P) -> Option<(K, V)>
         ensures answer { result ≡ pair_matched K.eq (P.matches probe.now) self.old }

@@ -1,12 +1,13 @@
-//! Taking a pair out.
+//! Removing a pair.
 ghost use Rattle.std.specs.Prelude.{◌≡◌};
 ghost use Rattle.micromap_core.specs.Pairs.{IsContent, at, pair, take_out};
 
 use super::Map;
 
 impl<K: Eq + Drop, V: Drop, const N: usize> Map<K, V, N> {
-    /// Takes the pair of `key` out, by one scan, and answers its value. The others keep their order: those behind it
-    /// move up by one. Where the key is missing the answer is `None`, and the map is unchanged.
+    /// Removes the pair of `key`, and returns its value, or `None` if the key is missing.
+    ///
+    /// The others keep their order: those behind it move up by one. After `None` the map is unchanged. Makes one scan.
     #[inline]
     #[tactic(auto, unfolding(crate::specs::Pairs::take_out))]
     pub fn remove(&mut self, key: &K) -> Option<V>
@@ -18,7 +19,9 @@ impl<K: Eq + Drop, V: Drop, const N: usize> Map<K, V, N> {
         Some(value)
     }
 
-    /// Takes the pair of `key` out, as `remove` does, and answers the stored key and its value.
+    /// Removes the pair of `key`, and returns the stored key and its value, or `None` if the key is missing.
+    ///
+    /// The others keep their order: those behind it move up by one. After `None` the map is unchanged. Makes one scan.
     #[inline]
     #[tactic(auto, unfolding(crate::specs::Pairs::take_out))]
     pub fn remove_entry(&mut self, key: &K) -> Option<(K, V)>

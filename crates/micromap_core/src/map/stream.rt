@@ -8,7 +8,9 @@ use super::Map;
 use crate::stream::{EntrySink, EntrySource, ReadFault};
 
 impl<K: Eq, V, const N: usize> Map<K, V, N> {
-    /// Writes the pairs to the sink, from the front, up to the first fault of the sink, which is then the answer.
+    /// Writes the pairs to the sink, from the front, up to the sink's first error, which is returned.
+    ///
+    /// Requires that the sink has returned fewer than `u128::MAX` errors.
     pub fn write_entries<S: EntrySink<K, V>>(&self, sink: &mut S) -> Result<(), S::Error>
         requires { S.faults sink.old < most_faults }
         ensures whole { OnOk result (S.taken sink.new ≡ S.taken sink.old ++ self.now) }
@@ -24,11 +26,12 @@ impl<K: Eq, V, const N: usize> Map<K, V, N> {
 }
 
 impl<K: Eq + Drop, V: Drop, const N: usize> Map<K, V, N> {
-    /// The map of the pairs that are left in the source, which are put by the rule of `insert`: each distinct key is
-    /// stored as it comes first, with the value of its last pair. Each pair costs one scan.
+    /// Creates a map of the pairs left in the source, as `insert` inserts them.
     ///
-    /// Reading ends with the source, with its first fault, or with the first pair that doesn't fit, and takes nothing
-    /// behind that. Where no map is made, what was taken is dropped.
+    /// Requires that the source has returned fewer than `u128::MAX` errors. The keys are stored in the order in which
+    /// each distinct key first came. Each has the value of its last pair. Reading ends at the end of the source, at its
+    /// first error, or at the first pair that doesn't fit. Nothing after that is taken. After an `Err` the pairs taken
+    /// are dropped. Makes one scan for each pair.
     pub fn read_entries<S: EntrySource<K, V>>(source: &mut S) -> Result<Self, ReadFault<S::Error>>
         requires { S.faults source.old < most_faults }
         ensures built { IfOk result (MapReadsAll K.eq N (S.left source.old)) }

@@ -1,7 +1,7 @@
-//! The walks over a map, which lend its pairs from the front or give them away.
+//! The iterators over a map, by reference and by value, from the front.
 //!
-//! A contract sees a walk as the list of what is left, and says that whatever runs it to its end meets just these, in
-//! order.
+//! A contract sees an iterator as the list of the items left. It says that whatever runs it to its end meets just
+//! these, in order.
 ghost use Rattle.std.specs.Prelude.{◌≡◌, []};
 ghost use Rattle.std.specs.Map.{keys_of, values_of};
 ghost use Rattle.std.specs.Map.Iter.{GivesInOrder, ShowsInOrder, deref, deref_pair};
@@ -11,7 +11,7 @@ use super::{Drain, IntoIter, IntoKeys, IntoValues, Iter, Keys, Map, Values};
 use std::mem;
 
 impl<K: Eq, V, const N: usize> Map<K, V, N> {
-    /// The pairs from the front.
+    /// Returns an iterator over the pairs by reference, from the front.
     #[inline]
     pub fn iter(&self) -> Iter<'_, K, V>
         ensures answer { result ≡ self.now }
@@ -21,7 +21,7 @@ impl<K: Eq, V, const N: usize> Map<K, V, N> {
         Iter::over(keys, values)
     }
 
-    /// The keys from the front.
+    /// Returns an iterator over the keys by reference, from the front.
     #[inline]
     pub fn keys(&self) -> Keys<'_, K, V>
         ensures answer { result ≡ keys_of self.now }
@@ -30,7 +30,7 @@ impl<K: Eq, V, const N: usize> Map<K, V, N> {
         Keys::over(self.pairs.keys())
     }
 
-    /// The values from the front.
+    /// Returns an iterator over the values by reference, from the front.
     #[inline]
     pub fn values(&self) -> Values<'_, K, V>
         ensures answer { result ≡ values_of self.now }
@@ -39,7 +39,7 @@ impl<K: Eq, V, const N: usize> Map<K, V, N> {
         Values::over(self.pairs.values())
     }
 
-    /// The keys by value, from the front. What isn't taken is dropped with the walk.
+    /// Returns an iterator over the keys by value, from the front. Pairs that aren't taken are dropped with it.
     #[inline]
     pub fn into_keys(self) -> IntoKeys<K, V, N>
         ensures answer { result ≡ keys_of self }
@@ -50,7 +50,7 @@ impl<K: Eq, V, const N: usize> Map<K, V, N> {
         IntoKeys::over(keys, values)
     }
 
-    /// The values by value, from the front. What isn't taken is dropped with the walk.
+    /// Returns an iterator over the values by value, from the front. Pairs that aren't taken are dropped with it.
     #[inline]
     pub fn into_values(self) -> IntoValues<K, V, N>
         ensures answer { result ≡ values_of self }
@@ -63,7 +63,9 @@ impl<K: Eq, V, const N: usize> Map<K, V, N> {
 }
 
 impl<K: Eq + Drop, V: Drop, const N: usize> Map<K, V, N> {
-    /// Takes all pairs out, from the front. The map is empty at once; what isn't taken is dropped with the walk.
+    /// Removes all pairs, and returns an iterator over them by value, from the front.
+    ///
+    /// The map is empty as soon as the call returns. Pairs that aren't taken are dropped with the iterator.
     #[inline]
     pub fn drain(&mut self) -> Drain<K, V, N>
         ensures answer { result ≡ self.old }
@@ -78,7 +80,7 @@ impl<K: Eq + Drop, V: Drop, const N: usize> Map<K, V, N> {
     }
 }
 
-/// A loop over a map gives its pairs away from the front. What isn't taken is dropped with the walk.
+/// A loop over a map yields its pairs by value, from the front. Pairs that aren't taken are dropped with the iterator.
 impl<K: Eq + Drop, V: Drop, const N: usize> IntoIterator for Map<K, V, N> {
     type Item = (K, V);
 
@@ -93,7 +95,7 @@ impl<K: Eq + Drop, V: Drop, const N: usize> IntoIterator for Map<K, V, N> {
     }
 }
 
-/// A loop over a reference to a map lends its pairs from the front.
+/// A loop over a reference to a map yields references to its keys and values, from the front.
 impl<'a, K: Eq, V, const N: usize> IntoIterator for &'a Map<K, V, N> {
     type Item = (&'a K, &'a V);
 

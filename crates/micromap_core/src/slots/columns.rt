@@ -1,4 +1,4 @@
-//! The keys and the values of a map, each in slots of their own: a pair is a key and the value at the same index.
+//! The keys and the values of a map, each in slots of their own. A pair is a key and the value at the same index.
 ghost use Rattle.std.specs.Prelude.{◌≡◌, ◌<◌, ◌≤◌, [], ◌∷◌, ◌++◌, length, take, All, Some, IsOk, IfOk, slice_get, slice_set};
 ghost use Rattle.std.specs.Borrow.{sem};
 ghost use Rattle.std.specs.List.{AllZip, remove, swap, zip};
@@ -17,7 +17,7 @@ use std::alloc::AllocError;
 use std::marker::Model;
 use std::mem;
 
-/// At most `N` pairs. A contract sees their list, from front to end.
+/// A list of at most `N` pairs. A contract sees it as that list, from front to end.
 #[derive(Drop)]
 pub(crate) struct Columns<K, V, const N: usize> {
     keys: Slots<K, N>,
@@ -36,7 +36,7 @@ impl<K, V, const N: usize> Model for Columns<K, V, N> {
 }
 
 impl<K, V, const N: usize> Columns<K, V, N> {
-    /// No pair.
+    /// Creates an empty list.
     #[inline]
     pub(crate) fn new() -> Self
         ensures { result ≡ [] }
@@ -47,7 +47,7 @@ impl<K, V, const N: usize> Columns<K, V, N> {
         }
     }
 
-    /// The number of pairs.
+    /// Returns the number of pairs.
     #[inline]
     pub(crate) fn len(&self) -> usize
         ensures answer { result ≡ length self.now }
@@ -59,7 +59,7 @@ impl<K, V, const N: usize> Columns<K, V, N> {
         keys
     }
 
-    /// The slots of the keys.
+    /// Returns the slots of the keys.
     #[inline]
     pub(crate) fn keys(&self) -> &[Option<K>]
         ensures filled { AreFilled result.now }
@@ -68,7 +68,7 @@ impl<K, V, const N: usize> Columns<K, V, N> {
         self.keys.as_slice()
     }
 
-    /// The slots of the values.
+    /// Returns the slots of the values.
     #[inline]
     pub(crate) fn values(&self) -> &[Option<V>]
         ensures filled { AreFilled result.now }
@@ -77,7 +77,7 @@ impl<K, V, const N: usize> Columns<K, V, N> {
         self.values.as_slice()
     }
 
-    /// The slots of both.
+    /// Returns the slots of both.
     #[inline]
     pub(crate) fn as_slices(&self) -> (&[Option<K>], &[Option<V>])
         ensures keys { AreFilled result.0.now }
@@ -88,7 +88,7 @@ impl<K, V, const N: usize> Columns<K, V, N> {
         (self.keys.as_slice(), self.values.as_slice())
     }
 
-    /// The slots of both by value.
+    /// Returns the slots of both by value.
     #[inline]
     pub(crate) fn into_array_vecs(self) -> (ArrayVec<Option<K>, N>, ArrayVec<Option<V>, N>)
         ensures keys { AreFilled result.0.items }
@@ -100,7 +100,7 @@ impl<K, V, const N: usize> Columns<K, V, N> {
         (keys.into_array_vec(), values.into_array_vec())
     }
 
-    /// The pair at `index`.
+    /// Returns references to the key and the value at `index`.
     #[inline]
     pub(crate) fn pair_at(&self, index: usize) -> (&K, &V)
         requires { index < length self.now }
@@ -109,7 +109,7 @@ impl<K, V, const N: usize> Columns<K, V, N> {
         (self.keys.item_at(index), self.values.item_at(index))
     }
 
-    /// The value at `index`, for writing.
+    /// Returns a mutable reference to the value at `index`.
     #[inline]
     pub(crate) fn value_at(&mut self, index: usize) -> &mut V
         requires { index < length self.old }
@@ -119,7 +119,7 @@ impl<K, V, const N: usize> Columns<K, V, N> {
         self.values.item_at_mut(index)
     }
 
-    /// Calls `visit` at the pair at `index`.
+    /// Calls `visit` on the pair at `index`.
     #[inline]
     pub(crate) fn visit_at<R, F: FnMut(&K, &mut V) -> R>(
         &mut self,
@@ -133,7 +133,7 @@ impl<K, V, const N: usize> Columns<K, V, N> {
         visit(self.keys.item_at(index), self.values.item_at_mut(index))
     }
 
-    /// Writes the pair at `index`, and answers the old one.
+    /// Replaces the pair at `index`, and returns the old one.
     #[inline]
     pub(crate) fn replace_at(&mut self, index: usize, key: K, value: V) -> (K, V)
         requires { index < length self.old }
@@ -146,7 +146,7 @@ impl<K, V, const N: usize> Columns<K, V, N> {
         )
     }
 
-    /// Puts each of two pairs in the other's place.
+    /// Swaps two pairs.
     #[inline]
     pub(crate) fn swap(&mut self, a: usize, b: usize)
         requires a_in_bounds { a < length self.old }
@@ -159,7 +159,7 @@ impl<K, V, const N: usize> Columns<K, V, N> {
 }
 
 impl<K: Drop, V: Drop, const N: usize> Columns<K, V, N> {
-    /// The same pairs in `M` slots of each column, each moved once.
+    /// Returns the same pairs in `M` slots of each column. Moves each once.
     #[inline]
     pub(crate) fn into_capacity<const M: usize>(self) -> Columns<K, V, M>
         requires { length self ≤ M }
@@ -172,7 +172,7 @@ impl<K: Drop, V: Drop, const N: usize> Columns<K, V, N> {
         }
     }
 
-    /// Puts a pair last.
+    /// Inserts a pair last.
     #[inline]
     pub(crate) fn push(&mut self, key: K, value: V)
         requires { length self.old < N }
@@ -184,7 +184,7 @@ impl<K: Drop, V: Drop, const N: usize> Columns<K, V, N> {
         self.values.push(value);
     }
 
-    /// Takes the pair at `index` out; those behind it move up by one.
+    /// Removes and returns the pair at `index`. Those behind it move up by one.
     #[inline]
     pub(crate) fn remove(&mut self, index: usize) -> (K, V)
         requires { index < length self.old }
@@ -207,9 +207,10 @@ impl<K: Drop, V: Drop, const N: usize> Columns<K, V, N> {
         self.values.truncate(len);
     }
 
-    /// Keeps the pairs for which `keep` answers `true`, in their order, and drops the others. Each kept pair is moved
-    /// behind those kept before it, and the one that stands there waits in its place for its end, so that no slot is
-    /// ever empty.
+    /// Keeps the pairs for which `keep` returns `true`, in their order, and drops the others.
+    ///
+    /// Each kept pair is swapped with the one that stands directly behind those kept before it, which is dropped at the
+    /// end. So no slot is ever empty.
     #[inline]
     pub(crate) fn retain<F: FnMut(&K, &mut V) -> bool>(&mut self, mut keep: F)
         requires { CallableOnEachPair (CalledOnPair F.FnMut) (AcceptsPair F.FnMut) keep self.old }
@@ -225,7 +226,7 @@ impl<K: Drop, V: Drop, const N: usize> Columns<K, V, N> {
         self.truncate(kept);
     }
 
-    /// Drops every pair.
+    /// Removes and drops every pair.
     #[inline]
     pub(crate) fn clear(&mut self)
         ensures { self.new ≡ [] }
@@ -236,8 +237,8 @@ impl<K: Drop, V: Drop, const N: usize> Columns<K, V, N> {
 }
 
 impl<K: Clone + Drop, V: Clone + Drop, const N: usize> Columns<K, V, N> {
-    /// The clones of the keys and then of the values, in the same order. `Err` comes only where a clone of one answers
-    /// so.
+    /// Returns the clones of the keys and then of the values, in the same order. The result is `Err` only if the clone
+    /// of one is.
     #[inline]
     pub(crate) fn clone(&self) -> Result<Self, AllocError>
         ensures clones { IfOk result (AllZip (IsPairClone K.is_clone V.is_clone) self.now) }

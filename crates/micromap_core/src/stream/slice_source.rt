@@ -1,4 +1,4 @@
-//! A source over pairs that are there.
+//! A source over the pairs of a slice.
 ghost use Rattle.std.specs.Prelude.{◌≡◌, None};
 
 use super::EntrySource;
@@ -6,7 +6,7 @@ use std::convert::Infallible;
 use std::marker::Model;
 use std::slice;
 
-/// A source that gives copies of the pairs of a slice, from the front. It never fails.
+/// A source that yields copies of the pairs of a slice, from the front. It never fails.
 ///
 /// A contract sees it as the list of the pairs left.
 #[derive(Drop)]
@@ -24,7 +24,7 @@ impl<'a, K, V> Model for SliceSource<'a, K, V> {
 }
 
 impl<'a, K, V> SliceSource<'a, K, V> {
-    /// A source over the pairs of `entries`.
+    /// Creates a source over the pairs of `entries`.
     pub fn over(entries: &'a [(K, V)]) -> Self
         ensures { result ≡ entries.now }
     {
@@ -33,7 +33,7 @@ impl<'a, K, V> SliceSource<'a, K, V> {
         }
     }
 
-    /// The pairs left.
+    /// Returns the pairs left.
     pub fn left(&self) -> &[(K, V)]
         ensures { result.now ≡ self.now }
     {

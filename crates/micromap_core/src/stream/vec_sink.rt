@@ -1,13 +1,13 @@
-//! A sink that keeps what it takes.
+//! A sink that stores the pairs that it takes.
 ghost use Rattle.std.specs.Prelude.{◌≡◌, [], None};
 
 use super::EntrySink;
 use std::alloc::{AllocError, Global};
 use std::marker::Model;
 
-/// A sink that keeps copies of the pairs in a `Vec`. Its faults are requests for memory that were refused.
+/// A sink that stores copies of the pairs in a `Vec`. Its errors are refused requests for memory.
 ///
-/// A contract sees it as the pairs taken, the number of faults and the last of them.
+/// A contract sees it as the pairs taken, the number of errors and the last of them.
 #[derive(Drop)]
 pub struct VecSink<K, V> {
     entries: Vec<(K, V)>,
@@ -25,7 +25,7 @@ impl<K, V> Model for VecSink<K, V> {
 }
 
 impl<K, V> VecSink<K, V> {
-    /// A sink that has taken nothing.
+    /// Creates a sink that has taken nothing.
     pub fn new(alloc: Global) -> Self
         ensures entries { result.entries ≡ [] }
         ensures faults { result.faults ≡ 0 }
@@ -38,14 +38,14 @@ impl<K, V> VecSink<K, V> {
         }
     }
 
-    /// The pairs taken, in the order in which they came.
+    /// Returns the pairs taken, in the order in which they came.
     pub fn entries(&self) -> &[(K, V)]
         ensures { result.now ≡ self.now.entries }
     {
         &self.entries
     }
 
-    /// The pairs taken, by value.
+    /// Returns the pairs taken, by value.
     pub fn into_entries(self) -> Vec<(K, V)>
         ensures { result.items ≡ self.entries }
     {

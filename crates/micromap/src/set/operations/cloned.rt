@@ -10,11 +10,11 @@ use crate::Set;
 use std::alloc::AllocError;
 
 impl<T: Eq + Clone + Drop, const N: usize> Set<T, N> {
-    /// A set of the clones of the items with an equal one in `other`, in their order. An item's clone must be equal to
-    /// the item.
+    /// Returns a set of the clones of the items that have an equal one in `other`, in their order.
     ///
-    /// It takes no memory of its own, so the answer is `Err` only where a clone of a member is. Then what was cloned is
-    /// dropped. It costs what `intersection` costs, and for each member one scan of those before it.
+    /// Requires that an item's clone is equal to the item. The result is `Err` only if the clone of a member is; then
+    /// the clones made so far are dropped. The call allocates no memory of its own. It costs what `intersection` costs,
+    /// and for each member one scan of those before it.
     pub fn bitand<const M: usize>(&self, other: &Set<T, M>) -> Result<Self, AllocError>
         requires { ClonesAreEqual T.eq T.is_clone }
         ensures clones { IfOk result (AllZip T.is_clone (intersection T.eq self.now other.now)) }
@@ -31,11 +31,11 @@ impl<T: Eq + Clone + Drop, const N: usize> Set<T, N> {
         Ok(both)
     }
 
-    /// A set of the clones of the items without an equal one in `other`, in their order. An item's clone must be equal
-    /// to the item.
+    /// Returns a set of the clones of the items that have no equal one in `other`, in their order.
     ///
-    /// It takes no memory of its own, so the answer is `Err` only where a clone of a member is. Then what was cloned is
-    /// dropped. It costs what `difference` costs, and for each member one scan of those before it.
+    /// Requires that an item's clone is equal to the item. The result is `Err` only if the clone of a member is; then
+    /// the clones made so far are dropped. The call allocates no memory of its own. It costs what `difference` costs,
+    /// and for each member one scan of those before it.
     pub fn sub<const M: usize>(&self, other: &Set<T, M>) -> Result<Self, AllocError>
         requires { ClonesAreEqual T.eq T.is_clone }
         ensures clones { IfOk result (AllZip T.is_clone (difference T.eq self.now other.now)) }

@@ -15,10 +15,10 @@ use std::fmt;
 use std::iter::FusedIterator;
 use std::marker::Model;
 
-/// The items of one set without an equal one in another, by `Set::difference`.
+/// An iterator over the items of one set without an equal one in another. `Set::difference` returns it.
 ///
-/// A call of `next` walks the set up to and including the next member, or to its end. For each item that it walks it
-/// scans the other set once, for a member all of it.
+/// A call of `next` goes through the set up to and including the next member, or to its end. It makes one scan of the
+/// other set for each item passed: for a member a scan of the whole set.
 pub type Difference<'a, 'b, T, const M: usize> = DifferenceIn<'a, 'b, T, Set<T, M>>;
 
 /// A `Difference` from the set `O`.
@@ -39,7 +39,7 @@ impl<'a, 'b, T: Eq, O> Model for DifferenceIn<'a, 'b, T, O> {
     ghost invariant = { λ d. IsDistinct T.eq d.rest };
 }
 
-/// A clone goes on where the iterator stands. It never lacks memory.
+/// A clone has the same items left. The result is always `Ok`.
 impl<'a, 'b, T: Eq, O> Clone for DifferenceIn<'a, 'b, T, O> {
     ghost is_clone = { λ walk new. new ≡ walk };
 
@@ -82,7 +82,7 @@ impl<'a, 'b, T: Eq, const M: usize> Iterator for DifferenceIn<'a, 'b, T, Set<T, 
 
 impl<'a, 'b, T: Eq, const M: usize> FusedIterator for DifferenceIn<'a, 'b, T, Set<T, M>> {}
 
-/// As the list of what is left.
+/// Prints the list of the members left.
 impl<'a, 'b, T: Eq + fmt::Debug, const M: usize> fmt::Debug for DifferenceIn<'a, 'b, T, Set<T, M>> {
     fn fmt<W: fmt::Write>(&self, f: &mut fmt::Formatter<W>) -> fmt::Result {
         f.debug_list().entries(self.clone().unwrap()).finish()
@@ -90,9 +90,9 @@ impl<'a, 'b, T: Eq + fmt::Debug, const M: usize> fmt::Debug for DifferenceIn<'a,
 }
 
 impl<T: Eq, const N: usize> Set<T, N> {
-    /// The items of this set without an equal one in `other`, in their order.
+    /// Returns an iterator over the items of this set that have no equal one in `other`, in their order.
     ///
-    /// Making it compares nothing. All calls of `next` together scan `other` once for each item of this set.
+    /// Making it compares nothing. All calls of `next` together make one scan of `other` for each item of this set.
     #[tactic(auto, unfolding(crate::specs::Operations::difference_left))]
     pub fn difference<'a, 'b, const M: usize>(
         &'a self,

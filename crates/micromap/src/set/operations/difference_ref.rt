@@ -16,7 +16,8 @@ use std::fmt;
 use std::iter::FusedIterator;
 use std::marker::Model;
 
-/// The references of one set to items without an equal one in another, by `Set::difference_ref`.
+/// An iterator over the references of one set to items without an equal one in another. `Set::difference_ref` returns
+/// it.
 ///
 /// It costs what a `Difference` costs.
 pub type DifferenceRef<'a, 's, T, const M: usize> = DifferenceRefIn<'s, &'a T, Set<&'a T, M>>;
@@ -35,7 +36,7 @@ impl<'s, R: Eq, O> Model for DifferenceRefIn<'s, R, O> {
     ghost view = { λ d. d.items };
 }
 
-/// A clone goes on where the iterator stands. It never lacks memory.
+/// A clone has the same items left. The result is always `Ok`.
 impl<'s, R: Eq, O> Clone for DifferenceRefIn<'s, R, O> {
     ghost is_clone = { λ walk new. new ≡ walk };
 
@@ -72,7 +73,7 @@ impl<'a, 's, T: Eq, const M: usize> Iterator for DifferenceRefIn<'s, &'a T, Set<
 
 impl<'a, 's, T: Eq, const M: usize> FusedIterator for DifferenceRefIn<'s, &'a T, Set<&'a T, M>> {}
 
-/// As the list of what is left.
+/// Prints the list of the members left.
 impl<'a, 's, T: Eq + fmt::Debug, const M: usize> fmt::Debug
     for DifferenceRefIn<'s, &'a T, Set<&'a T, M>> {
     fn fmt<W: fmt::Write>(&self, f: &mut fmt::Formatter<W>) -> fmt::Result {
@@ -81,10 +82,11 @@ impl<'a, 's, T: Eq + fmt::Debug, const M: usize> fmt::Debug
 }
 
 impl<'a, T: Eq, const N: usize> Set<&'a T, N> {
-    /// The references of this set to items without an equal one behind a reference of `other`, in their order. They
-    /// live as long as the items, and may outlive both sets.
+    /// Returns an iterator over the references of this set to items that have no equal one behind a reference of
+    /// `other`, in their order.
     ///
-    /// Making it compares nothing. All calls of `next` together scan `other` once for each reference of this set.
+    /// The references live as long as the items, and may outlive both sets. Making the iterator compares nothing. All
+    /// calls of `next` together make one scan of `other` for each reference of this set.
     pub fn difference_ref<'s, const M: usize>(
         &'s self,
         other: &'s Set<&'a T, M>,

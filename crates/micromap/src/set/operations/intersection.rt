@@ -15,10 +15,10 @@ use std::fmt;
 use std::iter::FusedIterator;
 use std::marker::Model;
 
-/// The items of one set with an equal one in another, by `Set::intersection`.
+/// An iterator over the items of one set with an equal one in another. `Set::intersection` returns it.
 ///
-/// A call of `next` walks the set up to and including the next member, or to its end. For each item that it walks it
-/// scans the other set once, for a member up to the equal item.
+/// A call of `next` goes through the set up to and including the next member, or to its end. It makes one scan of the
+/// other set for each item passed: for a member a scan up to the equal item.
 pub type Intersection<'a, T, const M: usize> = IntersectionIn<'a, T, Set<T, M>>;
 
 /// An `Intersection` with the set `O`.
@@ -39,7 +39,7 @@ impl<'a, T: Eq, O> Model for IntersectionIn<'a, T, O> {
     ghost invariant = { λ i. IsDistinct T.eq i.rest };
 }
 
-/// A clone goes on where the iterator stands. It never lacks memory.
+/// A clone has the same items left. The result is always `Ok`.
 impl<'a, T: Eq, O> Clone for IntersectionIn<'a, T, O> {
     ghost is_clone = { λ walk new. new ≡ walk };
 
@@ -81,7 +81,7 @@ impl<'a, T: Eq, const M: usize> Iterator for IntersectionIn<'a, T, Set<T, M>> {
 
 impl<'a, T: Eq, const M: usize> FusedIterator for IntersectionIn<'a, T, Set<T, M>> {}
 
-/// As the list of what is left.
+/// Prints the list of the members left.
 impl<'a, T: Eq + fmt::Debug, const M: usize> fmt::Debug for IntersectionIn<'a, T, Set<T, M>> {
     fn fmt<W: fmt::Write>(&self, f: &mut fmt::Formatter<W>) -> fmt::Result {
         f.debug_list().entries(self.clone().unwrap()).finish()
@@ -89,9 +89,9 @@ impl<'a, T: Eq + fmt::Debug, const M: usize> fmt::Debug for IntersectionIn<'a, T
 }
 
 impl<T: Eq, const N: usize> Set<T, N> {
-    /// The items of this set with an equal one in `other`, in their order.
+    /// Returns an iterator over the items of this set that have an equal one in `other`, in their order.
     ///
-    /// Making it compares nothing. All calls of `next` together scan `other` once for each item of this set.
+    /// Making it compares nothing. All calls of `next` together make one scan of `other` for each item of this set.
     #[tactic(auto, unfolding(crate::specs::Operations::intersection_left))]
     pub fn intersection<'a, const M: usize>(
         &'a self,

@@ -16,7 +16,8 @@ use std::fmt;
 use std::iter::FusedIterator;
 use std::marker::Model;
 
-/// The items of either of two sets without an equal one in the other, by `Set::symmetric_difference`.
+/// An iterator over the items of either of two sets without an equal one in the other. `Set::symmetric_difference`
+/// returns it.
 ///
 /// It is one `Difference` and then the other, and costs what they cost.
 pub type SymmetricDifference<'a, T, const N: usize, const M: usize> = SymmetricDifferenceIn<
@@ -41,7 +42,7 @@ impl<'a, T: Eq, O, P> Model for SymmetricDifferenceIn<'a, T, O, P> {
     ghost view = { λ s. record { first = s.first; second = s.second } };
 }
 
-/// A clone goes on where the iterator stands. It never lacks memory.
+/// A clone has the same items left. The result is always `Ok`.
 impl<'a, T: Eq, O, P> Clone for SymmetricDifferenceIn<'a, T, O, P> {
     ghost is_clone = { λ walk new. new ≡ walk };
 
@@ -85,7 +86,7 @@ impl<'a, T: Eq, const N: usize, const M: usize> Iterator
 impl<'a, T: Eq, const N: usize, const M: usize> FusedIterator
     for SymmetricDifferenceIn<'a, T, Set<T, M>, Set<T, N>> {}
 
-/// As the list of what is left.
+/// Prints the list of the members left.
 impl<'a, T: Eq + fmt::Debug, const N: usize, const M: usize> fmt::Debug
     for SymmetricDifferenceIn<'a, T, Set<T, M>, Set<T, N>> {
     fn fmt<W: fmt::Write>(&self, f: &mut fmt::Formatter<W>) -> fmt::Result {
@@ -94,9 +95,10 @@ impl<'a, T: Eq + fmt::Debug, const N: usize, const M: usize> fmt::Debug
 }
 
 impl<T: Eq, const N: usize> Set<T, N> {
-    /// The items of this set without an equal one in `other`, then the other way round, each in their order.
+    /// Returns an iterator over the items of this set that have no equal one in `other`, then over those of `other`
+    /// that have none in this set, each in their order.
     ///
-    /// Making it compares nothing. All calls of `next` together scan each set once for each item of the other.
+    /// Making it compares nothing. All calls of `next` together make one scan of each set for each item of the other.
     #[tactic(auto, unfolding(crate::specs::Operations::symmetric_difference, crate::specs::Operations::symmetric_left))]
     pub fn symmetric_difference<'a, const M: usize>(
         &'a self,

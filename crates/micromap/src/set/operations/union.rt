@@ -17,10 +17,10 @@ use std::fmt;
 use std::iter::FusedIterator;
 use std::marker::Model;
 
-/// The items of either of two sets, by `Set::union`.
+/// An iterator over the items of either of two sets. `Set::union` returns it.
 ///
-/// The other set's items come first, and cost no comparison; then those that the set has beyond them, which cost what
-/// they cost in a `Difference`.
+/// The other set's items come first, and cost no comparison. Then come the items of this set without an equal one among
+/// them, which cost what they cost in a `Difference`.
 pub type Union<'a, T, const M: usize> = UnionIn<'a, T, Set<T, M>>;
 
 /// A `Union` with the set `O`.
@@ -38,7 +38,7 @@ impl<'a, T: Eq, O> Model for UnionIn<'a, T, O> {
     ghost view = { λ u. record { others = u.others; beyond = u.beyond } };
 }
 
-/// A clone goes on where the iterator stands. It never lacks memory.
+/// A clone has the same items left. The result is always `Ok`.
 impl<'a, T: Eq, O> Clone for UnionIn<'a, T, O> {
     ghost is_clone = { λ walk new. new ≡ walk };
 
@@ -80,7 +80,7 @@ impl<'a, T: Eq, const M: usize> Iterator for UnionIn<'a, T, Set<T, M>> {
 
 impl<'a, T: Eq, const M: usize> FusedIterator for UnionIn<'a, T, Set<T, M>> {}
 
-/// As the list of what is left.
+/// Prints the list of the members left.
 impl<'a, T: Eq + fmt::Debug, const M: usize> fmt::Debug for UnionIn<'a, T, Set<T, M>> {
     fn fmt<W: fmt::Write>(&self, f: &mut fmt::Formatter<W>) -> fmt::Result {
         f.debug_list().entries(self.clone().unwrap()).finish()
@@ -88,9 +88,10 @@ impl<'a, T: Eq + fmt::Debug, const M: usize> fmt::Debug for UnionIn<'a, T, Set<T
 }
 
 impl<T: Eq, const N: usize> Set<T, N> {
-    /// The items of `other`, then those of this set without an equal one in `other`, each in their order.
+    /// Returns an iterator over the items of `other`, then over those of this set that have no equal one in `other`,
+    /// each in their order.
     ///
-    /// Making it compares nothing. All calls of `next` together scan `other` once for each item of this set.
+    /// Making it compares nothing. All calls of `next` together make one scan of `other` for each item of this set.
     #[tactic(auto, unfolding(crate::specs::Operations::union, crate::specs::Operations::union_left))]
     pub fn union<'a, const M: usize>(&'a self, other: &'a Set<T, M>) -> Union<'a, T, M>
         ensures walk { result ≡ record { others = other.now; beyond = record { rest = self.now; other = other.now } } }
