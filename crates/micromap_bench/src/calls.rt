@@ -22,7 +22,7 @@ pub enum Call<K, V> {
     Clear,
 }
 
-// What a call answers.
+// What a call returns.
 #[derive(Clone, Copy)]
 enum Answer<K, V> {
     Value(Option<V>),
@@ -33,10 +33,10 @@ enum Answer<K, V> {
     Refused,
 }
 
-/// Runs every call on both maps, also after a difference, and answers whether all answers agreed.
+/// Runs every call on both maps, even after a difference, and returns whether all results agreed.
 ///
-/// An insertion that doesn't fit changes nothing and answers that it was refused, which agrees with a refusal alone.
-/// On two maps that are the same, calls that are fair to both are answered alike and leave the two the same.
+/// An insertion that doesn't fit changes nothing and is refused. A refusal agrees with a refusal alone. On two maps
+/// that are the same, calls that are fair to both have results that agree, and leave the two the same.
 pub fn lockstep<K: Eq + Copy, V: Eq + Copy, const N: usize, const M: usize>(
     first: &mut Map<K, V, N>,
     second: &mut Map<K, V, M>,
@@ -50,7 +50,7 @@ pub fn lockstep<K: Eq + Copy, V: Eq + Copy, const N: usize, const M: usize>(
         → IsFair K.eq N M first.old second.old (map call_of calls.now)
         → IsTrue result × Same K.eq V.eq first.new second.new }
 {
-    // What holds of each map's content is learnt from `len`.
+    // `len` ensures what is true of each map's content.
     let _held = (first.len(), second.len());
     let mut agreed = true;
     for call in calls {
@@ -98,7 +98,7 @@ fn perform<K: Eq + Copy, V: Copy, const N: usize>(
     }
 }
 
-// Whether two answers agree.
+// Returns whether two results agree.
 fn agrees<K: Eq, V: Eq>(one: &Answer<K, V>, other: &Answer<K, V>) -> bool
     ensures { result ≡ agree K.eq V.eq (answer_of one.now) (answer_of other.now) }
 {

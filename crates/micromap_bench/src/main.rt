@@ -1,4 +1,4 @@
-//! Performs worked rows over the library, and says of each whether it came out.
+//! Performs worked rows over the library, and writes for each whether it came out.
 #![tactic(auto)]
 
 ghost use Rattle.std.specs.Prelude.{◌≡◌, ◌≤◌};
@@ -18,7 +18,7 @@ use std::process::ExitCode;
 
 /// Performs the rows in the order of their numbers, and writes `row <n>: ok` or `row <n>: wrong` for each.
 ///
-/// The answer is 0 where all are ok and every line was written, else 1. The first failed write ends the run.
+/// The result is 0 if all are ok and every line was written, else 1. The first failed write ends the run.
 pub fn run_rows<W: Write>(alloc: Global, out: &mut W) -> u8
     ensures answer { result ≤ 1 }
     ensures lines { result ≡ 0 →

@@ -6,10 +6,9 @@ ghost use Rattle.micromap_bench.specs.Report.{Reports};
 
 use std::io::{self, Write};
 
-/// Writes `row <n>: ok` or `row <n>: wrong` for each row, before the next is asked for. A row is its number, and
-/// whether it is ok.
+/// Writes `row <n>: ok` or `row <n>: wrong` for each row, before it takes the next, and returns whether all are ok.
 ///
-/// The answer is whether all are ok. The first failed write ends the report, with its error.
+/// A row is its number, and whether it is ok. The first failed write ends the report, with its error.
 pub fn write_report<I: Iterator<Item = (u8, bool)>, W: Write>(
     rows: I,
     out: &mut W,

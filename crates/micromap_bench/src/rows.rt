@@ -20,7 +20,8 @@ pub const NUMBERS: [u8; 32] = [
     27, 28, 29, 30, 31, 32,
 ];
 
-/// Whether the values of the row came out, or `None` where there is no such row. A row that finds no memory is wrong.
+/// Returns whether the values of the row came out, or `None` if there is no such row. A row that finds no memory is
+/// wrong.
 pub fn row(alloc: Global, number: u8) -> Option<bool>
     ensures { is_some result ≡ list_any (λ n. n == number) NUMBERS }
 {

@@ -1,5 +1,5 @@
-//! Performs calls on maps and sets of the library. A call is refused where what it asks for doesn't hold, and then
-//! nothing has changed.
+//! Performs calls on maps and sets of the library. A call is refused if its precondition isn't met, and then nothing
+//! has changed.
 mod entry;
 mod keyed;
 mod map;

@@ -14,7 +14,7 @@ use std::alloc::{AllocError, Global};
 /// The attributes of one element.
 pub type Attributes<const N: usize> = Map<String, String, N>;
 
-/// Sets an attribute, at its index or at the end, and answers whether there was room for it.
+/// Sets an attribute, at its index or at the end, and returns whether there was room for it.
 #[tactic(auto, using(micromap_core::proofs::TextViews::text_views))]
 pub fn set<const N: usize>(
     alloc: Global,
@@ -31,7 +31,7 @@ pub fn set<const N: usize>(
     Ok(list.checked_insert(name, value).is_some())
 }
 
-/// The value of an attribute, or the default.
+/// Returns the value of an attribute, or the default.
 #[tactic(auto, using(micromap_core::proofs::TextViews::text_views))]
 pub fn value_or<'a, const N: usize>(
     list: &'a Attributes<N>,
@@ -46,8 +46,8 @@ pub fn value_or<'a, const N: usize>(
     }
 }
 
-/// Moves the value of one attribute to another name, which stands at its index or at the end. Answers whether there was
-/// such a value.
+/// Moves the value of one attribute to another name, which stands at its index or at the end, and returns whether there
+/// was such a value.
 #[tactic(auto, using(micromap_core::proofs::TextViews::text_views, micromap_core::proofs::MapLaws::map_laws))]
 pub fn rename<const N: usize>(list: &mut Attributes<N>, from: &str, to: String) -> bool
     ensures answer { result ≡ has same_text (texts list.old) from.now }
@@ -62,7 +62,7 @@ pub fn rename<const N: usize>(list: &mut Attributes<N>, from: &str, to: String) 
     }
 }
 
-/// Removes an attribute, and answers whether it was there.
+/// Removes an attribute, and returns whether it was there.
 #[tactic(auto, using(micromap_core::proofs::TextViews::text_views))]
 pub fn remove<const N: usize>(list: &mut Attributes<N>, name: &str) -> bool
     ensures answer { result ≡ has same_text (texts list.old) name.now }
@@ -71,7 +71,7 @@ pub fn remove<const N: usize>(list: &mut Attributes<N>, name: &str) -> bool
     list.remove_by(&Text(name)).is_some()
 }
 
-/// The text of the list, as `{name: value, name: value}`.
+/// Returns the text of the list, as `{name: value, name: value}`.
 #[tactic(auto, using(micromap_core::proofs::TextViews::text_views))]
 pub fn text<const N: usize>(alloc: Global, list: &Attributes<N>) -> Result<String, AllocError>
     ensures { IfOk result (λ text. map_text (λ name. Some name) (λ value. Some value) (texts list.now) ≡ Some (string_bytes text)) }

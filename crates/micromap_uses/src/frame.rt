@@ -1,7 +1,7 @@
 //! The variables of an interpreter's frame, and the value of an expression over them.
 //!
-//! A variable is named by a number, as an interpreter does that has read its source once. A frame keeps at most `N` of
-//! them, in the order in which they came.
+//! A number names a variable, as in an interpreter that has read its source once. A frame keeps at most `N` variables,
+//! in the order in which they came.
 ghost use Rattle.std.specs.Prelude.{◌≡◌, nat_eq, if◌then◌else◌, is_some, Ok};
 ghost use Rattle.micromap.specs.Pairs.{at, fits, has, put};
 ghost use Rattle.micromap_uses.specs.Frame.{value};
@@ -12,7 +12,7 @@ use std::alloc::AllocError;
 /// The variables of one scope.
 pub type Frame<const N: usize> = Map<u32, i64, N>;
 
-/// Gives a variable a value, a new one where there is room for it, and answers whether it has the value now.
+/// Gives a variable a value, and returns whether it has that value now. A new variable gets one only if there is room.
 pub fn assign<const N: usize>(frame: &mut Frame<N>, name: u32, value: i64) -> bool
     ensures answer { result ≡ fits nat_eq N frame.old name }
     ensures frame { frame.new ≡ (if fits nat_eq N frame.old name then put nat_eq frame.old name value else frame.old) }
@@ -20,7 +20,7 @@ pub fn assign<const N: usize>(frame: &mut Frame<N>, name: u32, value: i64) -> bo
     frame.checked_insert(name, value).is_some()
 }
 
-/// Gives a variable that is there another value, and answers whether it is there.
+/// Gives a variable that is there another value, and returns whether it is there.
 pub fn update<const N: usize>(frame: &mut Frame<N>, name: u32, value: i64) -> bool
     ensures answer { result ≡ has nat_eq frame.old name }
     ensures frame { frame.new ≡ (if has nat_eq frame.old name then put nat_eq frame.old name value else frame.old) }
@@ -34,7 +34,7 @@ pub fn update<const N: usize>(frame: &mut Frame<N>, name: u32, value: i64) -> bo
     }
 }
 
-/// A frame for an inner scope: it begins as a copy, and what is assigned there isn't seen outside.
+/// Creates the frame of an inner scope. It begins as a copy, and what is assigned there isn't seen outside.
 pub fn inner<const N: usize>(frame: &Frame<N>) -> Result<Frame<N>, AllocError>
     ensures { result ≡ Ok frame.now }
 {
@@ -53,7 +53,7 @@ pub enum Expression {
 }
 
 impl Expression {
-    /// The value of the expression, or `None` where a variable has none, or a scope has no room for a new one.
+    /// Returns the value of the expression, or `None` if a variable has no value or a scope has no room for a new one.
     pub fn value<const N: usize>(&self, frame: &Frame<N>) -> Option<i64>
         ensures { result ≡ value N frame.now self.now }
     {

@@ -35,7 +35,7 @@ impl Model for Graph {
 }
 
 impl Graph {
-    /// A graph with no edge.
+    /// Creates a graph with no edge.
     pub fn new() -> Self
         ensures { (x y : ℕ) → leads result x y ≡ false }
     {
@@ -44,7 +44,7 @@ impl Graph {
         }
     }
 
-    /// Whether there is an edge between two nodes.
+    /// Returns `true` if there is an edge between two nodes.
     pub fn has_edge(&self, a: u8, b: u8) -> bool
         requires { a < NODES }
         ensures answer { result ≡ leads self.now a b }
@@ -53,7 +53,7 @@ impl Graph {
         self.nodes[usize::from(a)].contains(&b)
     }
 
-    /// The number of a node's neighbours.
+    /// Returns the number of a node's neighbours.
     pub fn degree(&self, a: u8) -> usize
         requires { a < NODES }
         ensures { result ≡ length (neighbours self.now a) }
@@ -61,7 +61,7 @@ impl Graph {
         self.nodes[usize::from(a)].len()
     }
 
-    /// A node's neighbours.
+    /// Returns a node's neighbours.
     pub fn neighbours(&self, a: u8) -> Iter<'_, u8>
         requires { a < NODES }
         ensures answer { result ≡ neighbours self.now a }
@@ -70,7 +70,7 @@ impl Graph {
         self.nodes[usize::from(a)].iter()
     }
 
-    /// Puts an edge in both directions, or answers that one of the two nodes has no room for it.
+    /// Adds an edge in both directions, or returns that one of the two nodes has no room for it.
     pub fn add_edge(&mut self, a: u8, b: u8) -> bool
         requires a_is_node { a < NODES }
         requires b_is_node { b < NODES }
@@ -87,7 +87,7 @@ impl Graph {
         true
     }
 
-    /// Takes an edge out in both directions, and answers whether it was there.
+    /// Removes an edge in both directions, and returns whether it was there.
     pub fn remove_edge(&mut self, a: u8, b: u8) -> bool
         requires a_is_node { a < NODES }
         requires b_is_node { b < NODES }
@@ -100,8 +100,9 @@ impl Graph {
         was_there
     }
 
-    /// The nodes to which edges lead from a node, itself among them. A search into depth finds them, in its order; it
-    /// looks at each edge of theirs once from either end.
+    /// Returns the nodes to which edges lead from a node, itself among them.
+    ///
+    /// They are in the order of a depth-first search, which looks at each of their edges once from either end.
     pub fn reached(&self, from: u8) -> Set<u8, NODES>
         requires { from < NODES }
         ensures { (x : ℕ) → IsTrue (contains nat_eq result x) ↔ Path self.now from x }
@@ -111,7 +112,7 @@ impl Graph {
         met
     }
 
-    // Meets a node, and from it all to which edges lead, but for those that were met before.
+    // Adds a node, and from it all to which edges lead, but for those that were added before.
     #[tactic(auto, using(micromap::proofs::SetLaws::set_laws, crate::proofs::ReachLemmas::room))]
     fn search(&self, node: u8, met: &mut Set<u8, NODES>)
         requires node_is { node < NODES }
@@ -130,7 +131,7 @@ impl Graph {
     }
 }
 
-// Puts b among the neighbours of a.
+// Adds b to the neighbours of a.
 #[tactic(auto, using(micromap::proofs::SetLaws::set_laws, std::proofs::lemmas::Grind::common_steps))]
 fn join(nodes: &mut [Set<u8, DEGREE>; NODES], a: u8, b: u8)
     requires a_is_node { a < NODES }
@@ -141,7 +142,7 @@ fn join(nodes: &mut [Set<u8, DEGREE>; NODES], a: u8, b: u8)
     nodes[usize::from(a)].insert(b);
 }
 
-// Takes b from the neighbours of a, and answers whether it was there.
+// Removes b from the neighbours of a, and returns whether it was there.
 #[tactic(auto, using(micromap::proofs::SetLaws::set_laws, std::proofs::lemmas::Grind::common_steps))]
 fn part(nodes: &mut [Set<u8, DEGREE>; NODES], a: u8, b: u8) -> bool
     requires { a < NODES }

@@ -1,7 +1,7 @@
 //! The headers of a message: lines `Name: value`, of which at most `N` names are kept.
 //!
-//! Names that differ by the case of their ASCII letters are one name, and the values of a name that comes again are
-//! joined. A contract sees a name, in small letters, and a value as their bytes.
+//! Names that differ by the case of their ASCII letters are one name. The values of a name that comes again are joined.
+//! A contract sees a name, in small letters, and a value as their bytes.
 ghost use Rattle.std.specs.Prelude.{◌≡◌, ◌⊎◌, [], ◌++◌, codes, if◌then◌else◌, map, IfErr, IfOk, Ok, Err, Some};
 ghost use Rattle.std.specs.Option.{option_map};
 ghost use Rattle.std.specs.Str.{str_to_ascii_lowercase};
@@ -38,7 +38,7 @@ impl Model for Name {
 }
 
 impl Name {
-    /// The name that a text spells, in whatever case.
+    /// Creates the name that a text spells, in whatever case.
     pub fn new(alloc: Global, text: &str) -> Result<Name, AllocError>
         ensures { IfOk result (λ name. name ≡ str_to_ascii_lowercase text.now) }
     {
@@ -46,7 +46,7 @@ impl Name {
         Ok(Name { text })
     }
 
-    /// The name's text.
+    /// Returns the name's text.
     pub fn as_str(&self) -> &str
         ensures { result.now ≡ self.now }
     {
@@ -84,7 +84,7 @@ impl Model for Value {
 }
 
 impl Value {
-    /// The value with this text.
+    /// Creates the value with this text.
     pub fn new(alloc: Global, text: &str) -> Result<Value, AllocError>
         ensures { IfOk result (λ value. value ≡ text.now) }
     {
@@ -92,14 +92,14 @@ impl Value {
         Ok(Value { text })
     }
 
-    /// The value's text.
+    /// Returns the value's text.
     pub fn as_str(&self) -> &str
         ensures { result.now ≡ self.now }
     {
         self.text.as_str()
     }
 
-    // The value with another behind it, after a comma.
+    // Returns the value with another behind it, after a comma.
     fn with(&self, alloc: Global, other: &str) -> Result<Value, AllocError>
         ensures { IfOk result (λ value. value ≡ self.now ++ codes ", " ++ other.now) }
     {
@@ -145,9 +145,9 @@ impl From<AllocError> for HeaderFault {
     }
 }
 
-/// The headers that the lines of a text are, or the first fault. What was read before a fault is dropped.
+/// Returns the headers in the lines of a text, or the first fault. What was read before a fault is dropped.
 ///
-/// It takes memory for a list of the lines, and for each name and value.
+/// Allocates memory for a list of the lines, and for each name and value.
 pub fn parse<const N: usize>(alloc: Global, text: &str) -> Result<Headers<N>, HeaderFault>
     ensures headers { IfOk result (λ headers. headers_of N (lines text.now) ≡ Ok headers) }
     ensures fault { IfErr result (λ fault. (fault ≡ Memory) ⊎ (headers_of N (lines text.now) ≡ Err fault)) }
@@ -156,14 +156,14 @@ pub fn parse<const N: usize>(alloc: Global, text: &str) -> Result<Headers<N>, He
     parse_lines(alloc, &lines)
 }
 
-// The lines of a text.
+// Returns the lines of a text.
 fn lines_of(alloc: Global, text: &str) -> Result<Vec<&str>, AllocError>
     ensures { IfOk result (λ v. map (λ line. line.now) v.items ≡ lines text.now) }
 {
     text.lines().collect(alloc)
 }
 
-/// The same for a caller who has the lines; a fault's place is that in their list.
+/// Returns the headers in these lines, as `parse` does. A fault's place is that in the list of lines.
 pub fn parse_lines<const N: usize>(alloc: Global, lines: &[&str]) -> Result<Headers<N>, HeaderFault>
     ensures headers { IfOk result (λ headers. headers_of N (map (λ line. line.now) lines.now) ≡ Ok headers) }
     ensures fault { IfErr result (λ fault. (fault ≡ Memory) ⊎ (headers_of N (map (λ line. line.now) lines.now) ≡ Err fault)) }
@@ -177,7 +177,7 @@ pub fn parse_lines<const N: usize>(alloc: Global, lines: &[&str]) -> Result<Head
     Ok(headers)
 }
 
-// Adds the header that the line at a place is.
+// Adds the header in the line at a place.
 fn add_line<const N: usize>(
     alloc: Global,
     headers: &mut Headers<N>,
@@ -197,8 +197,9 @@ fn add_line<const N: usize>(
     }
 }
 
-/// Adds a header, and answers whether there was room for it. A new name goes last; the value of a known one goes behind
-/// the one that is there, after a comma.
+/// Adds a header, and returns whether there was room for it.
+///
+/// A new name goes last. The value of a known name goes behind the one that is there, after a comma.
 pub fn add<const N: usize>(
     alloc: Global,
     headers: &mut Headers<N>,
@@ -217,7 +218,7 @@ pub fn add<const N: usize>(
     Ok(headers.checked_insert(name, value).is_some())
 }
 
-/// The value of a name.
+/// Returns the value of a name.
 pub fn value_of<'a, const N: usize>(headers: &'a Headers<N>, name: &Name) -> Option<&'a str>
     ensures { option_map (λ value. value.now) result ≡ at same_text headers.now name.now }
 {

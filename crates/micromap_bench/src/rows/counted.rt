@@ -4,7 +4,7 @@ use micromap::{Map, Steps};
 // A look-up costs the index of the key plus one, or the length where the key is missing.
 pub(super) fn row_19() -> bool {
     let map = Map::from([(5, 50), (6, 60), (7, 70)]);
-    // That the steps fit is learnt from `len`.
+    // `len` ensures that the steps fit.
     let _held = map.len();
     let mut steps = Steps::new();
     let found = map.get_counted(&6, &mut steps) == Some(&60);
@@ -25,7 +25,7 @@ fn compared<const N: usize, const M: usize>(
     first: &Map<u8, u8, N>,
     second: &Map<u8, u8, M>,
 ) -> (bool, u128) {
-    // That the steps fit is learnt from `len`.
+    // `len` ensures that the steps fit.
     let _held = first.len();
     let mut steps = Steps::new();
     let same = first.eq_with_counted(second, &mut steps);

@@ -3,12 +3,12 @@ use micromap::json::{JsonFault, map_from_json, map_to_json, set_from_json, set_t
 use micromap::{Map, Set};
 use std::alloc::{AllocError, Global};
 
-// Whether the reading answers this fault.
+// Whether the reading returns this fault.
 fn fails<T: Drop>(read: Result<T, JsonFault>, fault: JsonFault) -> bool {
     matches!(read, Err(answer) if answer == fault)
 }
 
-// An object is read, or the first fault in their order is answered.
+// An object is read, or the first fault in their order is returned.
 pub(super) fn row_18(alloc: Global) -> Result<bool, AllocError> {
     let letters = "{\"a\":1,\"b\":2,\"c\":3}";
     let mut wanted: Map<String, i64, 3> = Map::new();

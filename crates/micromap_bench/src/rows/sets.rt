@@ -32,7 +32,7 @@ pub(super) fn row_14() -> bool {
     matches!(ended, Err(Overfull { at: 2 })) && set.iter().eq(&[1, 2, 5])
 }
 
-// A full set refuses a new item, and hands back one that equals a stored one.
+// A full set refuses a new item, and returns one that equals a stored one.
 pub(super) fn row_16() -> bool {
     let mut set: Set<i32, 2> = Set::new();
     set.checked_insert(1).is_none()
@@ -42,7 +42,7 @@ pub(super) fn row_16() -> bool {
         && set.checked_insert(2) == Some(2)
 }
 
-// The texts of maps and sets; a set hands a width to its items.
+// The texts of maps and sets; a set passes a width to its items.
 pub(super) fn row_17(alloc: Global) -> Result<bool, AllocError> {
     let names = Map::from([("one", 42), ("two", 16)]);
     let flags = Map::from([(42, true)]);

@@ -1,4 +1,4 @@
-//! The rows of walks, and of values written by a closure.
+//! The rows of iterators, and of values written by a closure.
 use micromap::Map;
 use micromap::map::Keys;
 
@@ -54,7 +54,7 @@ pub(super) fn row_29() -> bool {
     map.values().copied().eq([4, 6, 10])
 }
 
-// A clone of a walk goes on from where the walk stands, and a default walk is at its end.
+// A clone of an iterator has the same items left, and a default iterator is at its end.
 pub(super) fn row_30() -> bool {
     let mut map: Map<u8, u8, 3> = Map::new();
     for key in [1, 2, 3] {

@@ -81,9 +81,9 @@ fn add_disjoint<const N: usize>(map: &mut Numbers<N>, amount: i32, keys: [Marked
     Answer::Truths(found)
 }
 
-// The pairs that a clone of the map gives away.
+// The pairs that a clone of the map yields by value.
 fn given_away<const N: usize>(alloc: Global, map: &Numbers<N>) -> Result<List<Pair>, AllocError>
-    // A walk that gives away is larger than its map, and must have a size too.
+    // An iterator by value is larger than its map, and must have a size too.
     requires { N ≤ LARGEST }
 {
     let pairs = map.clone()?.into_iter().map(Pair::from);
