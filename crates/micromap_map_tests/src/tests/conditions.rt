@@ -3,7 +3,7 @@
 use micromap::map::Entry;
 use micromap::{Map, Set, Text};
 
-// Puts a pair by each call that asks for room, where there is some.
+// Inserts a pair by each call that requires room, if there is some.
 #[tactic(auto, using(micromap_core::proofs::MapLaws::map_laws))]
 fn put<const N: usize>(map: &mut Map<u8, u8, N>, key: u8, value: u8) -> bool {
     if !map.fits(&key) {
@@ -15,7 +15,7 @@ fn put<const N: usize>(map: &mut Map<u8, u8, N>, key: u8, value: u8) -> bool {
     true
 }
 
-// Puts an item by each call that asks for room, where there is some.
+// Inserts an item by each call that requires room, if there is some.
 #[tactic(auto, using(micromap::proofs::SetLaws::set_laws))]
 fn put_item<const N: usize>(set: &mut Set<u8, N>, item: u8) -> bool {
     if !set.fits(&item) {

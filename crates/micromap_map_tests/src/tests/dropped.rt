@@ -1,4 +1,4 @@
-//! Elements that count their drops: each is dropped once, however far a walk or a call has come.
+//! Elements that count their drops: each is dropped once, however far an iterator or a call has come.
 ghost use Rattle.std.specs.Prelude.{nat_eq};
 ghost use Rattle.std.specs.Cmp.Rules.{comparing};
 ghost use Rattle.std.specs.Ordering.{on};
@@ -115,7 +115,7 @@ fn a_drained_map_has_nothing_left_to_drop(rt: HostRuntime) {
 fn a_call_drops_what_it_does_not_keep(rt: HostRuntime) {
     let drops = Cell::new(0);
     let mut map = full_map(&drops);
-    // The new key, and the old value, which is answered.
+    // The new key, and the old value, which is returned.
     map.checked_insert(Noted::new(1, &drops), Noted::new(1, &drops));
     assert_eq!(rt; drops.replace(0), 2);
     // The pair that has no room.

@@ -21,7 +21,7 @@ fn counted<'a, const N: usize>(
     Some(map.get_counted(&key, steps))
 }
 
-// Writes the map, where the sink may answer one more fault, and answers whether it was written.
+// Writes the map if the sink may return one more error, and returns whether it was written.
 fn written<W: EntrySink<u8, u8>, const N: usize>(map: &Map<u8, u8, N>, sink: &mut W) -> bool
     ensures { OnTrue result (W.taken sink.new ≡ W.taken sink.old ++ map.now) }
 {

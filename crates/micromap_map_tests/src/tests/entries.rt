@@ -30,7 +30,7 @@ fn get_or_insert<const N: usize>(map: &mut Map<u8, u8, N>, key: u8, value: u8) -
     *map.entry(key).or_insert(value)
 }
 
-// Writes `value` at `key`, where there is room for it, and answers whether there was.
+// Writes `value` at `key` if there is room for it, and returns whether there was.
 fn overwrite<const N: usize>(map: &mut Map<u8, u8, N>, key: u8, value: u8) -> bool
     ensures answer { result ≡ fits nat_eq N map.old key }
     ensures pairs { map.new ≡ (if fits nat_eq N map.old key then put nat_eq map.old key value else map.old) }
@@ -59,7 +59,7 @@ fn is_stored<K: Eq + Drop, V, const N: usize>(map: &mut Map<K, V, N>, key: K) ->
     matches!(map.entry(key), Entry::Occupied(_))
 }
 
-// Puts `value` at `key`, and reads it by the entry that the call answers.
+// Writes `value` at `key`, and reads it by the entry that the call returns.
 fn put_and_read<const N: usize>(map: &mut Map<u8, u8, N>, key: u8, value: u8) -> u8
     requires { IsTrue (fits nat_eq N map.old key) }
     ensures answer { result ≡ value }

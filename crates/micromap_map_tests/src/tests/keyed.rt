@@ -1,5 +1,5 @@
-//! The keyed calls with a condition, the calls by probe, and callers' proofs over a lent value and over what a
-//! look-up finds after a put and a removal.
+//! The keyed calls with a precondition, the calls by probe, and callers' proofs over a value written by reference and
+//! over what a look-up finds after an insertion and a removal.
 ghost use Rattle.std.specs.Prelude.{◌≡◌, Some, None, IsTrue, nat_eq, if◌then◌else◌};
 ghost use Rattle.std.specs.Cmp.Lexicographic.{pointwise};
 ghost use Rattle.micromap.specs.Pairs.{fits, has, put};

@@ -1,5 +1,5 @@
-//! A long run of entries on one map. Each function below makes one call on the entry of a letter, or two, and answers
-//! `None` where the entry isn't of the kind that the call is for or has no room.
+//! A long run of entries on one map. Each function below makes one call on the entry of a letter, or two, and returns
+//! `None` if the entry isn't of the kind that the call is for or has no room.
 use micromap::Map;
 use micromap::map::Entry;
 

@@ -1,4 +1,4 @@
-//! The walks as a user writes them, and a caller's proof of a loop over a map.
+//! The iterators as a user writes them, and a caller's proof of a loop over a map.
 ghost use Rattle.std.specs.Prelude.{◌≡◌, ◌<◌, ◌^◌, IfOk, IsOk, sum};
 ghost use Rattle.std.specs.Iterator.{size};
 ghost use Rattle.std.specs.Map.{values_of};
@@ -20,7 +20,7 @@ fn total<const N: usize>(map: &Map<u8, u64, N>) -> u64
     total
 }
 
-// The map of three pairs that these tests walk over.
+// The map of three pairs that these tests iterate over.
 fn three() -> Map<u8, u64, 3> {
     let mut map = Map::new();
     for (key, value) in [(1, 10), (2, 20), (3, 30)] {
@@ -69,7 +69,7 @@ fn each_walk_gives_every_pair_and_stays_at_its_end(rt: HostRuntime) {
     assert!(rt; gives(map.drain(), &[(1, 10), (2, 20), (3, 30)]));
 }
 
-// Whether no walk that borrows the map gives anything.
+// Whether no iterator that borrows the map yields anything.
 fn nothing_is_lent<const N: usize>(map: &Map<u8, u64, N>) -> bool {
     gives(map.iter(), &[]) && gives(map.keys(), &[]) && gives(map.values(), &[])
 }

@@ -101,7 +101,7 @@ fn a_probe_finds_the_stored_item_or_leaves_the_set(rt: HostRuntime) {
     assert!(rt; set.is_empty());
 }
 
-// Puts an item that fits, and answers whether it is new.
+// Inserts an item that fits, and returns whether it is new.
 fn put<const N: usize>(set: &mut Set<i32, N>, item: i32) -> bool {
     set.fits(&item) && set.insert(item)
 }

@@ -14,7 +14,7 @@ use micromap::{Map, Set, Text};
 use micromap_testing::Marked;
 use std::alloc::{AllocError, Global};
 
-// Gives a name a value where it has none, and answers whether it has one now.
+// Gives a name a value if it has none, and returns whether it has one now.
 #[tactic(auto, using(micromap_core::proofs::MapLaws::map_laws))]
 fn set_default<const N: usize>(
     map: &mut Map<String, String, N>,
@@ -101,7 +101,7 @@ fn put_any<K: Eq + Drop>(map: &mut Map<K, u8, 8>, a: K, b: &K) -> Option<u8>
     map.get(b).copied()
 }
 
-// Takes a number out by its entry, and answers whether it was there. The other keys keep their order.
+// Removes a number by its entry, and returns whether it was there. The other keys keep their order.
 #[tactic(auto, using(micromap_core::proofs::MapLaws::map_laws))]
 fn leave_out<const N: usize>(map: &mut Map<u8, u8, N>, number: u8) -> bool
     ensures { keys_of map.new ≡ filter (λ k. not (nat_eq number k)) (keys_of map.old) }
@@ -132,7 +132,7 @@ fn take_then_read<const N: usize>(map: &mut Map<String, u8, N>, name: &str) -> O
     map.get_by(&Text(name)).copied()
 }
 
-// Sets the value of a name that is given as text, and answers whether there was room for it.
+// Sets the value of a name that is given as text, and returns whether there was room for it.
 #[tactic(auto, using(micromap_core::proofs::TextViews::text_views))]
 fn set_named<const N: usize>(
     map: &mut Map<String, u8, N>,
@@ -155,7 +155,7 @@ fn value_of<const N: usize>(map: &Map<String, u8, N>, name: &str) -> Option<u8>
     map.get_by(&Text(name)).copied()
 }
 
-// Takes a name out, and answers whether it was there.
+// Removes a name, and returns whether it was there.
 #[tactic(auto, using(micromap_core::proofs::TextViews::text_views))]
 fn forget<const N: usize>(map: &mut Map<String, String, N>, name: &str) -> bool
     ensures answer { result ≡ has same_text (texts map.old) name.now }
@@ -164,7 +164,7 @@ fn forget<const N: usize>(map: &mut Map<String, String, N>, name: &str) -> bool
     map.remove_by(&Text(name)).is_some()
 }
 
-// Adds a word that is given as text, and answers whether there was room for it.
+// Adds a word that is given as text, and returns whether there was room for it.
 #[tactic(auto, using(micromap::proofs::SetTextViews::set_text_views))]
 fn note<const N: usize>(
     words: &mut Set<String, N>,
@@ -182,7 +182,7 @@ fn note<const N: usize>(
     Ok(true)
 }
 
-// Takes a word out, and answers whether it was there.
+// Removes a word, and returns whether it was there.
 #[tactic(auto, using(micromap::proofs::SetTextViews::set_text_views))]
 fn unnote<const N: usize>(words: &mut Set<String, N>, word: &str) -> bool
     ensures answer { result ≡ contains same_text (item_texts words.old) word.now }

@@ -54,7 +54,7 @@ fn has_more<const N: usize, const M: usize>(first: &Map<u8, u8, N>, second: &Map
     first.len() > second.len()
 }
 
-// Whether the two are equally long. Then one side tells of both.
+// Whether the two are equally long. Then one side of a comparison decides.
 fn as_long<const N: usize, const M: usize>(first: &Map<u8, u8, N>, second: &Map<u8, u8, M>) -> bool
     ensures { IsTrue result → IsTrue (list_all (has_value nat_eq nat_eq second.now) first.now) → Same nat_eq nat_eq first.now second.now }
 {
@@ -82,7 +82,7 @@ fn has_more_items<const N: usize, const M: usize>(first: &Set<u8, N>, second: &S
     first.len() > second.len()
 }
 
-// Whether a set of capacity `L` has room for what is in both, which the length of the second tells.
+// Whether a set of capacity `L` has room for what is in both, by the length of the second.
 fn holds_common<const L: usize, const N: usize, const M: usize>(
     first: &Set<u8, N>,
     second: &Set<u8, M>,

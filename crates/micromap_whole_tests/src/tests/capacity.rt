@@ -26,7 +26,7 @@ fn outgrow<const N: usize, const M: usize>(
     larger
 }
 
-// Whether a third map is the same as this one, asked of this one in another capacity, or `None` where it doesn't fit.
+// Whether a third map is the same as this one, by a comparison in another capacity, or `None` where it doesn't fit.
 fn is_same_in_8<const N: usize, const L: usize>(
     map: Map<u8, u8, N>,
     third: &Map<u8, u8, L>,

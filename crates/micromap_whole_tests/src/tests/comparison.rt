@@ -1,4 +1,4 @@
-//! Comparing maps and sets, and a caller's proof of what a yes of `eq_with` is good for.
+//! Comparing maps and sets, and a caller's proof from a `true` of `eq_with`.
 ghost use Rattle.std.specs.Prelude.{◌≡◌, [], ◌∷◌};
 ghost use Rattle.std.specs.Bool.{OnTrue};
 ghost use Rattle.micromap.specs.Calls.{run, insert, remove};
@@ -7,7 +7,7 @@ ghost use Rattle.micromap.specs.Same.{Same};
 use micromap::{Map, Overfull, Set};
 use micromap_testing::Marked;
 
-// An edit of a list of attributes: sets one, where there is room for it, and removes another.
+// An edit of a list of attributes: sets one if there is room for it, and removes another.
 fn edit<K: Eq + Copy, V: Copy, const N: usize>(
     list: &mut Map<K, V, N>,
     name: K,

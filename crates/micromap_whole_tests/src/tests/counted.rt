@@ -16,7 +16,7 @@ fn looked_up<const N: usize>(map: &Map<u8, u8, N>, key: u8) -> (Option<&u8>, u12
     ensures value { option_copied result.0 ≡ at nat_eq map.now key }
     ensures steps { result.1 ≡ look_up_steps nat_eq map.now key }
 {
-    // That the length fits is learnt from `len`.
+    // `len` ensures that the length fits.
     let _held = map.len();
     let mut steps = Steps::new();
     let value = map.get_counted(&key, &mut steps);
@@ -31,7 +31,7 @@ fn compared<const N: usize, const M: usize>(
     ensures answer { IsTrue result.0 ↔ Same nat_eq nat_eq first.now second.now }
     ensures steps { result.1 ≡ comparison_steps nat_eq nat_eq first.now second.now }
 {
-    // That the length fits is learnt from `len`.
+    // `len` ensures that the length fits.
     let _held = first.len();
     let mut steps = Steps::new();
     let same = first.eq_with_counted(second, &mut steps);

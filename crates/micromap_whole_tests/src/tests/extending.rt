@@ -6,7 +6,7 @@ ghost use Rattle.micromap.specs.Build.{pair_fits, put_all, put_pair, StopsAt};
 use micromap::{Map, Overfull};
 use std::alloc::AllocError;
 
-// Puts these items, or those before the first that doesn't fit, whose place is the answer.
+// Inserts these items, or those before the first that doesn't fit, whose place is returned.
 fn put_items<const N: usize>(map: &mut Map<u8, u8, N>, items: Vec<(u8, u8)>) -> Result<(), Overfull>
     ensures all { IfOk result (λ _. map.new ≡ put_all nat_eq map.old (vec_items items)) }
     ensures misfit { IfErr result (λ e. StopsAt (pair_fits nat_eq N) (put_pair nat_eq) map.old (vec_items items) e.at) }

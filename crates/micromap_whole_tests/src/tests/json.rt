@@ -1,5 +1,5 @@
 //! Maps and sets as JSON: callers' proofs, values from outside, each fault with its code, and that ample memory never
-//! answers `Memory`.
+//! returns `Memory`.
 ghost use Rattle.std.specs.Prelude.{◌≡◌, ◌≤◌, length, IfOk, IfErr, MatchResult, string_bytes};
 ghost use Rattle.std.specs.Ordering.{int_eq};
 ghost use Rattle.std.specs.String.{string_eq};

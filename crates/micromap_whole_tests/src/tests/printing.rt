@@ -1,4 +1,4 @@
-//! The texts of maps, sets, walks and operations, and a caller's proof over a map's text.
+//! The texts of maps, sets, iterators and operations, and a caller's proof over a map's text.
 ghost use Rattle.std.specs.Prelude.{◌≡◌, Some, IfOk};
 ghost use Rattle.std.specs.String.{string_bytes};
 ghost use Rattle.micromap.specs.Print.{map_text};
@@ -59,7 +59,7 @@ fn a_set_prints_its_items(rt: HostRuntime) {
     assert!(rt; displays(alloc, &Set::<u8, 0>::new(), "{}"));
 }
 
-// The map whose walks are printed.
+// The map whose iterators are printed.
 fn three() -> Map<u8, char, 3> {
     Map::from([(1, 'a'), (2, 'b'), (3, 'c')])
 }

@@ -20,7 +20,7 @@ impl Write for Refusing {
     }
 }
 
-// How many texts the value is printed in, where a print ends with the first that is refused and answers its error.
+// How many texts the value is printed in, where a print ends with the first that is refused and returns its error.
 fn counted_texts<T: fmt::Display>(value: &T) -> Option<usize> {
     for refused in 0..100 {
         let mut out = Refusing { refused, given: 0 };
