@@ -6,7 +6,7 @@ use Rattle.micromap.specs.Calls.{insert, remove}
 use Rattle.micromap.specs.Same.{is_same}
 use Rattle.micromap_whole_tests.proofs.tests.comparison.edit_both.Goals as goal
 
--- the edit is a fair list of calls, which a yes outlasts
+-- the edit is a fair list of calls, so the two lists stay the same
 pub returns : goal.returns
 returns g c =
     let fits = sym c.fits.ensures ∙ (booleans_Decides _ _).0 (not-false _ c.if-fits.false) ∙ c.fits-else-not-eq_with.ensures in
