@@ -72,7 +72,7 @@ impl<T: Listed> fmt::Display for List<T> {
     }
 }
 
-/// What a call answers.
+/// The answer to a call.
 #[derive(Drop)]
 pub enum Answer {
     Done,

@@ -84,7 +84,7 @@ impl MapCall {
 }
 
 impl KeyedCall {
-    // Reads the keyed call of this name, or answers `None` where there is none.
+    // Reads the keyed call of this name, or returns `None` if there is none.
     fn read(name: &str, words: &mut Words<'_>) -> Result<Option<KeyedCall>, Fault> {
         Ok(Some(match name {
             "insert" => KeyedCall::Insert(words.read()?, words.read()?),
@@ -103,7 +103,7 @@ impl KeyedCall {
 }
 
 impl EntryCall {
-    // Reads the entry's call of this name, or answers `None` where there is none.
+    // Reads the entry's call of this name, or returns `None` if there is none.
     fn read(name: &str, words: &mut Words<'_>) -> Result<Option<EntryCall>, Fault> {
         Ok(Some(match name {
             "or_insert" => EntryCall::OrInsert(words.read()?, words.read()?),
