@@ -1,4 +1,5 @@
-//! Tests of the calls on whole maps and sets: building, cloning, comparison, printing, streams and JSON; and of the README.
+//! Tests of the calls on whole maps and sets: building, cloning, comparison, printing, streams and JSON; and of
+//! the README.
 #![tactic(auto)]
 
 #[cfg(test)]

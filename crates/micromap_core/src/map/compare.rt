@@ -18,8 +18,8 @@ impl<K: Eq, V: Eq, const N: usize> Map<K, V, N> {
     /// insertion of a key that neither map has at that moment, both have room or neither has.
     ///
     /// Compares no key if the lengths differ. Else it makes one scan of `other` for each key of this map, up to and
-    /// including the first that `other` lacks or has with an unequal value. That is at most the length times itself
-    /// comparisons. `eq_with_counted` counts them, with that number proved.
+    /// including the first that `other` lacks or has with an unequal value. At most as many keys are compared as the
+    /// length times itself. `eq_with_counted` counts them, with that number proved.
     pub fn eq_with<const M: usize>(&self, other: &Map<K, V, M>) -> bool
         ensures answer { IsTrue result ↔ Same K.eq V.eq self.now other.now }
         ensures told_apart { IsFalse result ↔ ToldApart K.eq V.eq N M self.now other.now }
