@@ -1,4 +1,4 @@
-use Rattle.std.proofs.Common.{arith}
+use Rattle.std.proofs.Common.{arith, rules}
 use Rattle.micromap_core.proofs.FairLemmas.{no_answered, yes_answered}
 use Rattle.micromap_core.proofs.OneSideLemmas.{answered_long, answered_short}
 use Rattle.micromap_core.proofs.StepsLemmas.{comparison_long, comparison_short}
@@ -28,3 +28,12 @@ returns-then-lengths-clause-count g c =
 pub returns-else-lengths-clause-count : goal.returns-else-lengths-clause-count
 returns-else-lengths-clause-count g c =
     omega (arith, comparison_short g.K.PartialEq.eq g.V.PartialEq.eq c.args.self.now c.args.other.now c.len.result c.len-2.result c.len.ensures.answer c.len-2.ensures.answer c.if-lengths.false)
+
+pub is_within_counted-requires : goal.is_within_counted-requires
+is_within_counted-requires g c = (assumption, search rules)
+
+pub len-requires : goal.len-requires
+len-requires g c = assumption
+
+pub len-requires-2 : goal.len-requires-2
+len-requires-2 g c = assumption

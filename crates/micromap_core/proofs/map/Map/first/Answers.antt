@@ -14,3 +14,6 @@ pub returns : goal.returns
 returns g c =
     let found = found_at (g.P.Probe.matches c.args.probe.now) c.args.self.now c.in_ok-index.index (sym c.in_ok-index.ensures) in
     sym c.pair_at.ensures ∙ found.here ∙ sym found.entry
+
+pub first_index_by_rest-requires : goal.first_index_by_rest-requires
+first_index_by_rest-requires g c = assumption

@@ -16,3 +16,9 @@ returns-then-ne g c =
     let same = g.V.PartialEq.eq in
     sym (unequal_here eq same c.in-Some.key.now c.in-Some.value c.next.new.self c.args.other.now c.get.result c.get.ensures c.if-ne.ensures)
     ∙ ap (λ left. first_unequal eq same left c.args.other.now) (sym c.in-Some.ensures.steps) ∙ c.loop-key.invariant
+
+pub get-requires : goal.get-requires
+get-requires g c = assumption
+
+pub into_iter-key-iterator-requires : goal.into_iter-key-iterator-requires
+into_iter-key-iterator-requires g c = assumption

@@ -4,3 +4,9 @@ use Rattle.micromap_core.proofs.map.Map.fits.Goals as goal
 -- there is no room
 pub returns-else-has_room : goal.returns-else-has_room
 returns-else-has_room g c = rw (← c.if-has_room.ensures, or-false) c.contains_key.ensures
+
+pub has_room-requires : goal.has_room-requires
+has_room-requires g c = assumption
+
+pub contains_key-requires : goal.contains_key-requires
+contains_key-requires g c = assumption

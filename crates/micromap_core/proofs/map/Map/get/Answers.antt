@@ -1,4 +1,4 @@
-use Rattle.std.proofs.Common.{ap, sym, ◌∙◌}
+use Rattle.std.proofs.Common.{ap, sym, ◌∙◌, rules}
 use Rattle.std.specs.Option.{option_map}
 use Rattle.micromap_core.proofs.map.Map.get.Goals as goal
 
@@ -6,3 +6,9 @@ pub returns : goal.returns
 returns g c =
     let found = c.in_ok-index.ensures.found in
     ap (option_map (λ p. p.1)) (sym c.pair_at.ensures ∙ found.here) ∙ sym found.value
+
+pub pair_at-requires : goal.pair_at-requires
+pair_at-requires g c = (assumption, search rules)
+
+pub index_of-requires : goal.index_of-requires
+index_of-requires g c = assumption

@@ -19,3 +19,6 @@ pub returns-clause-count : goal.returns-clause-count
 returns-clause-count g c =
     let none = not_yet-missing (g.K.PartialEq.eq c.args.key.now) _ c.loop-stored.stored-iterator (keys_of c.args.self.now) c.loop-stored.invariant.scan c.in-None.ensures.steps.0 in
     omega (arith, c.loop-stored.invariant.count, c.loop-stored.invariant.scan.counted, ap length c.in-None.ensures.steps.0, length-keys_of c.args.self.now, ap (λ o. option_map_or suc o (length c.args.self.now)) none)
+
+pub keys-keys-requires : goal.keys-keys-requires
+keys-keys-requires g c = assumption

@@ -1,4 +1,4 @@
-use Rattle.std.proofs.Common.{refl, ap, sym, ◌∙◌}
+use Rattle.std.proofs.Common.{refl, ap, sym, ◌∙◌, rules}
 use Rattle.std.specs.Option.{option_map}
 use Rattle.micromap_core.proofs.PairsLemmas.{with_value_at-put}
 use Rattle.micromap_core.proofs.map.Map.index_mut.Goals as goal
@@ -10,3 +10,9 @@ returns g c =
       (refl, λ w. with_value_at-put g.K.PartialEq.eq c.args.key.now c.args.self.now c.in-Some.index found w),
       record { writes_back = tt; answer = found.value ∙ sym (ap (option_map (λ p. p.1)) found.here) ∙ c.value_at.ensures.value; content = c.in-Some.ensures.content },
     )
+
+pub index_of-requires : goal.index_of-requires
+index_of-requires g c = assumption
+
+pub value_at-requires : goal.value_at-requires
+value_at-requires g c = (assumption, search rules)

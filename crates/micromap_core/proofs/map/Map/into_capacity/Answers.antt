@@ -7,3 +7,9 @@ into_capacity-requires g c =
 
 pub returns-then-len-clause-refuses : goal.returns-then-len-clause-refuses
 returns-then-len-clause-refuses g c = (λ _. omega (arith, c.len.ensures.answer, c.if-len.true), λ _. refl)
+
+pub len-requires : goal.len-requires
+len-requires g c = assumption
+
+pub len-content-requires : goal.len-content-requires
+len-content-requires g c = assumption

@@ -48,3 +48,12 @@ returns-in-Err-clause-fault g c e failed =
 
 pub returns-in-Err-clause-round_trip : goal.returns-in-Err-clause-round_trip
 returns-in-Err-clause-round_trip g c content faultless = absurd (omega (arith, (first_fault c.loop-key.invariant.faultless c.in-Err.ensures.fault).count, faultless))
+
+pub len-content-requires : goal.len-content-requires
+len-content-requires g c = assumption
+
+pub checked_insert-requires : goal.checked_insert-requires
+checked_insert-requires g c = assumption
+
+pub new-map-requires : goal.new-map-requires
+new-map-requires g c = assumption

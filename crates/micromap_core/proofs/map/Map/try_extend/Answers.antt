@@ -41,3 +41,9 @@ returns-clause-extends g c =
 
 pub returns-clause-runs : goal.returns-clause-runs
 returns-clause-runs g c = run_puts (pair_fits g.K.PartialEq.eq g.row.N) (put_pair g.K.PartialEq.eq) g.I.Iterator.next_gives c.args.items c.args.self.now c.loop-key.self (returns-clause-extends g c)
+
+pub len-content-requires : goal.len-content-requires
+len-content-requires g c = assumption
+
+pub checked_insert-requires : goal.checked_insert-requires
+checked_insert-requires g c = assumption

@@ -18,3 +18,9 @@ returns-in_err-try_extend-clause-stops g c =
 
 pub returns-clause-runs : goal.returns-clause-runs
 returns-clause-runs g c = rw (← c.new-map.ensures) c.in_ok-try_extend.ensures.runs
+
+pub len-content-requires : goal.len-content-requires
+len-content-requires g c = assumption
+
+pub new-map-requires : goal.new-map-requires
+new-map-requires g c = assumption

@@ -26,3 +26,9 @@ loop-position-preserved g c =
 
 pub returns-clause-pairs : goal.returns-clause-pairs
 returns-clause-pairs g c = (update_keys_end g.K.PartialEq.eq g.F.FnMut c.args.update c.args.self.now c.args.keys.now _ _ _ _ c.loop-position.invariant (search rules)).1
+
+pub get_mut-requires : goal.get_mut-requires
+get_mut-requires g c = assumption
+
+pub len-content-requires : goal.len-content-requires
+len-content-requires g c = assumption

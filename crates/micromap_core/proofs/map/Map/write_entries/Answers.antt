@@ -25,3 +25,6 @@ returns-in_err-entry-clause-beginning g c =
 
 pub returns-clause-whole : goal.returns-clause-whole
 returns-clause-whole g c = writing_ends c.loop-key.invariant.writing c.in-None.ensures.steps.0
+
+pub into_iter-key-iterator-requires : goal.into_iter-key-iterator-requires
+into_iter-key-iterator-requires g c = assumption

@@ -1,4 +1,4 @@
-use Rattle.std.proofs.Common.{refl}
+use Rattle.std.proofs.Common.{refl, rules}
 use Rattle.std.specs.Map.Calls.{MayWrite}
 use Rattle.micromap_core.specs.Entry.{with_entry_value}
 use Rattle.micromap_core.proofs.Lists.{slice_get_some}
@@ -24,3 +24,6 @@ returns-in-Occupied g c =
       taken = written.taken;
       sound = written.sound;
     })
+
+pub get_mut-requires : goal.get_mut-requires
+get_mut-requires g c = (assumption, search rules)

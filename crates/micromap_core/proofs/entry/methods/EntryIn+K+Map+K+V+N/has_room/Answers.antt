@@ -2,3 +2,6 @@ use Rattle.micromap_core.proofs.entry.methods.EntryIn+K+Map+K+V+N.has_room.Goals
 
 pub returns-in-Occupied : goal.returns-in-Occupied
 returns-in-Occupied g c = rw c.in-Occupied.is
+
+pub has_room-requires : goal.has_room-requires
+has_room-requires g c = assumption

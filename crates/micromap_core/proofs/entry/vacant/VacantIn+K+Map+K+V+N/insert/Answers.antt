@@ -1,4 +1,4 @@
-use Rattle.std.proofs.Common.{refl, sym, ◌∙◌}
+use Rattle.std.proofs.Common.{refl, sym, ◌∙◌, rules}
 use Rattle.std.proofs.lemmas.Option.{same_Some}
 use Rattle.micromap_core.proofs.EntryLemmas.{vacant_written}
 use Rattle.micromap_core.proofs.entry.vacant.VacantIn+K+Map+K+V+N.insert.Goals as goal
@@ -10,3 +10,9 @@ returns g c =
     let new = record self.map { now = c.push_pair.new.self } in
     let written = vacant_written g.K.PartialEq.eq c.args.value new self c.len-index.result c.len-index.ensures.answer refl c.push_pair.ensures.pairs in
     ((refl, written.puts), record { writes_back = tt; answer = same_Some _ _ (sym c.value_at.ensures.value ∙ written.value) })
+
+pub len-index-requires : goal.len-index-requires
+len-index-requires g c = assumption
+
+pub push_pair-requires : goal.push_pair-requires
+push_pair-requires g c = (assumption, search rules)

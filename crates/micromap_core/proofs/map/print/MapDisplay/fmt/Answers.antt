@@ -44,3 +44,6 @@ returns-in_err-write-clause-styled g c = failed_styled g.W.Write.write_str_gives
 pub returns-in_err-write-clause-writes : goal.returns-in_err-write-clause-writes
 returns-in_err-write-clause-writes g c =
     displays_at_plain g.W.Write.write_str_gives _ _ _ (map_text g.K.Display.output g.V.Display.output c.args.self.now) (returns-in_err-write-clause-styled g c)
+
+pub into_iter-key-iterator-requires : goal.into_iter-key-iterator-requires
+into_iter-key-iterator-requires g c = assumption

@@ -1,0 +1,4 @@
+use Rattle.micromap_core.proofs.map.Map.index_by.Goals as goal
+
+pub find-requires : goal.find-requires
+find-requires g c = assumption
