@@ -10,3 +10,9 @@ returns-clause-entry g c = new_entry g.K.PartialEq.eq c.args.self c.args.key c.i
 
 pub index_of-requires : goal.index_of-requires
 index_of-requires g c = assumption
+
+pub returns-in-Some-clause-content : goal.returns-in-Some-clause-content
+returns-in-Some-clause-content g c = c.in-Some.ensures.content
+
+pub returns-clause-content : goal.returns-clause-content
+returns-clause-content g c = c.in-None.ensures.content

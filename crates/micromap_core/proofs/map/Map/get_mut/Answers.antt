@@ -1,4 +1,4 @@
-use Rattle.std.proofs.Common.{ap, sym, inl, ◌∙◌, rules}
+use Rattle.std.proofs.Common.{ap, sym, inl, ◌∙◌, rules, refl}
 use Rattle.std.specs.Option.{option_map}
 use Rattle.micromap_core.proofs.PairsLemmas.{with_value_at-put}
 use Rattle.micromap_core.proofs.map.Map.get_mut.Goals as goal
@@ -12,7 +12,10 @@ returns-in-Some g c =
     )
 
 pub value_at-requires : goal.value_at-requires
-value_at-requires g c = (assumption, search rules)
+value_at-requires g c = (assumption, c.in-Some.ensures.found.within)
 
 pub index_of-requires : goal.index_of-requires
 index_of-requires g c = assumption
+
+pub returns-in-None : goal.returns-in-None
+returns-in-None g c = (refl, record { writes_back = tt; answer = sym c.in-None.ensures.missing.value; content = c.in-None.ensures.content })

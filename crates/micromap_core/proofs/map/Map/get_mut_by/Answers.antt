@@ -21,4 +21,4 @@ pub index_of-requires : goal.index_of-requires
 index_of-requires g c = assumption
 
 pub value_at-requires : goal.value_at-requires
-value_at-requires g c = (assumption, search rules)
+value_at-requires g c = (assumption, c.in-Some.ensures.found.within)

@@ -1,8 +1,9 @@
-use Rattle.std.proofs.Common.{refl, ap, sym, ◌∙◌, rules}
+use Rattle.std.proofs.Common.{refl, ap, sym, ◌∙◌, rules, is_some}
 use Rattle.std.specs.Option.{option_map}
 use Rattle.micromap_core.proofs.PairsLemmas.{written_at}
 use Rattle.micromap_core.proofs.ProbeLemmas.{at_matched_is, put_matched_is}
 use Rattle.micromap_core.proofs.map.Map.index_mut_by.Goals as goal
+use Rattle.std.proofs.lemmas.Bool.{false≢true}
 
 -- a write at the index of the key that matches puts
 pub returns : goal.returns
@@ -13,7 +14,11 @@ returns g c =
     )
 
 pub value_at-requires : goal.value_at-requires
-value_at-requires g c = (assumption, search rules)
+value_at-requires g c = (assumption, c.in-Some.ensures.found.within)
 
 pub index_of-requires : goal.index_of-requires
 index_of-requires g c = assumption
+
+-- a stored key is found
+pub unreachable-requires : goal.unreachable-requires
+unreachable-requires g c = false≢true (ap is_some (sym c.in-None.ensures.missing.key) ∙ c.requires)

@@ -5,3 +5,6 @@ returns-in-Occupied g c = rw c.in-Occupied.is
 
 pub has_room-requires : goal.has_room-requires
 has_room-requires g c = assumption
+
+pub returns-in-Vacant : goal.returns-in-Vacant
+returns-in-Vacant g c = rw c.in-Vacant.is c.has_room.ensures

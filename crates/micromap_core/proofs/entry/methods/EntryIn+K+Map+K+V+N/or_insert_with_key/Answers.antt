@@ -14,7 +14,14 @@ pub key-requires : goal.key-requires
 key-requires g c = assumption
 
 pub into_mut-requires : goal.into_mut-requires
-into_mut-requires g c = (assumption, search rules)
+into_mut-requires g c = (assumption, rw c.in-Occupied.is at c.requires.sound)
 
 pub insert-requires : goal.insert-requires
-insert-requires g c = (assumption, search rules)
+insert-requires g c = (assumption, (rw c.in-Vacant.is at c.requires.sound, rw c.in-Vacant.is at c.requires.room))
+
+pub default-value-requires : goal.default-value-requires
+default-value-requires g c = c.requires.callable (rw c.in-Vacant.is refl) c.key.result (rw c.in-Vacant.is c.key.ensures)
+
+pub returns-in-Occupied : goal.returns-in-Occupied
+returns-in-Occupied g c =
+    ((refl, λ w. rw c.in-Occupied.is refl), record { writes_back = tt; answer = rw (c.in-Occupied.is, c.into_mut.ensures.answer) refl })

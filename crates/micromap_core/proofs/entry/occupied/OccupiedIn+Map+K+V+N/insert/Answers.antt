@@ -10,3 +10,6 @@ returns-clause-written g c =
 
 pub replace_at-requires : goal.replace_at-requires
 replace_at-requires g c = assumption
+
+pub returns-clause-old : goal.returns-clause-old
+returns-clause-old g c = c.replace_at.ensures.old
