@@ -17,3 +17,6 @@ returns-clause-order g c = rw (← c.self.view_is) (keys_in_order _ _ _ _ c.reta
 
 pub len-content-requires : goal.len-content-requires
 len-content-requires g c = assumption
+
+pub returns-clause-content : goal.returns-clause-content
+returns-clause-content g c = c.len-content.ensures.content

@@ -26,3 +26,6 @@ returns g c =
 
 pub new-map-requires : goal.new-map-requires
 new-map-requires g c = assumption
+
+pub loop-index-init : goal.loop-index-init
+loop-index-init g c = c.new-map.ensures
