@@ -1,3 +1,4 @@
+pub mod Sizes
 pub mod AddedItems
 pub mod EntryItems
 pub mod ExtendLemmas

@@ -17,6 +17,7 @@ pub mod MisfitLemmas
 pub mod OneSideLemmas
 pub mod PairsLemmas
 pub mod PrintLemmas
+pub mod Sizes
 mod ScanLemmas
 pub mod SlotsLemmas
 pub mod StepsLemmas

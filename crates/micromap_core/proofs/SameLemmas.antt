@@ -24,7 +24,7 @@ use Rattle.micromap_core.proofs.MapLaws.{at_alike}
 
 -- at the first pair of a list: what the other list has at its key is found
 module _ {K V : Type 0} (eq : K → K → Bool) (same : V → V → Bool) (k : K) (v : Bor V) (rest other : List (K × V)) where
-  found_value : (found : Option (Bor V)) → option_copied found ≡ at eq other k → option_eq (λ x y. same x.now y.now) found (Some v) ≡ has_value eq same other (k, v.now)
+  pub found_value : (found : Option (Bor V)) → option_copied found ≡ at eq other k → option_eq (λ x y. same x.now y.now) found (Some v) ≡ has_value eq same other (k, v.now)
   found_value None is = ap (λ o. option_eq same o (Some v.now)) is
   found_value (Some x) is = ap (λ o. option_eq same o (Some v.now)) is
 
@@ -34,6 +34,14 @@ module _ {K V : Type 0} (eq : K → K → Bool) (same : V → V → Bool) (k : K
 
     pub unequal_here : true ≡ not (option_eq (λ x y. same x.now y.now) found (Some v)) → first_unequal eq same ((k, v.now) ∷ rest) other ≡ Some k
     unequal_here unequal = rw (sym (unequal ∙ ap not (found_value found is))) refl
+
+-- at the first key of those that are left: whether the other list has it is known
+module _ {K V : Type 0} (eq : K → K → Bool) (k : K) (rest : List K) (other : List (K × V)) where
+  pub missing_past : true ≡ has eq other k → find (λ l. not (has eq other l)) (k ∷ rest) ≡ find (λ l. not (has eq other l)) rest
+  missing_past stands = ap (λ b. cond (not b) (Some k) (find (λ l. not (has eq other l)) rest)) (sym stands)
+
+  pub missing_here : false ≡ has eq other k → find (λ l. not (has eq other l)) (k ∷ rest) ≡ Some k
+  missing_here lacks = ap (λ b. cond (not b) (Some k) (find (λ l. not (has eq other l)) rest)) (sym lacks)
 
 module _ {K V : Type 0} (eq : K → K → Bool) (same : V → V → Bool) (keys : IsEquivalence eq) (values : IsEquivalence same) where
   -- what the two lists have at each key agrees

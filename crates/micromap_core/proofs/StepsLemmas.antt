@@ -1,7 +1,9 @@
 -- Room for the steps of a comparison.
-use Rattle.std.proofs.Common.{◌≡◌, ◌≢◌, ℕ, ◌+◌, ◌*◌, Bool, if◌then◌else◌, List, [], ◌∷◌, length, ap, sym, ◌∙◌, arith, eq-eqb}
+use Rattle.std.proofs.Common.{◌≡◌, ◌≢◌, ℕ, ◌+◌, ◌*◌, Bool, true, false, ◌&&◌, if◌then◌else◌, List, [], ◌∷◌, length, ap, sym, ◌∙◌, arith, eq-eqb}
 use Rattle.std.proofs.lemmas.Bool.{ne_eqb}
-use Rattle.micromap_core.specs.Steps.{walk_steps, comparison_steps}
+use Rattle.std.specs.List.{list_all}
+use Rattle.micromap_core.specs.Same.{has_value}
+use Rattle.micromap_core.specs.Steps.{look_up_steps, walk_steps, comparison_steps}
 
 -- the most steps of a look-up of each key that is left among n pairs
 abbrev pub most_steps : {X : Type 0} → List X → ℕ → ℕ
@@ -19,3 +21,17 @@ module _ {K V : Type 0} (eq : K → K → Bool) (same : V → V → Bool) (first
 
   pub comparison_short : m ≢ n → comparison_steps eq same first second ≡ 0
   comparison_short apart = ap (λ b. if b then walk_steps eq same second first else 0) (ne_eqb (length first) (length second) (λ long. apart (one ∙ long ∙ sym two)))
+
+-- at the next pair of a walk: where the other list has no equal value there the walk ends, and else it goes on
+module _ {K V : Type 0} (eq : K → K → Bool) (same : V → V → Bool) (other : List (K × V)) (p : K × V) (left : List (K × V)) where
+  pub walk_ends : false ≡ has_value eq same other p → walk_steps eq same other (p ∷ left) ≡ look_up_steps eq other p.0
+  walk_ends unequal = ap (λ b. look_up_steps eq other p.0 + (if b then walk_steps eq same other left else 0)) (sym unequal) ∙ omega arith
+
+  pub walk_on : true ≡ has_value eq same other p → walk_steps eq same other (p ∷ left) ≡ look_up_steps eq other p.0 + walk_steps eq same other left
+  walk_on equal = ap (λ b. look_up_steps eq other p.0 + (if b then walk_steps eq same other left else 0)) (sym equal)
+
+  pub all_ends : false ≡ has_value eq same other p → list_all (has_value eq same other) (p ∷ left) ≡ false
+  all_ends unequal = ap (λ b. b && list_all (has_value eq same other) left) (sym unequal)
+
+  pub all_on : true ≡ has_value eq same other p → list_all (has_value eq same other) (p ∷ left) ≡ list_all (has_value eq same other) left
+  all_on equal = ap (λ b. b && list_all (has_value eq same other) left) (sym equal)

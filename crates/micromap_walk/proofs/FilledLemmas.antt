@@ -69,7 +69,10 @@ module _ {X : Type 0} (slots : List (Option X)) (i : ℕ) (filled : AreFilled (d
 pub equal_items : {X Y : Type 0} (xs : List (Option X)) (ys : List (Option Y)) → AreFilled xs → AreFilled ys → length xs ≡ length ys → length (items_of xs) ≡ length (items_of ys)
 equal_items xs ys xs_filled ys_filled equal = length_filled xs xs_filled ∙ equal ∙ sym (length_filled ys ys_filled)
 
--- as many are left of both columns
+-- as many slots are left of both columns, and as many items
+pub rest_equal : {X Y : Type 0} (given : ℕ) (xs : List X) (ys : List Y) → length xs ≡ length ys → length (drop given xs) ≡ length (drop given ys)
+rest_equal given xs ys equal = length-drop given xs ∙ ap (λ n. n - given) equal ∙ sym (length-drop given ys)
+
 pub left_equal : {X Y : Type 0} (given : ℕ) (xs : List (Option X)) (ys : List (Option Y)) → AreLeft given xs ys → length (items_of (drop given xs)) ≡ length (items_of (drop given ys))
 left_equal given xs ys left =
-    equal_items (drop given xs) (drop given ys) left.keys left.values (length-drop given xs ∙ ap (λ n. n - given) left.equal ∙ sym (length-drop given ys))
+    equal_items (drop given xs) (drop given ys) left.keys left.values (rest_equal given xs ys left.equal)

@@ -8,7 +8,6 @@ ghost use Rattle.std.specs.Map.Iter.{TakesFirst};
 ghost use Rattle.micromap_walk.specs.Filled.{items_of, AreFilled};
 
 use crate::Iter;
-use crate::borrowing::Lent;
 use crate::slot::into_item;
 use arrayvec::ArrayVec;
 use std::iter::FusedIterator;
@@ -61,10 +60,8 @@ impl<K, V, const N: usize> IntoIter<K, V, N> {
     pub(crate) fn left(&self) -> Iter<'_, K, V>
         ensures { result ≡ self.now }
     {
-        Iter {
-            keys: Lent::over(&self.keys.as_slice()[self.given..]),
-            values: Lent::over(&self.values.as_slice()[self.given..]),
-        }
+        let (keys, values) = (self.keys.as_slice(), self.values.as_slice());
+        Iter::over(&keys[self.given..], &values[self.given..])
     }
 }
 

@@ -1,7 +1,17 @@
-use Rattle.std.proofs.Common.{◌≡◌, get_or, sym, ◌∙◌}
+use Rattle.std.proofs.Common.{◌≡◌, ◌<◌, length, get_or, sym, ◌∙◌, ℕ, arith}
+use Rattle.std.proofs.Math.Nat.{mul-le-mul_right, le_of_lt}
 use Rattle.std.proofs.lemmas.List.{length-set}
 use Rattle.micromap_walk.proofs.FilledLemmas.{refill_set, taken_some, taken_items, taken_filled}
 use Rattle.micromap_walk.proofs.owning.taken.Goals as goal
+
+pub offset_bounds-as_mut_slice-index : goal.offset_bounds-as_mut_slice-index
+offset_bounds-as_mut_slice-index g c =
+    let within : c.args.index < length c.as_mut_slice.result.now = rw c.as_mut_slice.ensures.value c.requires.within in
+    let scaled = λ (k : ℕ). mul-le-mul_right k (le_of_lt within) in
+    record { fits = omega (arith, scaled, c.as_mut_slice.type_inv) }
+
+pub bounds-as_mut_slice-index : goal.bounds-as_mut_slice-index
+bounds-as_mut_slice-index g c = rw c.as_mut_slice.ensures.value c.requires.within
 
 pub into_item-requires : goal.into_item-requires
 into_item-requires g c =

@@ -24,3 +24,21 @@ returns-clause-succeeds g c = λ all. refl
 
 pub returns-clause-same : goal.returns-clause-same
 returns-clause-same g c = λ identical. same_from_all_zip g.T.Clone.is_clone _ _ (clones_end c.loop-x.invariant c.in-None.ensures.steps.member.0) identical
+
+pub len-made-requires : goal.len-made-requires
+len-made-requires g c = assumption
+
+pub next-requires : goal.next-requires
+next-requires g c = assumption
+
+pub intersection-x-items-requires : goal.intersection-x-items-requires
+intersection-x-items-requires g c = assumption
+
+pub new-both-requires : goal.new-both-requires
+new-both-requires g c = assumption
+
+pub into_iter-x-iterator-requires-room-I-Iterator : goal.into_iter-x-iterator-requires-room-I-Iterator
+into_iter-x-iterator-requires-room-I-Iterator g c = assumption
+
+pub len-content-requires : goal.len-content-requires
+len-content-requires g c = assumption

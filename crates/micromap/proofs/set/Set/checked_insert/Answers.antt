@@ -44,3 +44,9 @@ returns-then-len-clause-items g c =
 -- a full set is left as it is
 pub returns-then-contains-clause-items : goal.returns-then-contains-clause-items
 returns-then-contains-clause-items g c = sym (added-already g.T.PartialEq.eq g.row.N c.args.self.now c.args.x (sym c.if-contains.ensures))
+
+pub contains-requires : goal.contains-requires
+contains-requires g c = assumption
+
+pub len-requires : goal.len-requires
+len-requires g c = assumption

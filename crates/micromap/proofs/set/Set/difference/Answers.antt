@@ -19,3 +19,9 @@ returns-clause-builds g c = added_all g.met.T.Eq.laws (difference g.T.PartialEq.
 
 pub returns-clause-runs : goal.returns-clause-runs
 returns-clause-runs g c = left_in_order deref (difference_left g.T.PartialEq.eq) (difference_on g.T.PartialEq.eq)
+
+pub iter-requires : goal.iter-requires
+iter-requires g c = assumption
+
+pub len-content-requires : goal.len-content-requires
+len-content-requires g c = assumption

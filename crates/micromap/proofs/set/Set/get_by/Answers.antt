@@ -1,3 +1,4 @@
+use Rattle.micromap.proofs.Sizes.{map_fits}
 use Rattle.std.proofs.Common.{ap}
 use Rattle.std.specs.Option.{option_map}
 use Rattle.micromap.proofs.ItemLemmas.{item_matched-keys}
@@ -8,3 +9,6 @@ returns-in-Some g c = rw (← c.self.view_is, item_matched-keys) (ap (option_map
 
 pub returns-in-None : goal.returns-in-None
 returns-in-None g c = rw (← c.self.view_is, item_matched-keys) (ap (option_map (λ p. p.0)) c.in-None.ensures)
+
+pub get_key_value_by-requires : goal.get_key_value_by-requires
+get_key_value_by-requires g c = map_fits g.row.T g.row.N g.T.PartialEq.eq assumption

@@ -23,3 +23,9 @@ returns-clause-turned g c = intersection_turned g.met.T.Eq.laws c.args.self.now 
 
 pub returns-clause-runs : goal.returns-clause-runs
 returns-clause-runs g c = left_in_order deref (intersection_left g.T.PartialEq.eq) (intersection_on g.T.PartialEq.eq)
+
+pub iter-requires : goal.iter-requires
+iter-requires g c = assumption
+
+pub len-content-requires : goal.len-content-requires
+len-content-requires g c = assumption

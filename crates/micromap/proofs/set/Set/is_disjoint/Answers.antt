@@ -18,3 +18,15 @@ pub returns-else-len-clause-nothing_common : goal.returns-else-len-clause-nothin
 returns-else-len-clause-nothing_common g c =
     let eq = g.T.PartialEq.eq in
     subst (λ b. IsTrue b ↔ (intersection eq c.args.self.now c.args.other.now ≡ [])) (sym (returns-else-len-clause-answer g c)) (disjoint-intersection eq c.args.self.now c.args.other.now)
+
+pub len-requires : goal.len-requires
+len-requires g c = assumption
+
+pub is_apart_from-requires : goal.is_apart_from-requires
+is_apart_from-requires g c = assumption
+
+pub len-requires-2 : goal.len-requires-2
+len-requires-2 g c = assumption
+
+pub is_apart_from-requires-else-len : goal.is_apart_from-requires-else-len
+is_apart_from-requires-else-len g c = assumption

@@ -18,3 +18,12 @@ pub returns-clause-nothing_beyond : goal.returns-clause-nothing_beyond
 returns-clause-nothing_beyond g c =
     let eq = g.T.PartialEq.eq in
     subst (λ b. IsTrue b ↔ (difference eq c.args.self.now c.args.other.now ≡ [])) (sym c.is_within.ensures) (subset-difference eq c.args.self.now c.args.other.now)
+
+pub is_within-requires : goal.is_within-requires
+is_within-requires g c = assumption
+
+pub len-requires-2 : goal.len-requires-2
+len-requires-2 g c = assumption
+
+pub len-requires : goal.len-requires
+len-requires g c = assumption

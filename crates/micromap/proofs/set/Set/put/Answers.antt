@@ -1,3 +1,4 @@
+use Rattle.micromap.proofs.Sizes.{map_fits}
 use Rattle.std.proofs.Common.{is_some, ap, sym, ◌∙◌}
 use Rattle.std.specs.Map.{keys_of}
 use Rattle.micromap.specs.Pairs.{at, fits}
@@ -14,3 +15,6 @@ returns-clause-answer g c =
 
 pub returns-clause-items : goal.returns-clause-items
 returns-clause-items g c = rw (← c.self.view_is, checked-keys) (ap keys_of c.checked_insert.ensures.pairs)
+
+pub checked_insert-requires : goal.checked_insert-requires
+checked_insert-requires g c = map_fits g.row.T g.row.N g.T.PartialEq.eq assumption

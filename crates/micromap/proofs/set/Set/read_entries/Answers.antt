@@ -1,4 +1,5 @@
-use Rattle.std.proofs.Common.{ap}
+use Rattle.micromap.proofs.Sizes.{map_fits}
+use Rattle.std.proofs.Common.{ap, rules}
 use Rattle.std.specs.Map.{keys_of}
 use Rattle.std.specs.Result.{result_map_both}
 use Rattle.std.proofs.lemmas.Map.Entries.{length-keys_of}
@@ -20,3 +21,6 @@ returns-in-Ok-clause-round_trip g c items same =
     let pairs = g.S.EntrySource.left c.args.source.now in
     let content : IsContent g.T.PartialEq.eq g.row.N pairs = record { unique = items.unique; bounded = rw (length-keys_of pairs) at items.bounded; lawful = items.lawful } in
     ap (λ r. result_map_both keys_of (λ e. e) r) (c.in-Ok.ensures.round_trip content same)
+
+pub read_entries-requires : goal.read_entries-requires
+read_entries-requires g c = (map_fits g.row.T g.row.N g.T.PartialEq.eq assumption, search rules)

@@ -1,3 +1,4 @@
+use Rattle.micromap.proofs.Sizes.{map_fits}
 use Rattle.std.proofs.Common.{ap, ◌∙◌, is_some}
 use Rattle.std.specs.Map.{keys_of}
 use Rattle.micromap.proofs.ItemLemmas.{any-keys, take_item-keys}
@@ -8,3 +9,6 @@ returns-clause-answer g c = rw (← c.self.view_is, any-keys) (c.is_some.ensures
 
 pub returns-clause-items : goal.returns-clause-items
 returns-clause-items g c = rw (← c.self.view_is, take_item-keys) (ap keys_of c.remove.ensures.pairs)
+
+pub remove-requires : goal.remove-requires
+remove-requires g c = map_fits g.row.T g.row.N g.T.PartialEq.eq assumption

@@ -22,3 +22,9 @@ returns-clause-turned g c = symmetric_difference_turned g.met.T.Eq.laws c.args.s
 
 pub returns-clause-runs : goal.returns-clause-runs
 returns-clause-runs g c = left_in_order deref (symmetric_left g.T.PartialEq.eq) (symmetric_on g.T.PartialEq.eq)
+
+pub difference-requires : goal.difference-requires
+difference-requires g c = assumption
+
+pub difference-requires-2 : goal.difference-requires-2
+difference-requires-2 g c = assumption

@@ -1,3 +1,4 @@
+use Rattle.micromap.proofs.Sizes.{map_fits}
 use Rattle.std.proofs.Common.{ap, ◌∙◌}
 use Rattle.std.specs.Map.{keys_of}
 use Rattle.std.specs.Option.{option_map}
@@ -15,3 +16,6 @@ returns-clause-answer g c = rw (← c.self.view_is, find-keys) (ap (option_map (
 
 pub returns-clause-items : goal.returns-clause-items
 returns-clause-items g c = rw (← c.self.view_is, take_item-keys) (ap keys_of c.in_ok-stored.ensures.pairs)
+
+pub remove_entry-requires : goal.remove_entry-requires
+remove_entry-requires g c = map_fits g.row.T g.row.N g.T.PartialEq.eq assumption

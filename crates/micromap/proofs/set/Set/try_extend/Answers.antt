@@ -34,3 +34,9 @@ returns-clause-extends g c =
 
 pub returns-clause-runs : goal.returns-clause-runs
 returns-clause-runs g c = run_puts (item_fits g.T.PartialEq.eq g.row.N) (add g.T.PartialEq.eq) g.I.Iterator.next_gives c.args.items c.args.self.now c.loop-x.self (returns-clause-extends g c)
+
+pub put-requires : goal.put-requires
+put-requires g c = assumption
+
+pub len-content-requires : goal.len-content-requires
+len-content-requires g c = assumption

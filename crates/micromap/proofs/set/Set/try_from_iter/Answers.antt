@@ -19,3 +19,9 @@ returns-in_err-try_extend-clause-stops g c =
 
 pub returns-clause-runs : goal.returns-clause-runs
 returns-clause-runs g c = rw (← c.new-set.ensures) c.in_ok-try_extend.ensures.runs
+
+pub len-content-requires : goal.len-content-requires
+len-content-requires g c = assumption
+
+pub new-set-requires : goal.new-set-requires
+new-set-requires g c = assumption

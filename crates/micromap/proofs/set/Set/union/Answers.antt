@@ -25,3 +25,12 @@ returns-clause-lengths g c = length-union g.T.PartialEq.eq c.args.self.now c.arg
 
 pub returns-clause-runs : goal.returns-clause-runs
 returns-clause-runs g c = left_in_order deref (union_left g.T.PartialEq.eq) (union_on g.T.PartialEq.eq)
+
+pub iter-requires : goal.iter-requires
+iter-requires g c = assumption
+
+pub len-content-requires : goal.len-content-requires
+len-content-requires g c = assumption
+
+pub difference-requires : goal.difference-requires
+difference-requires g c = assumption

@@ -1,3 +1,4 @@
+use Rattle.micromap_core.proofs.Sizes.{columns_fit}
 use Rattle.std.proofs.Common.{refl, ap, ◌∙◌}
 use Rattle.std.proofs.lemmas.Bool.{false≢true}
 use Rattle.std.proofs.lemmas.List.Elements.{same_from_all_zip}
@@ -21,3 +22,9 @@ returns-in_err-pairs-clause-succeeds g c = λ all. absurd (false≢true (c.in_er
 
 pub returns-clause-succeeds : goal.returns-clause-succeeds
 returns-clause-succeeds g c all = refl
+
+pub len-content-requires : goal.len-content-requires
+len-content-requires g c = assumption
+
+pub clone-requires : goal.clone-requires
+clone-requires g c = columns_fit g.row.K g.row.V g.row.N g.K.PartialEq.eq assumption

@@ -1,4 +1,4 @@
-use Rattle.std.proofs.Common.{Some, ap}
+use Rattle.std.proofs.Common.{Some, ap, rules}
 use Rattle.std.specs.Option.{option_or}
 use Rattle.micromap_core.specs.Same.{first_missing}
 use Rattle.micromap_core.proofs.SameLemmas.{none_answered, difference_answered}
@@ -26,3 +26,15 @@ returns-in-None-clause-none g c =
 pub returns-in-None-clause-differs : goal.returns-in-None-clause-differs
 returns-in-None-clause-differs g c =
     difference_answered g.K.PartialEq.eq g.V.PartialEq.eq g.met.K.Eq.laws g.met.V.Eq.laws c.args.self.now c.args.other.now c.len.ensures.content.unique c.len-2.ensures.content.unique c.first_missing.result (returns-in-None-clause-answer g c)
+
+pub len-requires-2 : goal.len-requires-2
+len-requires-2 g c = assumption
+
+pub len-requires : goal.len-requires
+len-requires g c = assumption
+
+pub first_missing-requires : goal.first_missing-requires
+first_missing-requires g c = assumption
+
+pub first_unequal-requires : goal.first_unequal-requires
+first_unequal-requires g c = assumption

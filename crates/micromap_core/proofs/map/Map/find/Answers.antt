@@ -23,3 +23,6 @@ returns-clause-pair_matched g c =
 pub returns-clause-value_matched : goal.returns-clause-value_matched
 returns-clause-value_matched g c =
     returns-clause-value g c ∙ sym (at_matched_is g.K.PartialEq.eq _ (g.met.P.Probe.equal_keys_match_alike c.args.probe.now) (g.met.P.Probe.matching_keys_are_equal c.args.probe.now) c.args.self.now)
+
+pub first-requires : goal.first-requires
+first-requires g c = assumption

@@ -23,3 +23,6 @@ loop-key-preserved g c =
 
 pub returns : goal.returns
 returns g c = sym (not_yet-missing (g.P.Probe.matches c.args.probe.now) _ c.loop-key.key-iterator (keys_of c.args.self.now) c.loop-key.invariant c.in-None.ensures.steps.0)
+
+pub keys-keys-requires : goal.keys-keys-requires
+keys-keys-requires g c = assumption

@@ -34,3 +34,9 @@ loop-key-preserved g c =
 
 pub returns : goal.returns
 returns g c = sym (not_yet-missing (g.P.Probe.matches c.args.probe.now) _ c.loop-key.keys (keys_of c.args.self.now) c.loop-key.invariant c.in_default.ensures.steps.0)
+
+pub len-requires : goal.len-requires
+len-requires g c = assumption
+
+pub keys-keys-requires : goal.keys-keys-requires
+keys-keys-requires g c = assumption

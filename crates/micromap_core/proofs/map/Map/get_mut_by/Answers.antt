@@ -1,4 +1,4 @@
-use Rattle.std.proofs.Common.{ap, refl, sym, inl, ◌∙◌}
+use Rattle.std.proofs.Common.{ap, refl, sym, inl, ◌∙◌, rules}
 use Rattle.std.specs.Option.{option_map}
 use Rattle.micromap_core.proofs.PairsLemmas.{written_at}
 use Rattle.micromap_core.proofs.ProbeLemmas.{at_matched_is, put_matched_is}
@@ -16,3 +16,9 @@ pub returns-in-None : goal.returns-in-None
 returns-in-None g c =
     let missing = c.in-None.ensures.missing in
     (refl, record { writes_back = tt; answer = sym missing.value ∙ sym (at_matched_is g.K.PartialEq.eq (g.P.Probe.matches c.args.probe.now) (g.met.P.Probe.equal_keys_match_alike c.args.probe.now) (g.met.P.Probe.matching_keys_are_equal c.args.probe.now) c.args.self.now); content = c.in-None.ensures.content })
+
+pub index_of-requires : goal.index_of-requires
+index_of-requires g c = assumption
+
+pub value_at-requires : goal.value_at-requires
+value_at-requires g c = (assumption, c.in-Some.ensures.found.within)

@@ -1,3 +1,4 @@
+use Rattle.micromap_core.proofs.Sizes.{columns_fit}
 use Rattle.std.proofs.Common.{rules, ◌≤◌, length, ap, subst, ◌∙◌}
 use Rattle.micromap_core.proofs.Equalities.{lawful}
 use Rattle.micromap_core.proofs.map.Map.len.Goals as goal
@@ -11,3 +12,6 @@ returns-clause-content g c = record {
   bounded = subst (λ pairs. length pairs ≤ g.row.N) c.self.view_is c.len.ensures.bounded;
   lawful = lawful g.K.PartialEq.eq g.met.K.Eq.laws;
 }
+
+pub len-requires : goal.len-requires
+len-requires g c = columns_fit g.row.K g.row.V g.row.N g.K.PartialEq.eq assumption

@@ -14,3 +14,9 @@ returns-clause-pairs g c = rw (← c.self.view_is) c.retain.ensures
 
 pub returns-clause-order : goal.returns-clause-order
 returns-clause-order g c = rw (← c.self.view_is) (keys_in_order _ _ _ _ c.retain.ensures)
+
+pub len-content-requires : goal.len-content-requires
+len-content-requires g c = assumption
+
+pub returns-clause-content : goal.returns-clause-content
+returns-clause-content g c = c.len-content.ensures.content

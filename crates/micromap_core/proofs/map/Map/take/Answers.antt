@@ -10,3 +10,6 @@ returns-clause-value_matched g c = c.take_first.ensures.value ∙ sym (at_matche
 
 pub returns-clause-pairs_matched : goal.returns-clause-pairs_matched
 returns-clause-pairs_matched g c = c.take_first.ensures.pairs ∙ sym (take_out_matched_is g.K.PartialEq.eq (g.P.Probe.matches c.args.probe.now) (g.met.P.Probe.equal_keys_match_alike c.args.probe.now) (g.met.P.Probe.matching_keys_are_equal c.args.probe.now) c.args.self.now)
+
+pub take_first-requires : goal.take_first-requires
+take_first-requires g c = assumption

@@ -1,9 +1,10 @@
-use Rattle.std.proofs.Common.{◌≡◌, true, false, is_some, ap, sym, ◌∙◌, arith}
+use Rattle.std.proofs.Common.{◌≡◌, true, false, is_some, ap, sym, ◌∙◌, arith, refl}
 use Rattle.micromap_core.specs.Build.{pair_fits, put_pair}
 use Rattle.micromap_core.specs.Pairs.{at}
 use Rattle.micromap_core.proofs.BuildLemmas.{has_put_more, puts_up_to, puts_all, run_puts, run_stops}
 use Rattle.micromap_core.proofs.Lists.{is_some-if}
 use Rattle.micromap_core.proofs.map.Map.try_extend.Goals as goal
+use Rattle.std.specs.Iterator.{size}
 
 pub loop-key-preserved : goal.loop-key-preserved
 loop-key-preserved g c =
@@ -41,3 +42,46 @@ returns-clause-extends g c =
 
 pub returns-clause-runs : goal.returns-clause-runs
 returns-clause-runs g c = run_puts (pair_fits g.K.PartialEq.eq g.row.N) (put_pair g.K.PartialEq.eq) g.I.Iterator.next_gives c.args.items c.args.self.now c.loop-key.self (returns-clause-extends g c)
+
+pub len-content-requires : goal.len-content-requires
+len-content-requires g c = assumption
+
+pub checked_insert-requires : goal.checked_insert-requires
+checked_insert-requires g c = assumption
+
+pub returns-then-is_none-clause-extends : goal.returns-then-is_none-clause-extends
+returns-then-is_none-clause-extends g c = tt
+
+pub returns-then-is_none-clause-runs : goal.returns-then-is_none-clause-runs
+returns-then-is_none-clause-runs g c = tt
+
+pub returns-then-is_none-clause-content : goal.returns-then-is_none-clause-content
+returns-then-is_none-clause-content g c = c.len-content.ensures.content
+
+pub returns-clause-misfit : goal.returns-clause-misfit
+returns-clause-misfit g c = tt
+
+pub returns-clause-stops : goal.returns-clause-stops
+returns-clause-stops g c = tt
+
+pub returns-clause-content : goal.returns-clause-content
+returns-clause-content g c = c.len-content.ensures.content
+
+pub drop-checked_insert-requires : goal.drop-checked_insert-requires
+drop-checked_insert-requires g c κs within = within
+
+pub loop-key-init : goal.loop-key-init
+loop-key-init g c =
+    let gives = c.into_iter-key-iterator.ensures.into_iter_gives in
+    record {
+      can = rw gives c.requires.can;
+      finite = rw gives c.requires.ends.0;
+      counted = omega (arith, c.requires.ends.1, ap (λ i. size (g.I.Iterator.remaining i)) gives);
+      put = record { fit = refl; made = refl; position_is = refl };
+    }
+
+pub overflow_add-at : goal.overflow_add-at
+overflow_add-at g c = omega (arith, (c.in-Some.ensures.goes.on c.loop-key.invariant.finite).2, c.loop-key.invariant.counted)
+
+pub loop-key-smaller : goal.loop-key-smaller
+loop-key-smaller g c = (c.in-Some.ensures.goes.on c.loop-key.invariant.finite).2

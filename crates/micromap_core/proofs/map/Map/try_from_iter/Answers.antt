@@ -1,6 +1,7 @@
 use Rattle.std.proofs.lemmas.Result.{err_from_is_err_and}
 use Rattle.micromap_core.proofs.CountLemmas.{builds_all, builds_up_to, pairs_keyed}
 use Rattle.micromap_core.proofs.map.Map.try_from_iter.Goals as goal
+use Rattle.std.proofs.Common.{rules}
 
 pub returns-clause-built : goal.returns-clause-built
 returns-clause-built g c =
@@ -18,3 +19,33 @@ returns-in_err-try_extend-clause-stops g c =
 
 pub returns-clause-runs : goal.returns-clause-runs
 returns-clause-runs g c = rw (← c.new-map.ensures) c.in_ok-try_extend.ensures.runs
+
+pub len-content-requires : goal.len-content-requires
+len-content-requires g c = assumption
+
+pub new-map-requires : goal.new-map-requires
+new-map-requires g c = assumption
+
+pub array_drop-map-inside-requires : goal.array_drop-map-inside-requires
+array_drop-map-inside-requires g c = search rules
+
+pub array_drop-map-inside-requires-in_err-try_extend : goal.array_drop-map-inside-requires-in_err-try_extend
+array_drop-map-inside-requires-in_err-try_extend g c = search rules
+
+pub returns-clause-misfit : goal.returns-clause-misfit
+returns-clause-misfit g c = tt
+
+pub returns-clause-stops : goal.returns-clause-stops
+returns-clause-stops g c = tt
+
+pub returns-clause-content : goal.returns-clause-content
+returns-clause-content g c = c.len-content.ensures.content
+
+pub returns-in_err-try_extend-clause-built : goal.returns-in_err-try_extend-clause-built
+returns-in_err-try_extend-clause-built g c = rw (err_from_is_err_and c.from_residual.result c.from_residual.ensures.1).1 tt
+
+pub returns-in_err-try_extend-clause-runs : goal.returns-in_err-try_extend-clause-runs
+returns-in_err-try_extend-clause-runs g c = rw (err_from_is_err_and c.from_residual.result c.from_residual.ensures.1).1 tt
+
+pub returns-in_err-try_extend-clause-content : goal.returns-in_err-try_extend-clause-content
+returns-in_err-try_extend-clause-content g c = rw (err_from_is_err_and c.from_residual.result c.from_residual.ensures.1).1 tt

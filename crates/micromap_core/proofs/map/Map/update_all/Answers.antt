@@ -18,3 +18,6 @@ pub returns-clause-pairs : goal.returns-clause-pairs
 returns-clause-pairs g c =
     let at = c.loop-index.invariant in
     update_ends g.F.FnMut c.args.update c.args.self.now _ _ _ at (omega arith)
+
+pub len-index-end-requires : goal.len-index-end-requires
+len-index-end-requires g c = assumption

@@ -1,4 +1,8 @@
+use Rattle.std.proofs.Common.{arith}
 use Rattle.micromap_walk.proofs.drain.DrainIterator.size_hint.Goals as goal
+
+pub size_hint-requires : goal.size_hint-requires
+size_hint-requires g c = grind arith
 
 pub returns-clause-lower : goal.returns-clause-lower
 returns-clause-lower g c = rw (← c.self.view_is) c.size_hint.ensures.lower

@@ -25,3 +25,6 @@ pub returns : goal.returns
 returns g c =
     let eq = g.T.PartialEq.eq in
     (c.loop-index.invariant ∙ ap (distinct eq) (take_all c.loop-index.index c.args.items (search rules)), array_fits g.met.T.Eq.laws (items_keyed eq g.row.N) c.args.items (search rules))
+
+pub new-set-requires : goal.new-set-requires
+new-set-requires g c = assumption

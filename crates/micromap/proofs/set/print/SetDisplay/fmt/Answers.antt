@@ -60,3 +60,6 @@ returns-in_err-fmt-clause-writes g c = failed_plain g.W.Write.write_str_gives c.
 
 pub returns-in_err-fmt-clause-styled : goal.returns-in_err-fmt-clause-styled
 returns-in_err-fmt-clause-styled g c = failed_styled g.W.Write.write_str_gives c.args.f.now _ _ _ c.from_residual-in_err-fmt.ensures.0
+
+pub into_iter-item-iterator-requires : goal.into_iter-item-iterator-requires
+into_iter-item-iterator-requires g c = assumption

@@ -1,7 +1,14 @@
-use Rattle.std.proofs.Common.{refl}
+use Rattle.std.proofs.Common.{refl, rules}
 use Rattle.micromap_core.proofs.EntryLemmas.{vacant_written}
 use Rattle.micromap_core.proofs.entry.vacant.VacantIn+K+Map+K+V+N.insert_entry.Goals as goal
+use Rattle.std.proofs.lemmas.Bool.{ltb-true}
 
 pub returns : goal.returns
 returns g c =
     vacant_written g.K.PartialEq.eq c.args.value _ c.args.self c.len-index.result c.len-index.ensures.answer refl c.push_pair.ensures.pairs
+
+pub len-index-requires : goal.len-index-requires
+len-index-requires g c = assumption
+
+pub push_pair-requires : goal.push_pair-requires
+push_pair-requires g c = (assumption, (c.requires.sound, ltb-true _ _ c.requires.room))

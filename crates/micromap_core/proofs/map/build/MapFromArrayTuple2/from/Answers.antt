@@ -23,3 +23,9 @@ pub returns : goal.returns
 returns g c =
     let eq = g.K.PartialEq.eq in
     (c.loop-index.invariant ∙ ap (build eq) (take_all c.loop-index.index c.args.items (search rules)), array_fits g.met.K.Eq.laws (pairs_keyed eq g.row.N) c.args.items (search rules))
+
+pub new-map-requires : goal.new-map-requires
+new-map-requires g c = assumption
+
+pub loop-index-init : goal.loop-index-init
+loop-index-init g c = c.new-map.ensures

@@ -1,4 +1,4 @@
-use Rattle.std.proofs.Common.{Some, Ok, rules}
+use Rattle.std.proofs.Common.{Some, Ok, rules, length, ap, arith}
 use Rattle.std.specs.Fmt.{◌++?◌}
 use Rattle.std.proofs.Padding.{displays_at_plain}
 use Rattle.micromap_core.specs.Print.{pair_text, map_text}
@@ -44,3 +44,16 @@ returns-in_err-write-clause-styled g c = failed_styled g.W.Write.write_str_gives
 pub returns-in_err-write-clause-writes : goal.returns-in_err-write-clause-writes
 returns-in_err-write-clause-writes g c =
     displays_at_plain g.W.Write.write_str_gives _ _ _ (map_text g.K.Display.output g.V.Display.output c.args.self.now) (returns-in_err-write-clause-styled g c)
+
+pub into_iter-key-iterator-requires : goal.into_iter-key-iterator-requires
+into_iter-key-iterator-requires g c = assumption
+
+pub loop-key-smaller : goal.loop-key-smaller
+loop-key-smaller g c = omega (arith, ap length c.in-Some.ensures.steps)
+
+pub returns-in_err-write_str-clause-styled : goal.returns-in_err-write_str-clause-styled
+returns-in_err-write_str-clause-styled g c = failed_styled g.W.Write.write_str_gives c.args.f.now _ _ _ c.from_residual.ensures.0
+
+pub returns-in_err-write_str-clause-writes : goal.returns-in_err-write_str-clause-writes
+returns-in_err-write_str-clause-writes g c =
+    displays_at_plain g.W.Write.write_str_gives _ _ _ (map_text g.K.Display.output g.V.Display.output c.args.self.now) (returns-in_err-write_str-clause-styled g c)

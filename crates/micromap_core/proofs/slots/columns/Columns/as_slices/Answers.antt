@@ -1,3 +1,4 @@
+use Rattle.micromap_core.proofs.Sizes.{values_fit}
 use Rattle.micromap_core.proofs.SlotsLemmas.{equal_slots}
 use Rattle.micromap_core.proofs.slots.columns.Columns.as_slices.Goals as goal
 
@@ -7,3 +8,6 @@ returns-clause-equal g c =
 
 pub returns-clause-pairs : goal.returns-clause-pairs
 returns-clause-pairs g c = rw (c.as_slice.ensures.items, c.as_slice-2.ensures.items) c.self.view_is
+
+pub as_slice-requires-2 : goal.as_slice-requires-2
+as_slice-requires-2 g c = values_fit g.row.K g.row.V g.row.N assumption

@@ -1,6 +1,6 @@
 use Rattle.std.proofs.Common.{arith, rules}
 use Rattle.micromap_walk.proofs.ZipLemmas.{zip_append}
-use Rattle.micromap_core.proofs.ColumnLemmas.{as_long}
+use Rattle.micromap_core.proofs.ColumnLemmas.{as_long, equal_push}
 use Rattle.micromap_core.proofs.slots.columns.Columns.push.Goals as goal
 
 pub push-requires : goal.push-requires
@@ -17,3 +17,6 @@ returns g c = rw (c.push.ensures, c.push-2.ensures, ← c.self.view_is) (zip_app
 pub hint_equal-requires : goal.hint_equal-requires
 hint_equal-requires g c =
     omega (arith, as_long _ _ _ c.self.invariant c.self.view_is, c.self.invariant, c.len.ensures.answer, c.len-len.ensures.answer)
+
+pub invariant_of-self : goal.invariant_of-self
+invariant_of-self g c = rw (c.push.ensures, c.push-2.ensures) (equal_push _ _ c.args.key c.args.value c.self.invariant)

@@ -1,4 +1,4 @@
-use Rattle.std.proofs.Common.{Some, ap, sym, ◌∙◌, arith, rules}
+use Rattle.std.proofs.Common.{length-set, Some, ap, sym, ◌∙◌, arith, rules}
 use Rattle.micromap_core.proofs.ColumnLemmas.{as_long, get_zip, set_zip}
 use Rattle.micromap_core.proofs.slots.columns.Columns.replace_at.Goals as goal
 
@@ -16,3 +16,6 @@ returns-clause-old g c =
 
 pub returns-clause-pairs : goal.returns-clause-pairs
 returns-clause-pairs g c = rw (c.replace.ensures.after, c.replace-2.ensures.after, ← c.self.view_is) (set_zip _ _ c.args.index c.args.key c.args.value c.self.invariant)
+
+pub invariant_of-self : goal.invariant_of-self
+invariant_of-self g c = length-set _ _ _ ∙ c.self.invariant ∙ sym (length-set _ _ _)

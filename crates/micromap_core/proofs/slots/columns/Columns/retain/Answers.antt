@@ -1,14 +1,17 @@
-use Rattle.std.proofs.Common.{refl, ◌∙◌, arith, rules}
+use Rattle.std.proofs.Common.{ℕ, ◌<◌, ◌≤◌, length, length-set, refl, ◌∙◌, arith, rules}
 use Rattle.micromap_core.proofs.RetainLemmas.{asks_next, keeps_next, drops_next, retain_ends}
 use Rattle.micromap_core.proofs.slots.columns.Columns.retain.Goals as goal
+
+below : {k i n : ℕ} → k ≤ i → i < n → k < n
+below behind within = omega arith
 
 pub loop-index-init : goal.loop-index-init
 loop-index-init g c = record { ready = c.requires; rest = λ more later. later; behind = omega arith; whole = refl }
 
 pub visit_at-requires : goal.visit_at-requires
 visit_at-requires g c =
-    let callable = asks_next g.F.FnMut c.args.keep c.args.self.now _ _ _ _ c.loop-index.invariant in
-    search rules
+    let now = c.loop-index.invariant in
+    (assumption, (rw (now.whole, ← c.len-index-end.ensures.answer) c.loop-index-test.true, asks_next g.F.FnMut c.args.keep c.args.self.now _ _ _ _ now))
 
 pub loop-index-preserved : goal.loop-index-preserved
 loop-index-preserved g c =
@@ -20,3 +23,9 @@ loop-index-preserved g c =
 
 pub returns : goal.returns
 returns g c = rw c.truncate.ensures (retain_ends g.F.FnMut c.args.keep c.args.self.now _ _ _ _ c.loop-index.invariant (omega arith))
+
+pub swap-requires : goal.swap-requires
+swap-requires g c =
+    let now = c.loop-index.invariant in
+    let within : c.loop-index.index < length c.visit_at.new.self = rw (c.visit_at.ensures.pairs, length-set, now.whole, ← c.len-index-end.ensures.answer) c.loop-index-test.true in
+    (assumption, (below now.behind within, within))

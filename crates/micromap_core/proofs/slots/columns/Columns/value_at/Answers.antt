@@ -1,4 +1,4 @@
-use Rattle.std.proofs.Common.{refl, ◌∙◌, arith, rules}
+use Rattle.std.proofs.Common.{sym, length-set, refl, ◌∙◌, arith, rules}
 use Rattle.micromap_core.proofs.ColumnLemmas.{as_long, set_value_zip, value_zip}
 use Rattle.micromap_core.proofs.slots.columns.Columns.value_at.Goals as goal
 
@@ -11,3 +11,6 @@ returns g c = (
   (refl, λ w. rw (← c.self.view_is) (set_value_zip _ _ c.args.index w c.self.invariant)),
   record { writes_back = tt; value = rw (← c.self.view_is) (value_zip _ _ c.args.index c.self.invariant ∙ c.item_at_mut.ensures.answer) },
 )
+
+pub invariant_of-self-lent : goal.invariant_of-self-lent
+invariant_of-self-lent g c w = c.self.invariant ∙ sym (length-set _ _ _)

@@ -1,4 +1,4 @@
-use Rattle.std.proofs.Common.{◌≡◌, Some, slice_get, refl, subst, ◌∙◌, arith, rules}
+use Rattle.std.proofs.Common.{sym, length-set, ◌≡◌, Some, slice_get, refl, subst, ◌∙◌, arith, rules}
 use Rattle.std.specs.Option.{IfSome}
 use Rattle.micromap_core.specs.Closures.{AcceptsPair}
 use Rattle.micromap_core.proofs.ColumnLemmas.{as_long, get_zip, set_value_zip}
@@ -28,3 +28,6 @@ returns g c =
       called = record { key = _; shows = refl; called = record { value = _; shows = refl; left = _; called = c.visit.ensures; leaves = refl } };
       pairs = rw (← c.self.view_is) (set_value_zip _ _ c.args.index c.visit.new.arg3 c.self.invariant ∙ rw here refl);
     }
+
+pub invariant_of-self : goal.invariant_of-self
+invariant_of-self g c = c.self.invariant ∙ sym (length-set _ _ _)

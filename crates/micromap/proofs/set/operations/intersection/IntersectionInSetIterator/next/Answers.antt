@@ -27,3 +27,6 @@ loop-x-preserved g c = (
 
 pub returns-clause-steps : goal.returns-clause-steps
 returns-clause-steps g c = rw (← c.self.view_is) (intersection_ends g.T.PartialEq.eq _ c.loop-x.self-inside.rest c.next.new.self _ (ap (λ r. r.now) c.loop-x.invariant.1) c.loop-x.invariant.0 c.in_default.ensures.steps.0 c.in_default.ensures.steps.1)
+
+pub contains-requires : goal.contains-requires
+contains-requires g c = assumption

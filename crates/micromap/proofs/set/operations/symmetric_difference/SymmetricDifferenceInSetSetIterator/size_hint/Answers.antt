@@ -13,3 +13,9 @@ returns-clause-upper g c =
 pub returns-clause-lower : goal.returns-clause-lower
 unfolding symmetric_left
 returns-clause-lower g c = λ _. rw (← c.self.view_is, c.hint_of_both.ensures) (lower_sum _ _ _ _ _ (c.size_hint.ensures.lower tt) (c.size_hint-2.ensures.lower tt) (length-append _ _))
+
+pub size_hint-requires-2 : goal.size_hint-requires-2
+size_hint-requires-2 g c = assumption
+
+pub size_hint-requires : goal.size_hint-requires
+size_hint-requires g c = assumption

@@ -1,0 +1,18 @@
+use Rattle.std.proofs.Common.{rules, ap, sym, ◌∙◌}
+use Rattle.micromap_core.proofs.map.Map.get_key_value.Goals as goal
+use Rattle.std.specs.Map.Iter.{deref_pair}
+use Rattle.std.specs.Option.{option_map}
+
+pub pair_at-requires : goal.pair_at-requires
+pair_at-requires g c = (assumption, c.in_ok-index.ensures.found.within)
+
+pub index_of-requires : goal.index_of-requires
+index_of-requires g c = assumption
+
+pub returns-in_err-index : goal.returns-in_err-index
+returns-in_err-index g c = ap (option_map deref_pair) c.from_residual.ensures ∙ sym c.in_err-index.ensures.missing.entry
+
+pub returns : goal.returns
+returns g c =
+    let found = c.in_ok-index.ensures.found in
+    sym c.pair_at.ensures ∙ found.here ∙ sym found.entry

@@ -1,0 +1,4 @@
+use Rattle.micromap_core.proofs.map.Map.remove_entry.Goals as goal
+
+pub take-requires : goal.take-requires
+take-requires g c = assumption
