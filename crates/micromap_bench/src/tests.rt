@@ -136,14 +136,14 @@ fn equal_keys_agree_whichever_is_stored(rt: HostRuntime) {
     assert!(rt;
         first
             .iter()
-            .map(|(key, value)| (key.mark, *value))
-            .eq([('x', 25)])
+            .map(|(key, value)| (key.id, key.mark, *value))
+            .eq([(2, 'x', 25)])
     );
     assert!(rt;
         second
             .iter()
-            .map(|(key, value)| (key.mark, *value))
-            .eq([('y', 25)])
+            .map(|(key, value)| (key.id, key.mark, *value))
+            .eq([(2, 'y', 25)])
     );
     assert!(rt; lockstep(&mut first, &mut second, &[Call::Clear]));
     assert!(rt; first.is_empty());

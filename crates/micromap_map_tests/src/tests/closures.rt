@@ -143,12 +143,14 @@ fn an_empty_map_calls_nothing(rt: HostRuntime) {
 fn a_closure_counts_its_calls(rt: HostRuntime) {
     let mut map = Map::from([(1, 10), (2, 20), (3, 30), (4, 40), (5, 50)]);
     let mut visits = 0u8;
-    map.retain(|_, value: &mut u8| {
+    let mut in_order = true;
+    map.retain(|key, value: &mut u8| {
         visits = visits.wrapping_add(1);
+        in_order &= *key == visits;
         *value = value.wrapping_add(visits);
         visits % 2 == 1
     });
-    assert_eq!(rt; visits, 5);
+    assert_eq!(rt; (visits, in_order), (5, true));
     assert!(rt; map.drain().eq([(1, 11), (3, 33), (5, 55)]));
 }
 

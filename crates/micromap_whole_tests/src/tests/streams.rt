@@ -78,12 +78,13 @@ impl EntrySink<u8, u8> for RefusingSink {
 struct RefusingSource<'a, V> {
     left: &'a [(u8, V)],
     refuses_at: usize,
+    fault: u8,
     faults: u128,
-    last_fault: Option<Fault>,
+    last_fault: Option<u8>,
 }
 
 impl<'a, V: Copy> EntrySource<u8, V> for RefusingSource<'a, V> {
-    type Error = Fault;
+    type Error = u8;
 
     ghost left = { λ s. s.left.now };
 
@@ -95,9 +96,9 @@ impl<'a, V: Copy> EntrySource<u8, V> for RefusingSource<'a, V> {
         self.faults
     }
 
-    fn next_entry(&mut self) -> Result<Option<(u8, V)>, Fault> {
+    fn next_entry(&mut self) -> Result<Option<(u8, V)>, u8> {
         if self.left.len() == self.refuses_at {
-            let fault = Fault::At(self.refuses_at);
+            let fault = self.fault;
             self.faults += 1;
             self.last_fault = Some(fault);
             return Err(fault);
@@ -219,12 +220,13 @@ fn a_source_may_fail_at_each_call(rt: HostRuntime) {
         let mut source = RefusingSource {
             left: &[(1, 'a'), (2, 'b'), (3, 'c')],
             refuses_at: left,
+            fault: 7,
             faults: 0,
             last_fault: None,
         };
         let map: Result<Map<u8, char, 3>, _> = Map::read_entries(&mut source);
         if left < 4 {
-            assert!(rt; matches!(map, Err(ReadFault::Source(Fault::At(at))) if at == left));
+            assert!(rt; matches!(map, Err(ReadFault::Source(7))));
             assert_eq!(rt; source.left.len(), left);
         } else {
             assert!(rt; map.is_ok_and(|mut map| map.drain().eq([(1, 'a'), (2, 'b'), (3, 'c')])));
@@ -259,21 +261,23 @@ fn a_source_has_what_comes_after_its_fault(rt: HostRuntime) {
     let mut source = RefusingSource {
         left: &[(1, 'a'), (2, 'b'), (1, 'c')],
         refuses_at: 3,
+        fault: 8,
         faults: 0,
         last_fault: None,
     };
-    assert_eq!(rt; source.next_entry(), Err(Fault::At(3)));
+    assert_eq!(rt; source.next_entry(), Err(8));
     source.refuses_at = 1;
+    source.fault = 9;
     let map: Result<Map<u8, char, 2>, _> = Map::read_entries(&mut source);
-    assert!(rt; matches!(map, Err(ReadFault::Source(Fault::At(1)))));
+    assert!(rt; matches!(map, Err(ReadFault::Source(9))));
     assert_eq!(rt; source.left, [(1, 'c')].as_slice());
     assert_eq!(rt; source.faults(), 2);
-    assert_eq!(rt; source.last_fault, Some(Fault::At(1)));
+    assert_eq!(rt; source.last_fault, Some(9));
     source.refuses_at = 9;
     let map: Result<Map<u8, char, 2>, _> = Map::read_entries(&mut source);
     assert!(rt; map.is_ok_and(|mut map| map.drain().eq([(1, 'c')])));
     assert_eq!(rt; source.faults(), 2);
-    assert_eq!(rt; source.last_fault, Some(Fault::At(1)));
+    assert_eq!(rt; source.last_fault, Some(9));
 }
 
 #[test]
