@@ -2,10 +2,10 @@ use Rattle.std.proofs.Common.{sym}
 use Rattle.micromap_core.proofs.map.Map.insert.Goals as goal
 
 pub returns-in-Some-clause-old : goal.returns-in-Some-clause-old
-returns-in-Some-clause-old g c = sym c.put_at.ensures.old
+returns-in-Some-clause-old g c = cc
 
 pub returns-in-Some-clause-pairs : goal.returns-in-Some-clause-pairs
-returns-in-Some-clause-pairs g c = c.put_at.ensures.pairs
+returns-in-Some-clause-pairs g c = cc
 
 pub index_of-requires : goal.index_of-requires
 index_of-requires g c = assumption
