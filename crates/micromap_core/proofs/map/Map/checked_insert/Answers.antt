@@ -1,6 +1,5 @@
-use Rattle.std.proofs.Common.{rules, ◌≡◌, Bool, true, false, Some, if◌then◌else◌, refl, ap, sym, ◌∙◌}
+use Rattle.std.proofs.Common.{◌≡◌, Bool, true, false, Some, if◌then◌else◌, refl, ap, sym, ◌∙◌}
 use Rattle.micromap_core.proofs.map.Map.checked_insert.Goals as goal
-use Rattle.std.proofs.lemmas.Bool.{ltb-true}
 use Rattle.micromap_core.proofs.PairsLemmas.{fits_found, fits_missing}
 
 -- what a test chooses
@@ -21,12 +20,6 @@ returns-in-Some-clause-pairs g c =
 
 pub index_of-requires : goal.index_of-requires
 index_of-requires g c = assumption
-
-pub put_at-requires : goal.put_at-requires
-put_at-requires g c = (assumption, sym c.in-Some.ensures.answer)
-
-pub push_pair-requires : goal.push_pair-requires
-push_pair-requires g c = (assumption, (sym c.in-None.ensures.answer, ltb-true _ _ (sym c.if-has_room.ensures)))
 
 pub has_room-requires : goal.has_room-requires
 has_room-requires g c = assumption

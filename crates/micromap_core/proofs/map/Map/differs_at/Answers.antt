@@ -1,4 +1,4 @@
-use Rattle.std.proofs.Common.{Some, ap, rules}
+use Rattle.std.proofs.Common.{Some, ap}
 use Rattle.std.specs.Option.{option_or}
 use Rattle.micromap_core.specs.Same.{first_missing}
 use Rattle.micromap_core.proofs.SameLemmas.{none_answered, difference_answered}

@@ -1,7 +1,6 @@
 use Rattle.micromap_core.proofs.FairLemmas.{no_answered, yes_answered}
 use Rattle.micromap_core.proofs.OneSideLemmas.{answered_long, answered_short, none_unequal}
 use Rattle.micromap_core.proofs.map.Map.eq_with.Goals as goal
-use Rattle.std.proofs.Common.{rules}
 
 pub returns-then-lengths-clause-answer : goal.returns-then-lengths-clause-answer
 returns-then-lengths-clause-answer g c =

@@ -1,4 +1,4 @@
-use Rattle.std.proofs.Common.{arith, rules, ◌≡◌, ◌+◌, ◌*◌, ◌^◌, ◌<◌, ◌≤◌, length, sym, subst}
+use Rattle.std.proofs.Common.{arith, rules, ◌≡◌, ◌+◌, ◌*◌, ◌≤◌, length, sym, subst}
 use Rattle.micromap_core.proofs.FairLemmas.{no_answered, yes_answered}
 use Rattle.micromap_core.proofs.OneSideLemmas.{answered_long, answered_short}
 use Rattle.micromap_core.proofs.StepsLemmas.{comparison_long, comparison_short}

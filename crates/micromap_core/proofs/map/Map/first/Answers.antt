@@ -1,4 +1,4 @@
-use Rattle.std.proofs.Common.{sym, ◌∙◌, rules, ap}
+use Rattle.std.proofs.Common.{sym, ◌∙◌, ap}
 use Rattle.micromap_core.proofs.FoundLemmas.{found_at, not_found}
 use Rattle.micromap_core.proofs.map.Map.first.Goals as goal
 use Rattle.std.specs.Map.Iter.{deref_pair}
@@ -9,7 +9,7 @@ returns-in_err-index g c =
     ap (option_map deref_pair) c.from_residual.ensures ∙ sym (not_found (g.P.Probe.matches c.args.probe.now) c.args.self.now (sym c.in_err-index.ensures)).entry
 
 pub pair_at-requires : goal.pair_at-requires
-pair_at-requires g c = (search rules, (found_at (g.P.Probe.matches c.args.probe.now) c.args.self.now c.in_ok-index.index (sym c.in_ok-index.ensures)).within)
+pair_at-requires g c = (assumption, (found_at (g.P.Probe.matches c.args.probe.now) c.args.self.now c.in_ok-index.index (sym c.in_ok-index.ensures)).within)
 
 pub returns : goal.returns
 returns g c =

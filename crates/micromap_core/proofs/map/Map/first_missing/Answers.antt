@@ -1,4 +1,4 @@
-use Rattle.std.proofs.Common.{refl, not, length, ap, sym, ◌∙◌, arith, rules}
+use Rattle.std.proofs.Common.{refl, not, length, ap, sym, ◌∙◌, arith}
 use Rattle.micromap_core.proofs.map.Map.first_missing.Goals as goal
 use Rattle.std.specs.List.{find}
 use Rattle.micromap_core.specs.Pairs.{has}
@@ -25,9 +25,6 @@ loop-key-preserved g c =
 
 pub returns : goal.returns
 returns g c = ap (find (λ k. not (has g.K.PartialEq.eq c.args.other.now k))) (sym c.in-None.ensures.steps.0) ∙ c.loop-key.invariant
-
-pub next-requires : goal.next-requires
-next-requires g c = search rules
 
 pub loop-key-smaller : goal.loop-key-smaller
 loop-key-smaller g c = omega (arith, ap length c.in-Some.ensures.steps)

@@ -1,9 +1,6 @@
-use Rattle.std.proofs.Common.{rules, ap, sym, ◌∙◌, arith}
+use Rattle.std.proofs.Common.{ap, sym, ◌∙◌}
 use Rattle.micromap_core.proofs.map.Map.get_counted.Goals as goal
 use Rattle.std.specs.Option.{option_copied, option_map}
-
-pub pair_at-requires : goal.pair_at-requires
-pair_at-requires g c = (assumption, search rules)
 
 pub index_counted-requires : goal.index_counted-requires
 index_counted-requires g c = assumption

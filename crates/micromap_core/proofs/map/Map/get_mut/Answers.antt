@@ -1,4 +1,4 @@
-use Rattle.std.proofs.Common.{ap, sym, inl, ◌∙◌, rules, refl}
+use Rattle.std.proofs.Common.{ap, sym, inl, ◌∙◌, refl}
 use Rattle.std.specs.Option.{option_map}
 use Rattle.micromap_core.proofs.PairsLemmas.{with_value_at-put}
 use Rattle.micromap_core.proofs.map.Map.get_mut.Goals as goal

@@ -1,4 +1,4 @@
-use Rattle.std.proofs.Common.{ap, refl, sym, inl, ◌∙◌, rules}
+use Rattle.std.proofs.Common.{ap, refl, sym, inl, ◌∙◌}
 use Rattle.std.specs.Option.{option_map}
 use Rattle.micromap_core.proofs.PairsLemmas.{written_at}
 use Rattle.micromap_core.proofs.ProbeLemmas.{at_matched_is, put_matched_is}
@@ -19,6 +19,3 @@ returns-in-None g c =
 
 pub index_of-requires : goal.index_of-requires
 index_of-requires g c = assumption
-
-pub value_at-requires : goal.value_at-requires
-value_at-requires g c = (assumption, c.in-Some.ensures.found.within)

@@ -1,4 +1,4 @@
-use Rattle.std.proofs.Common.{rules, is_some, ap, sym, ◌∙◌}
+use Rattle.std.proofs.Common.{is_some, ap, sym, ◌∙◌}
 use Rattle.micromap_core.proofs.map.Map.index.Goals as goal
 use Rattle.std.specs.Option.{option_map}
 use Rattle.std.proofs.lemmas.Bool.{false≢true}

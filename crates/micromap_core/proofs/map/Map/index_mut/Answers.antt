@@ -1,4 +1,4 @@
-use Rattle.std.proofs.Common.{refl, ap, sym, ◌∙◌, rules, is_some}
+use Rattle.std.proofs.Common.{refl, ap, sym, ◌∙◌, is_some}
 use Rattle.std.specs.Option.{option_map}
 use Rattle.micromap_core.proofs.PairsLemmas.{with_value_at-put}
 use Rattle.micromap_core.proofs.map.Map.index_mut.Goals as goal
@@ -14,9 +14,6 @@ returns g c =
 
 pub index_of-requires : goal.index_of-requires
 index_of-requires g c = assumption
-
-pub value_at-requires : goal.value_at-requires
-value_at-requires g c = (assumption, c.in-Some.ensures.found.within)
 
 -- a stored key is found
 pub unreachable-requires : goal.unreachable-requires

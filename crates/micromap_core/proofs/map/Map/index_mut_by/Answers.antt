@@ -1,4 +1,4 @@
-use Rattle.std.proofs.Common.{refl, ap, sym, ◌∙◌, rules, is_some}
+use Rattle.std.proofs.Common.{refl, ap, sym, ◌∙◌, is_some}
 use Rattle.std.specs.Option.{option_map}
 use Rattle.micromap_core.proofs.PairsLemmas.{written_at}
 use Rattle.micromap_core.proofs.ProbeLemmas.{at_matched_is, put_matched_is}
@@ -12,9 +12,6 @@ returns g c =
       (refl, λ w. written_at _ c.args.self.now c.in-Some.index found w ∙ sym (put_matched_is g.K.PartialEq.eq (g.P.Probe.matches c.args.probe.now) (g.met.P.Probe.equal_keys_match_alike c.args.probe.now) (g.met.P.Probe.matching_keys_are_equal c.args.probe.now) c.args.self.now w)),
       record { writes_back = tt; answer = at_matched_is g.K.PartialEq.eq (g.P.Probe.matches c.args.probe.now) (g.met.P.Probe.equal_keys_match_alike c.args.probe.now) (g.met.P.Probe.matching_keys_are_equal c.args.probe.now) c.args.self.now ∙ found.value ∙ sym (ap (option_map (λ p. p.1)) found.here) ∙ c.value_at.ensures.value; content = c.in-Some.ensures.content },
     )
-
-pub value_at-requires : goal.value_at-requires
-value_at-requires g c = (assumption, c.in-Some.ensures.found.within)
 
 pub index_of-requires : goal.index_of-requires
 index_of-requires g c = assumption

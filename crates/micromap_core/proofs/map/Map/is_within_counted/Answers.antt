@@ -1,9 +1,9 @@
-use Rattle.std.proofs.Common.{◌≡◌, length, refl, arith, rules, ◌+◌, Bool, if◌then◌else◌, ap, sym, ◌∙◌}
+use Rattle.std.proofs.Common.{◌≡◌, length, refl, arith, rules, ap, sym, ◌∙◌}
 use Rattle.micromap_core.proofs.StepsLemmas.{most_steps-product, most_steps, walk_on, walk_ends, all_on, all_ends}
 use Rattle.micromap_core.proofs.map.Map.is_within_counted.Goals as goal
 use Rattle.std.specs.List.{list_all}
 use Rattle.micromap_core.specs.Same.{has_value}
-use Rattle.micromap_core.specs.Steps.{look_up_steps, walk_steps}
+use Rattle.micromap_core.specs.Steps.{walk_steps}
 
 pub loop-key-init : goal.loop-key-init
 loop-key-init g c =

@@ -1,10 +1,11 @@
-use Rattle.std.proofs.Common.{refl, ◌∙◌, rules}
+use Rattle.micromap_core.proofs.Sizes.{columns_fit}
+use Rattle.std.proofs.Common.{refl, ◌∙◌}
 use Rattle.micromap_core.proofs.FoundLemmas.{not_found}
 use Rattle.micromap_core.proofs.PairsLemmas.{IsUnique-push, push-put, push-put_key}
 use Rattle.micromap_core.proofs.map.Map.push_pair.Goals as goal
 
 pub push-requires : goal.push-requires
-push-requires g c = (search rules, rw c.self.view_is c.requires.room)
+push-requires g c = (columns_fit g.row.K g.row.V g.row.N g.K.PartialEq.eq assumption, rw c.self.view_is c.requires.room)
 
 pub invariant_of-self : goal.invariant_of-self
 invariant_of-self g c =

@@ -1,4 +1,4 @@
-use Rattle.std.proofs.Common.{◌<◌, Some, length, ap, sym, ◌∙◌, rules}
+use Rattle.std.proofs.Common.{◌<◌, Some, length, ap, sym, ◌∙◌}
 use Rattle.std.specs.Option.{option_map}
 use Rattle.micromap_core.proofs.FoundLemmas.{found_at}
 use Rattle.micromap_core.proofs.PairsLemmas.{with_value_at-put}
@@ -7,7 +7,7 @@ use Rattle.micromap_core.proofs.map.Map.put_at.Goals as goal
 pub value_at-requires : goal.value_at-requires
 value_at-requires g c =
     let within : c.args.index < length c.args.self.now = (found_at (g.K.PartialEq.eq c.args.key.now) c.args.self.now c.args.index c.requires).within in
-    search rules
+    (assumption, within)
 
 pub returns-clause-old : goal.returns-clause-old
 returns-clause-old g c =

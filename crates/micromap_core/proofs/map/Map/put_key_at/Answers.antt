@@ -1,4 +1,5 @@
-use Rattle.std.proofs.Common.{◌<◌, length, sym, ◌∙◌, rules}
+use Rattle.micromap_core.proofs.Sizes.{columns_fit}
+use Rattle.std.proofs.Common.{◌<◌, length, sym, ◌∙◌}
 use Rattle.micromap_core.proofs.FoundLemmas.{found_at}
 use Rattle.micromap_core.proofs.PairsLemmas.{IsUnique-set_key, slice_set-put_key}
 use Rattle.micromap_core.proofs.map.Map.put_key_at.Goals as goal
@@ -6,7 +7,7 @@ use Rattle.micromap_core.proofs.map.Map.put_key_at.Goals as goal
 pub replace_at-requires : goal.replace_at-requires
 replace_at-requires g c =
     let within : c.args.index < length c.self.inside.pairs = (found_at (g.K.PartialEq.eq c.args.key) c.self.inside.pairs c.args.index (rw c.self.view_is c.requires)).within in
-    search rules
+    (columns_fit g.row.K g.row.V g.row.N g.K.PartialEq.eq assumption, within)
 
 pub invariant_of-self : goal.invariant_of-self
 invariant_of-self g c =

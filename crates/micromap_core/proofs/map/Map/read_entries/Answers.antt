@@ -1,4 +1,4 @@
-use Rattle.std.proofs.Common.{◌≡◌, true, false, Ok, is_some, refl, ap, sym, ◌∙◌, arith, Err, Result, length, rules}
+use Rattle.std.proofs.Common.{◌≡◌, true, false, Ok, is_some, refl, ap, sym, ◌∙◌, arith, Err, Result, length}
 use Rattle.micromap_core.specs.Build.{pair_fits}
 use Rattle.micromap_core.specs.Pairs.{at}
 use Rattle.micromap_core.proofs.CountLemmas.{pairs_keyed}
@@ -74,9 +74,6 @@ new-map-requires g c = assumption
 pub loop-key-init : goal.loop-key-init
 loop-key-init g c = record { faultless = record { count = refl; last = refl }; reading = rw c.new-map.ensures (reading_begins _ _ _ _) }
 
-pub next_entry-requires : goal.next_entry-requires
-next_entry-requires g c = omega (arith, c.requires, c.loop-key.invariant.faultless.count)
-
 pub loop-key-smaller : goal.loop-key-smaller
 loop-key-smaller g c = omega (arith, ap length (rw c.in-Ok-Some.field-0-is at c.in-Ok-Some.ensures.gave))
 
@@ -136,15 +133,3 @@ returns-in-Ok-None-clause-content g c = c.len-content.ensures.content
 
 pub drop-checked_insert-requires : goal.drop-checked_insert-requires
 drop-checked_insert-requires g c κs within = within
-
-pub array_drop-map-inside-requires : goal.array_drop-map-inside-requires
-array_drop-map-inside-requires g c = search rules
-
-pub array_drop-map-inside-requires-then-is_none : goal.array_drop-map-inside-requires-then-is_none
-array_drop-map-inside-requires-then-is_none g c = search rules
-
-pub array_drop-map-inside-requires-in-Err : goal.array_drop-map-inside-requires-in-Err
-array_drop-map-inside-requires-in-Err g c = search rules
-
-pub array_drop-map-inside-requires-in-Err-2 : goal.array_drop-map-inside-requires-in-Err-2
-array_drop-map-inside-requires-in-Err-2 g c = search rules

@@ -1,10 +1,10 @@
-use Rattle.std.proofs.Common.{rules}
+use Rattle.micromap_core.proofs.Sizes.{columns_fit}
 use Rattle.micromap_core.specs.Pairs.{without_at}
 use Rattle.micromap_core.proofs.PairsLemmas.{IsUnique-remove}
 use Rattle.micromap_core.proofs.map.Map.take_at.Goals as goal
 
 pub remove-requires : goal.remove-requires
-remove-requires g c = (search rules, rw c.self.view_is c.requires)
+remove-requires g c = (columns_fit g.row.K g.row.V g.row.N g.K.PartialEq.eq assumption, rw c.self.view_is c.requires)
 
 pub invariant_of-self : goal.invariant_of-self
 invariant_of-self g c =

@@ -1,4 +1,4 @@
-use Rattle.std.proofs.Common.{rules, ap, sym, ◌∙◌}
+use Rattle.std.proofs.Common.{ap, sym, ◌∙◌}
 use Rattle.micromap_core.proofs.map.Map.take_first.Goals as goal
 use Rattle.std.specs.Option.{option_map}
 

@@ -1,4 +1,5 @@
-use Rattle.std.proofs.Common.{refl, rules}
+use Rattle.micromap_core.proofs.Sizes.{columns_fit}
+use Rattle.std.proofs.Common.{refl}
 use Rattle.micromap_core.proofs.PairsLemmas.{IsUnique-with_value_at}
 use Rattle.micromap_core.proofs.map.Map.value_at.Goals as goal
 
@@ -6,7 +7,7 @@ pub invariant_of-self-lent : goal.invariant_of-self-lent
 invariant_of-self-lent g c w = IsUnique-with_value_at g.K.PartialEq.eq g.met.K.Eq.laws c.self.inside.pairs c.self.invariant c.args.index w
 
 pub value_at-requires : goal.value_at-requires
-value_at-requires g c = (search rules, rw c.self.view_is c.requires)
+value_at-requires g c = (columns_fit g.row.K g.row.V g.row.N g.K.PartialEq.eq assumption, rw c.self.view_is c.requires)
 
 pub returns : goal.returns
 returns g c = (

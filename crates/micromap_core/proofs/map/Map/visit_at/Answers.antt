@@ -1,4 +1,4 @@
-use Rattle.std.proofs.Common.{rules}
+use Rattle.micromap_core.proofs.Sizes.{columns_fit}
 use Rattle.micromap_core.proofs.PairsLemmas.{IsUnique-set}
 use Rattle.micromap_core.proofs.map.Map.visit_at.Goals as goal
 
@@ -11,4 +11,4 @@ pub returns : goal.returns
 returns g c = rw (← c.self.view_is) c.visit_at.ensures
 
 pub visit_at-requires : goal.visit_at-requires
-visit_at-requires g c = (search rules, (rw c.self.view_is c.requires.within, rw c.self.view_is c.requires.callable))
+visit_at-requires g c = (columns_fit g.row.K g.row.V g.row.N g.K.PartialEq.eq assumption, (rw c.self.view_is c.requires.within, rw c.self.view_is c.requires.callable))

@@ -1,4 +1,4 @@
-use Rattle.std.proofs.Common.{refl, rules}
+use Rattle.std.proofs.Common.{refl}
 use Rattle.std.specs.Map.Calls.{MayWrite}
 use Rattle.micromap_core.specs.Entry.{with_entry_value}
 use Rattle.micromap_core.proofs.Lists.{slice_get_some}

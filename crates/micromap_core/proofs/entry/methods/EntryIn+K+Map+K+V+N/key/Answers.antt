@@ -1,4 +1,3 @@
-use Rattle.std.proofs.Common.{rules}
 use Rattle.micromap_core.proofs.entry.methods.EntryIn+K+Map+K+V+N.key.Goals as goal
 
 pub key-requires : goal.key-requires

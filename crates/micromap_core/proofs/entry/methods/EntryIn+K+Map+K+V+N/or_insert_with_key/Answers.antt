@@ -1,4 +1,4 @@
-use Rattle.std.proofs.Common.{refl, sym, Some, rules}
+use Rattle.std.proofs.Common.{refl, sym, Some}
 use Rattle.std.proofs.lemmas.Option.{same_Some}
 use Rattle.micromap_core.specs.Entry.{AnswersOfKey}
 use Rattle.micromap_core.proofs.entry.methods.EntryIn+K+Map+K+V+N.or_insert_with_key.Goals as goal
@@ -12,12 +12,6 @@ returns-in-Vacant g c =
 
 pub key-requires : goal.key-requires
 key-requires g c = assumption
-
-pub into_mut-requires : goal.into_mut-requires
-into_mut-requires g c = (assumption, rw c.in-Occupied.is at c.requires.sound)
-
-pub insert-requires : goal.insert-requires
-insert-requires g c = (assumption, (rw c.in-Vacant.is at c.requires.sound, rw c.in-Vacant.is at c.requires.room))
 
 pub default-value-requires : goal.default-value-requires
 default-value-requires g c = c.requires.callable (rw c.in-Vacant.is refl) c.key.result (rw c.in-Vacant.is c.key.ensures)

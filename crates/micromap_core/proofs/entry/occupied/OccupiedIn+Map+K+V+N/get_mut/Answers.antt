@@ -1,8 +1,5 @@
 use Rattle.micromap_core.proofs.entry.occupied.OccupiedIn+Map+K+V+N.get_mut.Goals as goal
 use Rattle.std.proofs.Common.{refl}
 
-pub value_at-requires : goal.value_at-requires
-value_at-requires g c = assumption
-
 pub returns : goal.returns
 returns g c = ((refl, λ w. refl), record { writes_back = tt; answer = c.value_at.ensures.value })

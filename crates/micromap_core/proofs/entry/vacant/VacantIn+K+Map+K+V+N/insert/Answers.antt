@@ -1,8 +1,7 @@
-use Rattle.std.proofs.Common.{refl, sym, ◌∙◌, rules, []}
+use Rattle.std.proofs.Common.{refl, sym, ◌∙◌, []}
 use Rattle.std.proofs.lemmas.Option.{same_Some, slice_get_within}
 use Rattle.micromap_core.proofs.EntryLemmas.{vacant_written}
 use Rattle.micromap_core.proofs.entry.vacant.VacantIn+K+Map+K+V+N.insert.Goals as goal
-use Rattle.std.proofs.lemmas.Bool.{ltb-true}
 use Rattle.micromap_core.proofs.Lists.{slice_get_seam}
 
 -- the pair stands last, and its value is lent
@@ -15,9 +14,6 @@ returns g c =
 
 pub len-index-requires : goal.len-index-requires
 len-index-requires g c = assumption
-
-pub push_pair-requires : goal.push_pair-requires
-push_pair-requires g c = (assumption, (c.requires.sound, ltb-true _ _ c.requires.room))
 
 pub value_at-requires : goal.value_at-requires
 value_at-requires g c =

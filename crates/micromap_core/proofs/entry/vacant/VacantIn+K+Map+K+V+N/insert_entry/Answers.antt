@@ -1,7 +1,6 @@
-use Rattle.std.proofs.Common.{refl, rules}
+use Rattle.std.proofs.Common.{refl}
 use Rattle.micromap_core.proofs.EntryLemmas.{vacant_written}
 use Rattle.micromap_core.proofs.entry.vacant.VacantIn+K+Map+K+V+N.insert_entry.Goals as goal
-use Rattle.std.proofs.lemmas.Bool.{ltb-true}
 
 pub returns : goal.returns
 returns g c =
@@ -9,6 +8,3 @@ returns g c =
 
 pub len-index-requires : goal.len-index-requires
 len-index-requires g c = assumption
-
-pub push_pair-requires : goal.push_pair-requires
-push_pair-requires g c = (assumption, (c.requires.sound, ltb-true _ _ c.requires.room))

@@ -1,3 +1,4 @@
+use Rattle.micromap_core.proofs.Sizes.{values_fit}
 use Rattle.std.proofs.Common.{sym, ◌∙◌, arith}
 use Rattle.micromap_core.proofs.ColumnLemmas.{as_long}
 use Rattle.micromap_core.proofs.slots.columns.Columns.len.Goals as goal
@@ -11,3 +12,6 @@ returns-clause-bounded g c =
 
 pub hint_equal-requires : goal.hint_equal-requires
 hint_equal-requires g c = rw (c.len-keys.ensures.answer, c.len-values.ensures.answer) c.self.invariant
+
+pub len-values-requires : goal.len-values-requires
+len-values-requires g c = values_fit g.row.K g.row.V g.row.N assumption

@@ -1,14 +1,15 @@
-use Rattle.std.proofs.Common.{arith, rules}
+use Rattle.micromap_core.proofs.Sizes.{keys_fit, values_fit}
+use Rattle.std.proofs.Common.{arith}
 use Rattle.micromap_core.proofs.ColumnLemmas.{as_long, equal_remove, get_zip, zip_remove}
 use Rattle.micromap_core.proofs.slots.columns.Columns.remove.Goals as goal
 
 pub remove-key-requires : goal.remove-key-requires
 remove-key-requires g c =
-    (search rules, omega (arith, as_long _ _ _ c.self.invariant c.self.view_is, c.requires))
+    (keys_fit g.row.K g.row.V g.row.N assumption, omega (arith, as_long _ _ _ c.self.invariant c.self.view_is, c.requires))
 
 pub remove-value-requires : goal.remove-value-requires
 remove-value-requires g c =
-    (search rules, omega (arith, as_long _ _ _ c.self.invariant c.self.view_is, c.requires, c.self.invariant))
+    (values_fit g.row.K g.row.V g.row.N assumption, omega (arith, as_long _ _ _ c.self.invariant c.self.view_is, c.requires, c.self.invariant))
 
 pub invariant_of-self : goal.invariant_of-self
 invariant_of-self g c = rw (c.remove-key.ensures.items, c.remove-value.ensures.items) (equal_remove _ _ c.args.index c.self.invariant)

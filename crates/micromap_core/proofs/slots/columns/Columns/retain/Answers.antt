@@ -1,4 +1,4 @@
-use Rattle.std.proofs.Common.{ℕ, ◌<◌, ◌≤◌, length, length-set, refl, ◌∙◌, arith, rules}
+use Rattle.std.proofs.Common.{ℕ, ◌<◌, ◌≤◌, length, length-set, refl, ◌∙◌, arith}
 use Rattle.micromap_core.proofs.RetainLemmas.{asks_next, keeps_next, drops_next, retain_ends}
 use Rattle.micromap_core.proofs.slots.columns.Columns.retain.Goals as goal
 
