@@ -13,7 +13,7 @@ use Rattle.std.proofs.Math.Bool.{or-true}
 use Rattle.std.proofs.lemmas.Bool.{lt-ltb}
 
 -- with room each item fits
-fits_room : {T : Type 0} (eq : T → T → Bool) (N : ℕ) (items : List T) (x : T) → length items < N → IsTrue (item_fits eq N items x)
+pub fits_room : {T : Type 0} (eq : T → T → Bool) (N : ℕ) (items : List T) (x : T) → length items < N → IsTrue (item_fits eq N items x)
 fits_room eq N items x room = ap (λ b. contains eq items x || b) (lt-ltb (length items) N room) ∙ or-true (contains eq items x)
 
 module _ {T : Type 0} (eq : T → T → Bool) where

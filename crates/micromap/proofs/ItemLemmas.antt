@@ -7,11 +7,12 @@ use Rattle.std.specs.Set.{remove_key}
 use Rattle.std.proofs.Math.Bool.{or-true}
 use Rattle.std.proofs.lemmas.Bool.{false≢true}
 use Rattle.std.proofs.lemmas.List.{map_push, length-map}
+use Rattle.std.proofs.lemmas.Map.Entries.{length-keys_of}
 use Rattle.micromap_core.specs.Clones.{IsPairClone}
-use Rattle.micromap_core.specs.Pairs.{fits, has, pair, put, put_key, take_out}
+use Rattle.micromap_core.specs.Pairs.{IsContent, fits, has, pair, put, put_key, take_out}
 use Rattle.micromap_core.specs.Probe.{pair_matched, take_out_matched}
 use Rattle.micromap_core.proofs.PairsLemmas.{keys_of-put_stored, keys_of-put_new}
-use Rattle.micromap.specs.Items.{add, contains, exchange, item, item_fits, item_matched, take_item, take_item_matched}
+use Rattle.micromap.specs.Items.{IsItems, add, contains, exchange, item, item_fits, item_matched, take_item, take_item_matched}
 
 module _ {T V : Type 0} where
   module _ (test : T → Bool) where
@@ -112,3 +113,7 @@ module _ {T V : Type 0} where
   zip-keys C D [] (q ∷ qs) zip = absurd zip
   zip-keys C D (p ∷ ps) [] zip = absurd zip
   zip-keys C D (p ∷ ps) (q ∷ qs) zip = (zip.0.0, zip-keys C D ps qs zip.1)
+
+-- what a map may hold is, as its keys, what a set may hold
+pub content_items : {T V : Type 0} {eq : T → T → Bool} {N : ℕ} {pairs : List (T × V)} {items : List T} → keys_of pairs ≡ items → IsContent eq N pairs → IsItems eq N items
+content_items {pairs = pairs} seen content = rw (← seen) (record { unique = content.unique; bounded = rw (length-keys_of pairs) content.bounded; lawful = content.lawful })

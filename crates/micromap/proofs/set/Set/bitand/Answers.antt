@@ -1,4 +1,4 @@
-use Rattle.std.proofs.Common.{◌≤◌, length, refl, subst, arith, rules}
+use Rattle.std.proofs.Common.{◌≤◌, length, refl, subst, arith}
 use Rattle.std.proofs.lemmas.List.Elements.{same_from_all_zip}
 use Rattle.micromap.specs.Operations.{intersection, intersection_left}
 use Rattle.micromap.proofs.AddedItems.{clone_fits, clones_end, clones_next, next_member}
@@ -14,7 +14,7 @@ returns-in_err-clone-clause-succeeds g c =
 pub insert-requires : goal.insert-requires
 insert-requires g c =
     let short : length (intersection g.T.PartialEq.eq c.args.self.now c.args.other.now) ≤ g.row.N = omega (arith, c.len-content.ensures.content.bounded, length-parts g.T.PartialEq.eq c.args.self.now c.args.other.now) in
-    (search rules, clone_fits g.met.T.Eq.laws c.requires c.loop-x.invariant c.in-Some.x.now (intersection_left g.T.PartialEq.eq c.next.new.self) c.in-Some.ensures.steps.member g.row.N c.in_ok-clone.field-0 short)
+    (assumption, clone_fits g.met.T.Eq.laws c.requires c.loop-x.invariant c.in-Some.x.now (intersection_left g.T.PartialEq.eq c.next.new.self) c.in-Some.ensures.steps.member g.row.N c.in_ok-clone.field-0 short)
 
 pub loop-x-preserved : goal.loop-x-preserved
 loop-x-preserved g c = clones_next g.met.T.Eq.laws c.requires c.loop-x.invariant c.in-Some.x.now (intersection_left g.T.PartialEq.eq c.next.new.self) c.in-Some.ensures.steps.member c.in_ok-clone.field-0 c.insert.new.self c.intersection-x-items.ensures.unique c.in_ok-clone.ensures.cases c.insert.ensures.items
@@ -42,3 +42,6 @@ into_iter-x-iterator-requires-room-I-Iterator g c = assumption
 
 pub len-content-requires : goal.len-content-requires
 len-content-requires g c = assumption
+
+pub returns-clause-clones : goal.returns-clause-clones
+returns-clause-clones g c = clones_end c.loop-x.invariant c.in-None.ensures.steps.member.0

@@ -1,8 +1,9 @@
-use Rattle.std.proofs.Common.{◌≡◌, ◌||◌, true, Some, None, is_some, IsTrue, if◌then◌else◌, nat_lt, length, ap, sym, ◌∙◌, rules}
+use Rattle.std.proofs.Common.{◌≡◌, ◌||◌, true, Some, None, is_some, IsTrue, if◌then◌else◌, nat_lt, length, ap, sym, ◌∙◌}
 use Rattle.std.proofs.lemmas.Bool.{lt-ltb}
 use Rattle.micromap.specs.Items.{exchange, item, item_fits}
 use Rattle.micromap.proofs.ItemLemmas.{added-already, added-room}
 use Rattle.micromap.proofs.SetLaws.{contains_item, exchange_new, exchange_back, item_exchange_back}
+use Rattle.micromap.proofs.AddedItems.{fits_room}
 use Rattle.micromap.proofs.set.Set.checked_insert.Goals as goal
 
 -- where there is room a new item is put
@@ -23,7 +24,7 @@ replace-requires-then-len g c =
     let y = c.in_ok-stored.stored in
     let there = contains_item eq _ y ∙ ap is_some (item_exchange_back eq c.len.ensures.content.lawful c.args.self.now c.args.x y (sym c.in_ok-stored.ensures.old)) in
     let fit : IsTrue (item_fits eq g.row.N c.replace.new.self y) = rw c.in_ok-stored.ensures.items (ap (λ b. b || nat_lt (length (exchange eq c.args.self.now c.args.x)) g.row.N) there) in
-    (search rules, fit)
+    (assumption, fit)
 
 pub returns-then-len-clause-answer : goal.returns-then-len-clause-answer
 returns-then-len-clause-answer g c =
@@ -50,3 +51,6 @@ contains-requires g c = assumption
 
 pub len-requires : goal.len-requires
 len-requires g c = assumption
+
+pub replace-requires : goal.replace-requires
+replace-requires g c = (assumption, fits_room g.T.PartialEq.eq g.row.N c.args.self.now c.args.x (rw c.len.ensures.answer at c.if-len.true))

@@ -1,8 +1,8 @@
-use Rattle.std.proofs.Common.{All, refl, subst}
+use Rattle.std.proofs.Common.{All, refl, subst, ap, ◌∙◌}
 use Rattle.std.specs.Map.{keys_of}
 use Rattle.std.proofs.lemmas.Bool.{false≢true}
 use Rattle.std.proofs.lemmas.List.{get_or-map, length-map}
-use Rattle.micromap.proofs.ItemLemmas.{zip-keys}
+use Rattle.micromap.proofs.ItemLemmas.{zip-keys, content_items}
 use Rattle.micromap.proofs.set.Set.clone.Goals as goal
 
 pub returns-clause-clones : goal.returns-clause-clones
@@ -17,3 +17,9 @@ returns-in_err-map-clause-succeeds g c =
 
 pub returns-clause-succeeds : goal.returns-clause-succeeds
 returns-clause-succeeds g c all = refl
+
+pub returns-clause-content : goal.returns-clause-content
+returns-clause-content g c = content_items refl c.in_ok-map.ensures.content
+
+pub returns-clause-same : goal.returns-clause-same
+returns-clause-same g c = λ identical. ap keys_of (c.in_ok-map.ensures.same identical (λ _ _ _. refl)) ∙ c.self.view_is

@@ -1,7 +1,7 @@
-use Rattle.micromap.proofs.Sizes.{map_fits}
 use Rattle.std.proofs.Common.{ap, ◌∙◌, is_some}
 use Rattle.std.specs.Map.{keys_of}
-use Rattle.micromap.proofs.ItemLemmas.{any-keys, take_item-keys}
+use Rattle.micromap.proofs.Sizes.{map_fits}
+use Rattle.micromap.proofs.ItemLemmas.{any-keys, take_item-keys, content_items}
 use Rattle.micromap.proofs.set.Set.remove.Goals as goal
 
 pub returns-clause-answer : goal.returns-clause-answer
@@ -12,3 +12,6 @@ returns-clause-items g c = rw (← c.self.view_is, take_item-keys) (ap keys_of c
 
 pub remove-requires : goal.remove-requires
 remove-requires g c = map_fits g.row.T g.row.N g.T.PartialEq.eq assumption
+
+pub returns-clause-content : goal.returns-clause-content
+returns-clause-content g c = content_items c.self.view_is c.remove.ensures.content

@@ -2,12 +2,16 @@ use Rattle.std.proofs.Common.{rules}
 use Rattle.std.specs.Fn.{CalledAt, TakesAt}
 use Rattle.micromap_core.proofs.ClosureLemmas.{retained_keys}
 use Rattle.micromap.proofs.RetainItems.{callable_inner}
+use Rattle.micromap.proofs.ItemLemmas.{content_items}
+use Rattle.micromap.proofs.Sizes.{map_fits}
 use Rattle.micromap.proofs.set.Set.retain.Goals as goal
 
 pub retain-requires : goal.retain-requires
-retain-requires g c =
-    let may = callable_inner _ (CalledAt g.F.FnMut) (λ f. f.0.now) (λ f x v b w t said. search rules) (TakesAt g.F.FnMut) _ _ (rw (← c.self.view_is) at c.requires) in
-    (search rules, record { at = λ before after s x v parts calls key shows value is. may.at before after s x v parts calls key shows })
+retain-requires g c = (
+  map_fits g.row.T g.row.N g.T.PartialEq.eq assumption,
+  let may = callable_inner _ (CalledAt g.F.FnMut) (λ f. f.0.now) (λ f x v b w t said. search rules) (TakesAt g.F.FnMut) _ _ (rw (← c.self.view_is) at c.requires) in
+      record { at = λ before after s x v parts calls key shows value is. may.at before after s x v parts calls key shows },
+)
 
 pub returns-clause-items : goal.returns-clause-items
 returns-clause-items g c =
@@ -15,3 +19,6 @@ returns-clause-items g c =
 
 pub returns-clause-order : goal.returns-clause-order
 returns-clause-order g c = rw (← c.self.view_is) c.retain.ensures.order
+
+pub returns-clause-content : goal.returns-clause-content
+returns-clause-content g c = content_items c.self.view_is c.retain.ensures.content

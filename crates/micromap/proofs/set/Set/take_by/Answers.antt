@@ -1,8 +1,8 @@
-use Rattle.micromap.proofs.Sizes.{map_fits}
 use Rattle.std.proofs.Common.{ap, ◌∙◌}
 use Rattle.std.specs.Map.{keys_of}
 use Rattle.std.specs.Option.{option_map}
-use Rattle.micromap.proofs.ItemLemmas.{item_matched-keys, take_item_matched-keys}
+use Rattle.micromap.proofs.Sizes.{map_fits}
+use Rattle.micromap.proofs.ItemLemmas.{item_matched-keys, take_item_matched-keys, content_items}
 use Rattle.micromap.proofs.set.Set.take_by.Goals as goal
 
 pub returns-in_err-stored-clause-answer : goal.returns-in_err-stored-clause-answer
@@ -19,3 +19,9 @@ returns-clause-items g c = rw (← c.self.view_is, take_item_matched-keys) (ap k
 
 pub remove_entry_by-requires : goal.remove_entry_by-requires
 remove_entry_by-requires g c = map_fits g.row.T g.row.N g.T.PartialEq.eq assumption
+
+pub returns-in_err-stored-clause-content : goal.returns-in_err-stored-clause-content
+returns-in_err-stored-clause-content g c = content_items c.self.view_is c.in_err-stored.ensures.content
+
+pub returns-clause-content : goal.returns-clause-content
+returns-clause-content g c = content_items c.self.view_is c.in_ok-stored.ensures.content

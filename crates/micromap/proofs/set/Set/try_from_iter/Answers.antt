@@ -2,6 +2,7 @@ use Rattle.std.proofs.lemmas.Result.{err_from_is_err_and}
 use Rattle.micromap_core.proofs.CountLemmas.{builds_all, builds_up_to}
 use Rattle.micromap.proofs.ExtendLemmas.{items_keyed}
 use Rattle.micromap.proofs.set.Set.try_from_iter.Goals as goal
+use Rattle.std.proofs.Common.{arith}
 
 pub returns-clause-built : goal.returns-clause-built
 returns-clause-built g c =
@@ -25,3 +26,6 @@ len-content-requires g c = assumption
 
 pub new-set-requires : goal.new-set-requires
 new-set-requires g c = assumption
+
+pub array_drop-set-inside-requires : goal.array_drop-set-inside-requires
+array_drop-set-inside-requires g c = omega arith

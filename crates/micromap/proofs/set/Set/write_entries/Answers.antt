@@ -1,5 +1,3 @@
-use Rattle.std.proofs.Common.{rules}
-use Rattle.micromap.proofs.Sizes.{map_fits}
 use Rattle.micromap.proofs.EntryItems.{entries_of-keys}
 use Rattle.micromap.proofs.set.Set.write_entries.Goals as goal
 
@@ -8,6 +6,3 @@ returns-clause-whole g c = rw (← c.self.view_is, entries_of-keys) c.write_entr
 
 pub returns-clause-beginning : goal.returns-clause-beginning
 returns-clause-beginning g c = rw (← c.self.view_is, entries_of-keys) c.write_entries.ensures.beginning
-
-pub write_entries-requires : goal.write_entries-requires
-write_entries-requires g c = (map_fits g.row.T g.row.N g.T.PartialEq.eq assumption, search rules)

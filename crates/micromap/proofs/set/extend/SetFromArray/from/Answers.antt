@@ -1,9 +1,9 @@
 use Rattle.std.proofs.Common.{◌≡◌, true, [], get_or, ap, ◌∙◌, rules}
 use Rattle.std.proofs.lemmas.List.{take_all}
-use Rattle.micromap.specs.Extend.{distinct}
-use Rattle.micromap.specs.Items.{add, item_fits}
 use Rattle.micromap_core.proofs.BuildLemmas.{put_at}
 use Rattle.micromap_core.proofs.CountLemmas.{array_fits, array_fits_at}
+use Rattle.micromap.specs.Extend.{distinct}
+use Rattle.micromap.specs.Items.{add, item_fits}
 use Rattle.micromap.proofs.ExtendLemmas.{items_keyed}
 use Rattle.micromap.proofs.set.extend.SetFromArray.from.Goals as goal
 

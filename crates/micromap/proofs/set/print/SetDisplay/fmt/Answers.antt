@@ -63,3 +63,9 @@ returns-in_err-fmt-clause-styled g c = failed_styled g.W.Write.write_str_gives c
 
 pub into_iter-item-iterator-requires : goal.into_iter-item-iterator-requires
 into_iter-item-iterator-requires g c = assumption
+
+pub returns-in_err-write_str-clause-writes : goal.returns-in_err-write_str-clause-writes
+returns-in_err-write_str-clause-writes g c = failed_plain g.W.Write.write_str_gives c.args.f.now _ _ _ c.from_residual.ensures.0
+
+pub returns-in_err-write_str-clause-styled : goal.returns-in_err-write_str-clause-styled
+returns-in_err-write_str-clause-styled g c = failed_styled g.W.Write.write_str_gives c.args.f.now _ _ _ c.from_residual.ensures.0

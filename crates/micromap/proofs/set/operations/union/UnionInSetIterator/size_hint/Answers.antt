@@ -1,6 +1,6 @@
 use Rattle.std.proofs.lemmas.List.{length-append}
 use Rattle.micromap.specs.Operations.{union_left}
-use Rattle.micromap.proofs.OperationSteps.{upper_sum}
+use Rattle.micromap.proofs.OperationSteps.{lower_sum, upper_sum}
 use Rattle.micromap.proofs.set.operations.union.UnionInSetIterator.size_hint.Goals as goal
 
 pub returns-clause-upper : goal.returns-clause-upper
@@ -12,3 +12,7 @@ returns-clause-upper g c =
 
 pub size_hint-requires-2 : goal.size_hint-requires-2
 size_hint-requires-2 g c = assumption
+
+pub returns-clause-lower : goal.returns-clause-lower
+unfolding union_left
+returns-clause-lower g c = λ _. rw (← c.self.view_is, c.hint_of_both.ensures) (lower_sum _ _ _ _ _ (c.size_hint.ensures.lower tt) (c.size_hint-2.ensures.lower tt) (length-append _ _))
