@@ -20,7 +20,7 @@ use Rattle.serde_json.specs.declared.value.Value.{Value}
 use Rattle.serde_json.proofs.Views.{Entry}
 use Rattle.micromap.specs.Extend.{distinct}
 use Rattle.micromap.specs.Items.{add, contains, item_fits}
-use Rattle.micromap.specs.Json.{Text, all_texts, and_then, in_bytes, texts_of, whole, whole_members, within}
+use Rattle.micromap.specs.Json.{Bytes, all_texts, and_then, in_bytes, texts_of, whole, whole_members, within}
 use Rattle.micromap.proofs.AddedItems.{added_new}
 use Rattle.micromap_core.proofs.DistinctLemmas.{new_behind}
 use Rattle.micromap.specs.declared.json.JsonFault.TheVariants.{NotText, NotWhole, TooMany}
@@ -68,7 +68,7 @@ module _ where
 
   -- the elements so far are texts, and the set has each distinct one, unless there are too many
   pub record HasTexts (N : ℕ) (all rest : Items) (items : List (String Global)) (all_fit : Bool) : Type 0 where
-    pub texts : List Text
+    pub texts : List Bytes
     pub split : all_texts all ≡ option_map (λ more. texts ++ more) (all_texts rest)
     pub fit : all_fit ≡ true → texts_of items ≡ distinct bytes_eq texts
     pub misfit : all_fit ≡ false → N < length (distinct bytes_eq texts)
@@ -76,7 +76,7 @@ module _ where
   pub none_yet : (N : ℕ) (all : Items) → HasTexts N all all [] true
   none_yet N all = record { texts = []; split = by (all_texts all); fit = λ _. refl; misfit = λ over. absurd (true≢false over) }
     where
-      by : (all : Option (List Text)) → all ≡ option_map (λ more. [] ++ more) all
+      by : (all : Option (List Bytes)) → all ≡ option_map (λ more. [] ++ more) all
       by None = refl
       by (Some texts) = refl
 
@@ -133,7 +133,7 @@ module _ where
     texts_misfit over = rw (has.split, end, append-nil has.texts) (many N (distinct bytes_eq has.texts) (has.misfit over))
 
 -- an object's names
-abbrev names : List Entry → List Text
+abbrev names : List Entry → List Bytes
 names es = map (λ e. string_bytes e.0) es
 
 names_apart : (k : String Global) (es : List Entry) → AllByRecursion (λ l. eq_by_cmp string_cmp k l ≡ false) (keys_of es) → AllByRecursion (λ l. bytes_eq (string_bytes k) l ≡ false) (names es)
@@ -160,13 +160,13 @@ pub length-in_bytes : (pairs : List (String Global × ℤ)) → length (in_bytes
 length-in_bytes [] = refl
 length-in_bytes (p ∷ pairs) = ap suc (length-in_bytes pairs)
 
-keys_of-push : (pairs : List (Text × ℤ)) (k : Text) (n : ℤ) (ks : List Text) → keys_of (pairs ++ (k, n) ∷ []) ++ ks ≡ keys_of pairs ++ k ∷ ks
+keys_of-push : (pairs : List (Bytes × ℤ)) (k : Bytes) (n : ℤ) (ks : List Bytes) → keys_of (pairs ++ (k, n) ∷ []) ++ ks ≡ keys_of pairs ++ k ∷ ks
 keys_of-push [] k n ks = refl
 keys_of-push (p ∷ pairs) k n ks = ap (λ l. p.0 ∷ l) (keys_of-push pairs k n ks)
 
 -- the members so far are whole, and the map has each, unless there are too many; no two names are equal
 pub record HasMembers (N : ℕ) (all : Members) (rest : List Entry) (pairs : List (String Global × ℤ)) (all_fit : Bool) : Type 0 where
-  pub members : List (Text × ℤ)
+  pub members : List (Bytes × ℤ)
   pub split : whole_members all ≡ option_map (λ more. members ++ more) (whole_members (members_view rest))
   pub apart : IsDistinct bytes_eq (keys_of members ++ names rest)
   pub fit : all_fit ≡ true → in_bytes pairs ≡ members
@@ -175,7 +175,7 @@ pub record HasMembers (N : ℕ) (all : Members) (rest : List Entry) (pairs : Lis
 pub no_members_yet : (N : ℕ) (es : List Entry) → IsStrictlySortedBy string_cmp (keys_of es) → HasMembers N (members_view es) es [] true
 no_members_yet N es sorted = record { members = []; split = by (whole_members (members_view es)); apart = names_distinct es (IsDistinct-from_sorted string_cmp (keys_of es) sorted); fit = λ _. refl; misfit = λ over. absurd (true≢false over) }
   where
-    by : (all : Option (List (Text × ℤ))) → all ≡ option_map (λ more. [] ++ more) all
+    by : (all : Option (List (Bytes × ℤ))) → all ≡ option_map (λ more. [] ++ more) all
     by None = refl
     by (Some pairs) = refl
 
@@ -185,7 +185,7 @@ module _ {N : ℕ} {all : Members} {rest later : List Entry} {k : String Global}
   not_whole is = rw (has_read.split, first, is) refl
 
   module _ (n : ℤ) (is : whole (view value) ≡ Some n) where
-    abbrev members_more : List (Text × ℤ)
+    abbrev members_more : List (Bytes × ℤ)
     members_more = has_read.members ++ (string_bytes k, n) ∷ []
 
     split_more : whole_members all ≡ option_map (λ more. members_more ++ more) (whole_members (members_view later))

@@ -20,7 +20,7 @@ use Rattle.serde_json.specs.View.{view, items_of, items_view}
 use Rattle.serde_json.specs.Written.{compact_text, has_float, items_have_float}
 use Rattle.serde_json.specs.declared.value.Value.{Value}
 use Rattle.micromap.specs.Extend.{distinct}
-use Rattle.micromap.specs.Json.{HasPairs, Pairs, Text, all_texts, and_then, array_texts, elements, in_bytes, object_pairs, texts_for, texts_of, whole, whole_members, within}
+use Rattle.micromap.specs.Json.{Bytes, HasPairs, Pairs, all_texts, and_then, array_texts, elements, in_bytes, object_pairs, texts_for, texts_of, whole, whole_members, within}
 use Rattle.micromap.specs.declared.json.JsonFault.TheVariants.{BadText, NotArray, NotObject, NotText, NotWhole}
 use Rattle.micromap_core.specs.Same.{Same, pair_eq}
 use Rattle.micromap.proofs.AddedItems.{added_all}
@@ -28,17 +28,17 @@ use Rattle.micromap.proofs.JsonPairs.{in_bytes_equiv}
 use Rattle.micromap.proofs.JsonReading.{few, neither}
 
 -- the members have these names and whole values
-abbrev ArePairs : Members → List (Text × ℤ) → Type 0
+abbrev ArePairs : Members → List (Bytes × ℤ) → Type 0
 ArePairs no_members [] = ⊤
 ArePairs no_members (p ∷ ps) = ⊥
 ArePairs (member l d ms) [] = ⊥
 ArePairs (member l d ms) (p ∷ ps) = (l ≡ p.0) × (whole d ≡ Some p.1) × (depth d ≡ 0) × ArePairs ms ps
 
-abbrev insert : List (Text × ℤ) → Text → ℤ → List (Text × ℤ)
+abbrev insert : List (Bytes × ℤ) → Bytes → ℤ → List (Bytes × ℤ)
 insert = insert_entry (slice_cmp nat_cmp)
 
-module _ (k : Text) (d : Data) (n : ℤ) (is : whole d ≡ Some n) (flat : depth d ≡ 0) where
-  are_pairs-put : (ms : Members) (ps : List (Text × ℤ)) → ArePairs ms ps → ArePairs (put k d ms) (insert ps k n)
+module _ (k : Bytes) (d : Data) (n : ℤ) (is : whole d ≡ Some n) (flat : depth d ≡ 0) where
+  are_pairs-put : (ms : Members) (ps : List (Bytes × ℤ)) → ArePairs ms ps → ArePairs (put k d ms) (insert ps k n)
   are_pairs-put no_members [] are = (refl, is, flat, tt)
   are_pairs-put no_members (p ∷ ps) are = absurd are
   are_pairs-put (member l e ms) [] are = absurd are
@@ -49,22 +49,22 @@ module _ (k : Text) (d : Data) (n : ℤ) (is : whole d ≡ Some n) (flat : depth
       by later Equal = (are.0, is, flat, are.3)
       by later Greater = (are.0, are.1, are.2, later)
 
-whole-are_pairs : (ms : Members) (ps : List (Text × ℤ)) → ArePairs ms ps → whole_members ms ≡ Some ps
+whole-are_pairs : (ms : Members) (ps : List (Bytes × ℤ)) → ArePairs ms ps → whole_members ms ≡ Some ps
 whole-are_pairs no_members [] are = refl
 whole-are_pairs no_members (p ∷ ps) are = absurd are
 whole-are_pairs (member l d ms) [] are = absurd are
 whole-are_pairs (member l d ms) (p ∷ ps) are = rw (are.1, whole-are_pairs ms ps are.3, are.0) refl
 
-depth-are_pairs : (ms : Members) (ps : List (Text × ℤ)) → ArePairs ms ps → members_depth ms ≡ 0
+depth-are_pairs : (ms : Members) (ps : List (Bytes × ℤ)) → ArePairs ms ps → members_depth ms ≡ 0
 depth-are_pairs no_members ps are = refl
 depth-are_pairs (member l d ms) [] are = absurd are
 depth-are_pairs (member l d ms) (p ∷ ps) are = rw (are.2, depth-are_pairs ms ps are.3) refl
 
 -- no pair has this name
-abbrev Lacks : List (Text × ℤ) → Text → Type 0
+abbrev Lacks : List (Bytes × ℤ) → Bytes → Type 0
 Lacks ps k = list_any (λ p. bytes_eq k p.0) ps ≡ false
 
-any-insert : (test : Text × ℤ → Bool) (ps : List (Text × ℤ)) (k : Text) (n : ℤ) → Lacks ps k → list_any test (insert ps k n) ≡ (test (k, n) || list_any test ps)
+any-insert : (test : Bytes × ℤ → Bool) (ps : List (Bytes × ℤ)) (k : Bytes) (n : ℤ) → Lacks ps k → list_any test (insert ps k n) ≡ (test (k, n) || list_any test ps)
 any-insert test [] k n new = refl
 any-insert test (p ∷ ps) k n new = by (any-insert test ps k n (neither _ _ new).1) (slice_cmp nat_cmp k p.0) refl
   where
@@ -79,7 +79,7 @@ any-insert test (p ∷ ps) k n new = by (any-insert test ps k n (neither _ _ new
     by later Equal is = absurd (true≢false (sym (ap is_eq is) ∙ is_eq-slice_cmp k p.0 ∙ (neither _ _ new).0))
     by later Greater is = ap (λ b. test p || b) later ∙ swap (test p) (test (k, n)) (list_any test ps)
 
-length-insert : (ps : List (Text × ℤ)) (k : Text) (n : ℤ) → Lacks ps k → length (insert ps k n) ≡ suc (length ps)
+length-insert : (ps : List (Bytes × ℤ)) (k : Bytes) (n : ℤ) → Lacks ps k → length (insert ps k n) ≡ suc (length ps)
 length-insert [] k n new = refl
 length-insert (p ∷ ps) k n new = by (length-insert ps k n (neither _ _ new).1) (slice_cmp nat_cmp k p.0) refl
   where
@@ -89,11 +89,11 @@ length-insert (p ∷ ps) k n new = by (length-insert ps k n (neither _ _ new).1)
     by later Greater is = ap suc later
 
 -- the names of the pairs that aren't written yet: no two are equal, and none is written
-abbrev AreNew : List (Text × ℤ) → Pairs → Type 0
+abbrev AreNew : List (Bytes × ℤ) → Pairs → Type 0
 AreNew ps [] = ⊤
 AreNew ps (p ∷ rest) = Lacks ps (string_bytes p.0) × AllByRecursion (λ l. bytes_eq (string_bytes p.0) (string_bytes l) ≡ false) (keys_of rest) × AreNew ps rest
 
-are_new-insert : (ps : List (Text × ℤ)) (k : String Global) (n : ℤ) → Lacks ps (string_bytes k) → (rest : Pairs) → AllByRecursion (λ l. bytes_eq (string_bytes k) (string_bytes l) ≡ false) (keys_of rest) → AreNew ps rest → AreNew (insert ps (string_bytes k) n) rest
+are_new-insert : (ps : List (Bytes × ℤ)) (k : String Global) (n : ℤ) → Lacks ps (string_bytes k) → (rest : Pairs) → AllByRecursion (λ l. bytes_eq (string_bytes k) (string_bytes l) ≡ false) (keys_of rest) → AreNew ps rest → AreNew (insert ps (string_bytes k) n) rest
 are_new-insert ps k n new [] apart are = tt
 are_new-insert ps k n new (p ∷ rest) apart are = (
   any-insert (λ q. bytes_eq (string_bytes p.0) q.0) ps (string_bytes k) n new ∙ ap (λ b. b || list_any (λ q. bytes_eq (string_bytes p.0) q.0) ps) (nat_list_eq_equiv.symm (string_bytes p.0) (string_bytes k) ∙ apart.0) ∙ are.0,
@@ -108,10 +108,10 @@ all_new (p ∷ rest) distinct = (refl, distinct.0, all_new rest distinct.1)
 
 -- the members so far are pairs, which with the rest are all of them
 pub record HasWritten (ms : Members) (rest all : Pairs) : Type 0 where
-  pub pairs : List (Text × ℤ)
+  pub pairs : List (Bytes × ℤ)
   pub are : ArePairs ms pairs
   pub new : AreNew pairs rest
-  pub together : (test : Text × ℤ → Bool) → list_any test (in_bytes all) ≡ (list_any test pairs || list_any test (in_bytes rest))
+  pub together : (test : Bytes × ℤ → Bool) → list_any test (in_bytes all) ≡ (list_any test pairs || list_any test (in_bytes rest))
   pub count : length all ≡ length pairs + length rest
 
 pub none_written : (all : Pairs) → IsDistinct string_eq (keys_of all) → HasWritten no_members all all
@@ -136,14 +136,14 @@ writes_one ms after rest later all k n d has first is flat made =
     moved false false c = refl
 
 -- lists that have the same items by any test
-same_items : (first second : List (Text × ℤ)) → ((test : Text × ℤ → Bool) → list_any test second ≡ list_any test first) → Same bytes_eq int_eq first second
+same_items : (first second : List (Bytes × ℤ)) → ((test : Bytes × ℤ → Bool) → list_any test second ≡ list_any test first) → Same bytes_eq int_eq first second
 same_items first second same =
     let one : list_all (λ x. list_any (pair_eq bytes_eq int_eq x) second) first ≡ true = ap (λ found. list_all found first) (λ i x. same (pair_eq bytes_eq int_eq x) i) ∙ first_so _ _ (in_bytes_equiv.refl first) in
     let other : list_all (λ y. list_any (pair_eq bytes_eq int_eq y) first) second ≡ true = sym (ap (λ found. list_all found second) (λ i x. same (pair_eq bytes_eq int_eq x) i)) ∙ first_so _ _ (in_bytes_equiv.refl second) in
     both_true one other
 
 -- the text of these members has the pairs, for any capacity that holds them
-pub written : (ms : Members) (all : Pairs) (text : Text) → HasWritten ms [] all → (depth (object ms) ≤ max_depth → read text ≡ Some (object ms)) → (M : ℕ) → length all ≤ M → HasPairs M text all
+pub written : (ms : Members) (all : Pairs) (text : Bytes) → HasWritten ms [] all → (depth (object ms) ≤ max_depth → read text ≡ Some (object ms)) → (M : ℕ) → length all ≤ M → HasPairs M text all
 written ms all text has reads_back M short =
     let flat : members_depth ms ≡ 0 = depth-are_pairs ms has.pairs has.are in
     let is : read text ≡ Some (object ms) = reads_back (rw flat (omega arith)) in
@@ -184,7 +184,7 @@ distinct_texts (x ∷ items) distinct = (apart items distinct.0, distinct_texts 
     apart [] h = tt
     apart (y ∷ ys) h = (h.0, apart ys h.1)
 
-module _ (vs : List Value) (items : List (String Global)) (text : Text) (all : map view vs ++ [] ≡ as_data items) where
+module _ (vs : List Value) (items : List (String Global)) (text : Bytes) (all : map view vs ++ [] ≡ as_data items) where
   elements_are : items_view vs ≡ elements items
   elements_are = ap items_of (sym (append-nil (map view vs)) ∙ all)
 

@@ -2,6 +2,7 @@ pub mod Sizes
 pub mod AddedItems
 pub mod EntryItems
 pub mod ExtendLemmas
+pub mod ItemCounts
 pub mod ItemLemmas
 pub mod JsonPairs
 pub mod JsonReading
@@ -13,6 +14,7 @@ pub mod RetainItems
 pub mod SetLaws
 pub mod SetTextViews
 pub use Rattle.micromap_core.proofs.ClosureLemmas
+pub use Rattle.micromap_core.proofs.CountLaws
 pub use Rattle.micromap_core.proofs.FairLemmas
 pub use Rattle.micromap_core.proofs.Equalities
 pub use Rattle.micromap_core.proofs.Laws

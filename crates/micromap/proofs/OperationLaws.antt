@@ -1,13 +1,16 @@
 -- The members of the operations on lists of items: that they are pairwise unequal, and what of them stays where the two
 -- lists change places.
-use Rattle.std.proofs.Common.{◌≡◌, ◌+◌, Bool, true, false, not, ◌&&◌, ◌||◌, ◌↔◌, List, [], ◌∷◌, length, filter, if◌then◌else◌, IsTrue, refl, ap, sym, ◌∙◌, arith}
-use Rattle.std.specs.Cmp.{IsEquivalence, first_so, second_so}
+use Rattle.std.proofs.Common.{◌≡◌, ◌+◌, Bool, true, false, not, ◌&&◌, ◌||◌, ◌↔◌, List, [], ◌∷◌, length, filter, if◌then◌else◌, IsTrue, refl, ap, sym, subst, ◌∙◌, arith}
+use Rattle.std.specs.Cmp.{IsEquivalence, both_ways, first_so, second_so}
+use Rattle.std.specs.Cmp.Derive.{both_true}
 use Rattle.std.specs.List.{IsDistinct, list_all}
+use Rattle.std.proofs.Math.Bool.{or-true}
 use Rattle.std.proofs.lemmas.Bool.{false≢true}
 use Rattle.std.proofs.lemmas.List.{length-append}
 use Rattle.std.proofs.lemmas.List.Folds.{list_any-append}
 use Rattle.std.proofs.lemmas.Map.Made.{is_member-filter}
 use Rattle.std.proofs.lemmas.Map.Steps.{list_any_congr}
+use Rattle.micromap_core.specs.Same.{have_equal_items}
 use Rattle.micromap_core.proofs.DistinctLemmas.{IsDistinct-append}
 use Rattle.micromap.specs.Items.{contains}
 use Rattle.micromap.specs.Operations.{difference, intersection, symmetric_difference, union, HaveEquals}
@@ -157,3 +160,28 @@ module _ {T : Type 0} {eq : T → T → Bool} (laws : IsEquivalence eq) where
   pub disjoint_turned : (xs ys : List T) → list_all (λ x. not (contains eq ys x)) xs ≡ list_all (λ y. not (contains eq xs y)) ys
   disjoint_turned [] ys = sym (all_apart ys)
   disjoint_turned (x ∷ xs) ys = ap (λ b. not (contains eq ys x) && b) (disjoint_turned xs ys) ∙ sym (none_equal x (contains eq xs) ys)
+
+-- each item of either set has an equal one in the other exactly where both have the same members
+module _ {T : Type 0} {eq : T → T → Bool} (laws : IsEquivalence eq) where
+  contains_within : (xs ys : List T) → list_all (contains eq ys) xs ≡ true → (q : T) → contains eq xs q ≡ true → contains eq ys q ≡ true
+  contains_within [] ys all q there = absurd (false≢true there)
+  contains_within (x ∷ xs) ys all q there = by (eq q x) refl (contains_within xs ys (second_so _ _ all) q) there
+    where
+      by : (b : Bool) → eq q x ≡ b → (contains eq xs q ≡ true → contains eq ys q ≡ true) → (b || contains eq xs q) ≡ true → contains eq ys q ≡ true
+      by true same rest found = list_any_congr laws q x ys same ∙ first_so _ _ all
+      by false apart rest found = rest found
+
+  pub within_contains : (xs ys : List T) → ((q : T) → contains eq xs q ≡ true → contains eq ys q ≡ true) → list_all (contains eq ys) xs ≡ true
+  within_contains [] ys each = refl
+  within_contains (x ∷ xs) ys each =
+      both_true (each x (ap (λ b. b || contains eq xs x) (laws.refl x))) (within_contains xs ys (λ q there. each q (ap (λ b. eq q x || b) there ∙ or-true (eq q x))))
+
+  pub same_members : (xs ys : List T) → IsTrue (have_equal_items eq xs ys) ↔ HaveEquals eq xs ys
+  same_members xs ys = (
+    λ equal q. both_ways (contains eq xs q) (contains eq ys q) (contains_within xs ys (first_so _ _ equal) q) (contains_within ys xs (second_so _ _ equal) q),
+    λ same. both_true (within_contains xs ys (λ q there. sym (same q) ∙ there)) (within_contains ys xs (λ q there. same q ∙ there)),
+  )
+
+  -- a comparison's answer says the same
+  pub members_answered : (xs ys : List T) (answer : Bool) → answer ≡ have_equal_items eq xs ys → IsTrue answer ↔ HaveEquals eq xs ys
+  members_answered xs ys answer is = subst (λ b. IsTrue b ↔ HaveEquals eq xs ys) (sym is) (same_members xs ys)

@@ -3,7 +3,7 @@
 -- `find`, the first that does), an item of one's own (`contains`, `item`, `fits`), the number of items (`length`), and
 -- that they are pairwise unequal (`unique`). The ruleset at the end has what a search needs of them.
 use Rattle.std.proofs.Common.{◌≡◌, ℕ, ◌+◌, ◌<◌, ◌≤◌, ◌||◌, ◌&&◌, not, nat_lt, Bool, true, false, List, [], ◌∷◌, ◌++◌, filter, length, map, Option, Some, None, is_some, if◌then◌else◌, refl, ap, sym, subst, ◌∙◌, arith}
-use Rattle.std.specs.List.{IsDistinct, find, list_any}
+use Rattle.std.specs.List.{IsDistinct, find, list_all, list_any}
 use Rattle.std.specs.Map.{keys_of, lookup, lookup_entry}
 use Rattle.std.specs.Option.{option_map, option_map_or, unwrap_or}
 use Rattle.std.specs.Set.{remove_key}
@@ -19,7 +19,9 @@ use Rattle.micromap_core.proofs.MapLawLemmas.{some_if, some_unless}
 use Rattle.micromap_core.proofs.MapLaws.{lookup_put, lookup_put_key, lookup_take_out, pair_put, pair_put_key, pair_take_out, pair_matched_found, length_put, length_put_key, length_take_out, length_take_out_matched, unique_put, unique_put_key, unique_take_out, take_out_missing, take_out_matched_missing, lookup_matched, keys_take_out, keys_take_out_matched}
 use Rattle.micromap_core.proofs.ProbeLemmas.{take_out_matched_is}
 use Rattle.micromap.specs.Items.{add, contains, exchange, item, item_fits, item_matched, take_item, take_item_matched}
+use Rattle.micromap.specs.Operations.{difference, intersection, symmetric_difference, union}
 use Rattle.micromap.proofs.ItemLemmas.{add-keys, any-keys, exchange-keys, find-keys, item_matched-keys, take-keys, take_item-keys, take_item_matched-keys}
+use Rattle.micromap.proofs.OperationLaws.{contains-difference, contains-intersection, contains-symmetric_difference, contains-union, within_contains}
 
 -- the pairs whose keys the items are
 abbrev paired : {T : Type 0} → List T → List (T × Unit {0})
@@ -229,4 +231,46 @@ module _ {T : Type 0} (eq : T → T → Bool) (test : T → Bool) (items : List 
       (λ i. (ap length paired-matched ∙ length-keys_of _) i + (if (any-paired test items ∙ ap is_some (sym (lookup_matched eq test (paired items) probes))) i then 1 else 0))
       ∙ length_take_out_matched eq test (paired items) probes ∙ length-paired items
 
-pub ruleset set_laws = (any_add, any_exchange, any_take_item, find_add, find_exchange, find_take_item, length_add, length_exchange, length_take_item, items_take_item, unique_add, unique_exchange, unique_take_item, add_back, take_item_missing, item_matched_found, take_item_matched_missing, length_take_item_matched, items_take_item_matched, equalities)
+-- what an item finds at once: for a search, which doesn't compute that an item of one's own equals itself
+module _ {T : Type 0} (eq : T → T → Bool) (items : List T) (x : T) where
+  pub found_add : Lawful eq → (add eq items x ≡ add eq items x) × (contains eq (add eq items x) x ≡ true)
+  found_add laws = (refl, contains_add eq items x x laws ∙ ap (λ b. b || contains eq items x) ((of_lawful eq laws).refl x))
+
+  pub found_exchange : Lawful eq → (exchange eq items x ≡ exchange eq items x) × (item eq (exchange eq items x) x ≡ Some x)
+  found_exchange laws = (refl, item_exchange eq items x x laws ∙ ap (λ b. if b then Some x else item eq items x) ((of_lawful eq laws).refl x))
+
+  pub found_take_item : Lawful eq → IsDistinct eq items → (take_item eq items x ≡ take_item eq items x) × (contains eq (take_item eq items x) x ≡ false)
+  found_take_item laws distinct = (refl, contains_take_item eq items x x laws distinct ∙ ap (λ b. not b && contains eq items x) ((of_lawful eq laws).refl x))
+
+-- each item that a loop over a set comes to is in the set: so of what is left at the start, which is all
+pub contains_walked : {T : Type 0} (eq : T → T → Bool) (items left : List T) → left ≡ items → Lawful eq → list_all (contains eq items) left ≡ true
+contains_walked eq items left all laws = ap (list_all (contains eq items)) all ∙ within_contains (of_lawful eq laws) items items (λ q there. there)
+
+pub ruleset set_laws = (any_add, any_exchange, any_take_item, find_add, find_exchange, find_take_item, length_add, length_exchange, length_take_item, items_take_item, unique_add, unique_exchange, unique_take_item, add_back, take_item_missing, item_matched_found, take_item_matched_missing, length_take_item_matched, items_take_item_matched, found_add, found_exchange, found_take_item, contains_walked, equalities)
+
+-- what each item finds, by the word alone: for a search that doesn't see the equality in what it computes to
+module _ {T : Type 0} (eq : T → T → Bool) (items : List T) (x : T) where
+  pub each_add : Lawful eq → (add eq items x ≡ add eq items x) × (contains eq (add eq items x) x ≡ true) × ((y : T) → contains eq (add eq items x) y ≡ (eq x y || contains eq items y))
+  each_add laws = (refl, (found_add eq items x laws).1, λ y. contains_add eq items x y laws)
+
+  pub each_exchange : Lawful eq → (exchange eq items x ≡ exchange eq items x) × (item eq (exchange eq items x) x ≡ Some x) × ((y : T) → contains eq (exchange eq items x) y ≡ (eq x y || contains eq items y))
+  each_exchange laws = (refl, (found_exchange eq items x laws).1, λ y. contains_exchange eq items x y laws)
+
+  pub each_take_item : Lawful eq → IsDistinct eq items → (take_item eq items x ≡ take_item eq items x) × (contains eq (take_item eq items x) x ≡ false) × ((y : T) → contains eq (take_item eq items x) y ≡ (not (eq x y) && contains eq items y))
+  each_take_item laws distinct = (refl, (found_take_item eq items x laws distinct).1, λ y. contains_take_item eq items x y laws distinct)
+
+module _ {T : Type 0} (eq : T → T → Bool) (xs ys : List T) where
+  pub each_union : Lawful eq → (union eq xs ys ≡ union eq xs ys) × ((y : T) → contains eq (union eq xs ys) y ≡ (contains eq xs y || contains eq ys y))
+  each_union laws = (refl, contains-union (of_lawful eq laws) xs ys)
+
+  pub each_symmetric_difference : Lawful eq → (symmetric_difference eq xs ys ≡ symmetric_difference eq xs ys) × ((y : T) → contains eq (symmetric_difference eq xs ys) y ≡ (if contains eq xs y then not (contains eq ys y) else contains eq ys y))
+  each_symmetric_difference laws = (refl, contains-symmetric_difference (of_lawful eq laws) xs ys)
+
+  pub each_difference : Lawful eq → (difference eq xs ys ≡ difference eq xs ys) × ((y : T) → contains eq (difference eq xs ys) y ≡ (contains eq xs y && not (contains eq ys y)))
+  each_difference laws = (refl, contains-difference (of_lawful eq laws) xs ys)
+
+  pub each_intersection : Lawful eq → (intersection eq xs ys ≡ intersection eq xs ys) × ((y : T) → contains eq (intersection eq xs ys) y ≡ (contains eq xs y && contains eq ys y))
+  each_intersection laws = (refl, contains-intersection (of_lawful eq laws) xs ys)
+
+-- for items of a type parameter, or of a type with a derived `==`, where `Lawful eq` is at hand
+pub ruleset bound_laws = (each_add, each_exchange, each_take_item, each_union, each_symmetric_difference, each_difference, each_intersection, contains_walked, length_add, length_exchange, length_take_item, items_take_item, unique_add, unique_exchange, unique_take_item, add_back, take_item_missing)

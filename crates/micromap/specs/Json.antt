@@ -32,8 +32,9 @@ message NotText = codes "an element is not a text"
 message TooMany = codes "there are more distinct texts than there is room for"
 message Memory = codes "a request for memory was refused"
 
-abbrev pub Text : Type 0
-Text = List ℕ
+-- a text, as its bytes
+abbrev pub Bytes : Type 0
+Bytes = List ℕ
 
 -- the content of a map of texts to whole numbers
 abbrev pub Pairs : Type 0
@@ -49,12 +50,12 @@ abbrev pub whole : Data → Option ℤ
 whole value = option_and_then as_i64 (as_number value)
 
 -- the members' names with their values, where each is whole
-abbrev pub whole_members : Members → Option (List (Text × ℤ))
+abbrev pub whole_members : Members → Option (List (Bytes × ℤ))
 whole_members no_members = Some []
 whole_members (member name value members) = option_and_then (λ n. option_map (λ pairs. (name, n) ∷ pairs) (whole_members members)) (whole value)
 
 -- the elements, where each is a text
-abbrev pub all_texts : Items → Option (List Text)
+abbrev pub all_texts : Items → Option (List Bytes)
 all_texts no_items = Some []
 all_texts (item value items) = option_and_then (λ text. option_map (λ texts. text ∷ texts) (all_texts items)) (as_str value)
 
@@ -63,19 +64,19 @@ abbrev pub within : {X : Type 0} → ℕ → List X → Result (List X) JsonFaul
 within N xs = if nat_lt N (length xs) then Err TooMany else Ok xs
 
 -- the pairs of the object that a text is; its names are distinct
-abbrev pub object_pairs : Text → Result (List (Text × ℤ)) JsonFault
+abbrev pub object_pairs : Bytes → Result (List (Bytes × ℤ)) JsonFault
 object_pairs text = and_then (ok_or (read text) BadText) (λ value. and_then (ok_or (as_object value) NotObject) (λ members. ok_or (whole_members members) NotWhole))
 
 -- the same for a map of capacity N
-abbrev pub pairs_for : ℕ → Text → Result (List (Text × ℤ)) JsonFault
+abbrev pub pairs_for : ℕ → Bytes → Result (List (Bytes × ℤ)) JsonFault
 pairs_for N text = and_then (object_pairs text) (within N)
 
 -- the texts of the array that a text is
-abbrev pub array_texts : Text → Result (List Text) JsonFault
+abbrev pub array_texts : Bytes → Result (List Bytes) JsonFault
 array_texts text = and_then (ok_or (read text) BadText) (λ value. and_then (ok_or (as_array value) NotArray) (λ items. ok_or (all_texts items) NotText))
 
 -- each distinct one as it came first, for a set of capacity N
-abbrev pub texts_for : ℕ → Text → Result (List Text) JsonFault
+abbrev pub texts_for : ℕ → Bytes → Result (List Bytes) JsonFault
 texts_for N text = and_then (array_texts text) (λ texts. within N (distinct bytes_eq texts))
 
 -- the fault that a text has, or want of memory
@@ -83,16 +84,16 @@ abbrev pub IsFault : {X : Type 0} → Result X JsonFault → JsonFault → Type 
 IsFault reading fault = (fault ≡ Memory) ⊎ (reading ≡ Err fault)
 
 -- a map's pairs, with their keys as bytes
-abbrev pub in_bytes : Pairs → List (Text × ℤ)
+abbrev pub in_bytes : Pairs → List (Bytes × ℤ)
 in_bytes pairs = map (λ p. (string_bytes p.0, p.1)) pairs
 
 -- a set's items as bytes
-abbrev pub texts_of : List (String Global) → List Text
+abbrev pub texts_of : List (String Global) → List Bytes
 texts_of items = map (λ s. string_bytes s) items
 
 -- the text's object has just these pairs
-abbrev pub HasPairs : ℕ → Text → Pairs → Type 0
-HasPairs N text pairs = (members : List (Text × ℤ)) × (pairs_for N text ≡ Ok members) × Same bytes_eq int_eq members (in_bytes pairs)
+abbrev pub HasPairs : ℕ → Bytes → Pairs → Type 0
+HasPairs N text pairs = (members : List (Bytes × ℤ)) × (pairs_for N text ≡ Ok members) × Same bytes_eq int_eq members (in_bytes pairs)
 
 -- the array of the texts, in their order
 abbrev pub elements : List (String Global) → Items

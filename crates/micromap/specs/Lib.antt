@@ -7,6 +7,7 @@ pub use Rattle.micromap_core.specs.Build
 pub use Rattle.micromap_core.specs.Calls
 pub use Rattle.micromap_core.specs.Clones
 pub use Rattle.micromap_core.specs.Closures
+pub use Rattle.micromap_core.specs.Counts
 pub use Rattle.micromap_core.specs.Entry
 pub use Rattle.micromap_core.specs.Equalities
 pub use Rattle.micromap_core.specs.Fair

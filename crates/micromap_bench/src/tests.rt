@@ -1,25 +1,31 @@
 //! What no contract says: values from outside, that a run comes through, and that a failed write ends it.
 mod capacity;
 
-use super::report::write_report;
-use super::rows::NUMBERS;
+use super::report::{LineSink, status, write_report};
+use super::rows::{NUMBERS, perform};
 use super::{Call, lockstep, run_rows};
 use micromap::Map;
 use micromap_testing::Marked;
+use std::alloc::Global;
 use std::io::{self, Write};
 use std::test::Fail;
 
-// A writer that counts its calls, and refuses one of them.
+// A writer that counts its calls, and refuses one of them with an error of its own.
 #[derive(Drop)]
 struct Refusing {
     refused: usize,
+    error: io::ErrorKind,
     calls: usize,
 }
 
 impl Refusing {
     // Refuses the call with this number, counted from 0.
-    fn new(refused: usize) -> Self {
-        Refusing { refused, calls: 0 }
+    fn new(refused: usize, error: io::ErrorKind) -> Self {
+        Refusing {
+            refused,
+            error,
+            calls: 0,
+        }
     }
 
     // Counts a call, and refuses it where it is the one.
@@ -27,7 +33,7 @@ impl Refusing {
         let number = self.calls;
         self.calls = self.calls.saturating_add(1);
         if number == self.refused {
-            return Err(io::Error::from(io::ErrorKind::BrokenPipe));
+            return Err(io::Error::from(self.error));
         }
         Ok(())
     }
@@ -44,6 +50,11 @@ impl Write for Refusing {
     }
 }
 
+// Runs the program's rows.
+fn run<S: LineSink>(alloc: Global, out: &mut S) -> u8 {
+    run_rows(|number| perform(alloc, number), out)
+}
+
 #[test]
 fn a_whole_run_writes_each_row(rt: HostRuntime) -> Result<(), Fail> {
     let mut expected: Vec<u8> = Vec::new(rt.alloc());
@@ -51,31 +62,40 @@ fn a_whole_run_writes_each_row(rt: HostRuntime) -> Result<(), Fail> {
         writeln!(expected, "row {number}: ok")?;
     }
     let mut out: Vec<u8> = Vec::new(rt.alloc());
-    assert_eq!(rt; run_rows(rt.alloc(), &mut out), 0);
+    assert_eq!(rt; run(rt.alloc(), &mut out), 0);
     assert_eq!(rt; out.as_slice(), expected.as_slice());
     Ok(())
 }
 
 #[test]
 fn a_refused_write_ends_the_run(rt: HostRuntime) {
-    let mut willing = Refusing::new(usize::MAX);
-    assert_eq!(rt; run_rows(rt.alloc(), &mut willing), 0);
+    let mut willing = Refusing::new(usize::MAX, io::ErrorKind::BrokenPipe);
+    assert_eq!(rt; run(rt.alloc(), &mut willing), 0);
     for refused in 0..willing.calls {
-        let mut out = Refusing::new(refused);
-        assert_eq!(rt; run_rows(rt.alloc(), &mut out), 1, "at {refused}");
+        let mut out = Refusing::new(refused, io::ErrorKind::BrokenPipe);
+        assert_eq!(rt; run(rt.alloc(), &mut out), 1, "at {refused}");
         assert_eq!(rt; out.calls, refused.saturating_add(1), "at {refused}");
     }
 }
 
 #[test]
+fn a_report_returns_the_writers_error(rt: HostRuntime) {
+    for error in [io::ErrorKind::BrokenPipe, io::ErrorKind::StorageFull] {
+        let mut out = Refusing::new(1, error);
+        let report = write_report(&NUMBERS, |number| perform(rt.alloc(), number), &mut out);
+        assert!(rt; matches!(report, Err(found) if found.kind() == error));
+    }
+}
+
+#[test]
 fn a_report_goes_on_after_a_wrong_row(rt: HostRuntime) {
-    let rows = [(1, true), (2, false), (30, true)];
     let mut out: Vec<u8> = Vec::new(rt.alloc());
-    let all_ok = write_report(rows.into_iter(), &mut out);
-    assert!(rt; matches!(all_ok, Ok(false)));
+    let report = write_report(&[1, 33, 30], |number| perform(rt.alloc(), number), &mut out);
+    assert!(rt; matches!(report, Ok(false)));
+    assert_eq!(rt; status(&report), 1);
     assert_eq!(rt;
         out.as_slice(),
-        b"row 1: ok\nrow 2: wrong\nrow 30: ok\n".as_slice()
+        b"row 1: ok\nrow 33: wrong\nrow 30: ok\n".as_slice()
     );
 }
 

@@ -1,5 +1,5 @@
 -- Items that are put one after the other: one more, and all of them.
-use Rattle.std.proofs.Common.{◌≡◌, ℕ, zero, suc, ◌+◌, ◌<◌, Bool, true, false, ◌&&◌, not, List, [], ◌∷◌, ◌++◌, length, get_or, take, Option, Some, if◌then◌else◌, IsTrue, refl, ap, sym, subst, ◌∙◌, arith}
+use Rattle.std.proofs.Common.{◌≡◌, ℕ, zero, suc, ◌+◌, ◌<◌, ◌≤◌, nat_lt, Bool, true, false, ◌&&◌, ◌||◌, not, List, [], ◌∷◌, ◌++◌, length, get_or, take, Option, Some, if◌then◌else◌, IsTrue, refl, ap, sym, subst, ◌∙◌, arith}
 use Rattle.std.specs.Cmp.{first_so, second_so}
 use Rattle.std.specs.Cmp.Derive.{both_true}
 use Rattle.std.specs.Iterator.{Drains, YieldsThen}
@@ -8,6 +8,7 @@ use Rattle.std.specs.List.{fold}
 use Rattle.std.proofs.Math.Bool.{and-true, and_assoc}
 use Rattle.std.proofs.iter.runs.Consumers.{total_runs}
 use Rattle.std.proofs.iter.runs.Made.{run_of_turn}
+use Rattle.std.proofs.lemmas.Bool.{false≢true, ltb-false}
 use Rattle.std.proofs.lemmas.List.{length_push, take_all, take_at, take_more}
 use Rattle.std.proofs.lemmas.List.Sums.{fold_push}
 use Rattle.micromap_core.specs.Build.{each_fits, PutsAll, PutsUpTo, StopsAt}
@@ -15,6 +16,11 @@ use Rattle.micromap_core.specs.Build.{each_fits, PutsAll, PutsUpTo, StopsAt}
 not_both : (a b : Bool) → IsTrue (not b) → IsTrue (not (a && b))
 not_both false b not_b = refl
 not_both true b not_b = not_b
+
+-- what has no room for one more, and has at most as many as there is room for, is full
+pub full_is : (stored : Bool) (n N : ℕ) → (stored || nat_lt n N) ≡ false → n ≤ N → n ≡ N
+full_is true n N misfit bounded = absurd (false≢true (sym misfit))
+full_is false n N misfit bounded = omega (arith, bounded, ltb-false n N misfit)
 
 module _ {C X : Type 0} (fits : C → X → Bool) (put : C → X → C) where
   fits_within : (old : C) (items : List X) (index : ℕ) (d : X) → index < length items → IsTrue (each_fits fits put old items) → fits (fold put old (take index items)) (get_or items index d) ≡ true

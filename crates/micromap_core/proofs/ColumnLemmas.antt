@@ -1,11 +1,10 @@
 -- Facts about two columns of one length, and the pairs that they are.
-use Rattle.std.proofs.Common.{◌≡◌, ℕ, zero, suc, ◌<◌, List, [], ◌∷◌, ◌++◌, All, length, take, Option, Some, None, slice_get, slice_set, slice_index_or, refl, ap, sym, ◌∙◌, arith}
+use Rattle.std.proofs.Common.{◌≡◌, ℕ, zero, suc, List, [], ◌∷◌, ◌++◌, length, take, Option, Some, None, slice_get, slice_set, refl, ap, sym, ◌∙◌, arith}
 use Rattle.std.specs.Option.{option_map, option_map_or}
-use Rattle.std.specs.List.{remove, swap, zip, AllZip}
+use Rattle.std.specs.List.{remove, swap, zip}
 use Rattle.std.specs.Map.{keys_of, values_of}
 use Rattle.std.proofs.lemmas.Grind.{common_steps}
 use Rattle.micromap_walk.proofs.ZipLemmas.{keys_zip, length_zip, values_zip}
-use Rattle.micromap_core.specs.Clones.{IsPairClone}
 use Rattle.micromap_core.specs.Pairs.{with_value_at}
 use Rattle.micromap_core.proofs.Lists.{map-swap}
 
@@ -52,18 +51,6 @@ module _ {K V : Type 0} where
   zip_remove (k ∷ ks) (v ∷ vs) zero same = refl
   zip_remove (k ∷ ks) (v ∷ vs) (suc i) same = ap (λ l. (k, v) ∷ l) (zip_remove ks vs i (omega (arith, same)))
 
-  -- clones of both columns are clones of the pairs
-  pub zip_clones : (C : K → K → Type 0) (D : V → V → Type 0) (ks ls : List K) (vs ws : List V) → length ks ≡ length vs → AllZip C ks ls → AllZip D vs ws → AllZip (IsPairClone C D) (zip ks vs) (zip ls ws)
-  zip_clones C D [] [] vs ws same keys values = by vs ws values
-    where
-      by : (vs ws : List V) → AllZip D vs ws → AllZip (IsPairClone C D) (zip [] vs) (zip [] ws)
-      by vs ws values = tt
-  zip_clones C D [] (l ∷ ls) vs ws same keys values = absurd keys
-  zip_clones C D (k ∷ ks) [] vs ws same keys values = absurd keys
-  zip_clones C D (k ∷ ks) (l ∷ ls) [] ws same keys values = absurd (omega (arith, same))
-  zip_clones C D (k ∷ ks) (l ∷ ls) (v ∷ vs) [] same keys values = absurd values
-  zip_clones C D (k ∷ ks) (l ∷ ls) (v ∷ vs) (w ∷ ws) same keys values = ((keys.0, values.0), zip_clones C D ks ls vs ws (omega (arith, same)) keys.1 values.1)
-
   -- the value at an index, and another one there
   pub value_zip : (ks : List K) (vs : List V) (i : ℕ) → length ks ≡ length vs → option_map (λ p. p.1) (slice_get (zip ks vs) i) ≡ slice_get vs i
   value_zip [] [] i same = refl
@@ -90,15 +77,3 @@ module _ {K V : Type 0} where
 
   pub equal_push : (ks : List K) (vs : List V) (k : K) (v : V) → length ks ≡ length vs → length (ks ++ k ∷ []) ≡ length (vs ++ v ∷ [])
   equal_push ks vs k v same = grind (arith, common_steps, same)
-
-  -- what holds of each pair's key and value holds of the columns
-  pub all_columns : (P : K → Type 0) (Q : V → Type 0) (ks : List K) (vs : List V) → length ks ≡ length vs → All (λ p. P p.0 × Q p.1) (zip ks vs) → All P ks × All Q vs
-  all_columns P Q [] [] same all = (λ i d within. absurd (omega (arith, within)), λ i d within. absurd (omega (arith, within)))
-  all_columns P Q [] (v ∷ vs) same all = absurd (omega (arith, same))
-  all_columns P Q (k ∷ ks) [] same all = absurd (omega (arith, same))
-  all_columns P Q (k ∷ ks) (v ∷ vs) same all =
-      let first : P k × Q v = all 0 (k, v) (omega arith) in
-      let rest : All P ks × All Q vs = all_columns P Q ks vs (omega (arith, same)) (λ i d within. all (suc i) d (omega (arith, within))) in (
-        λ i d within. elim i as (λ j. j < length (k ∷ ks) → P (slice_index_or (k ∷ ks) j d)) [ zero ↦ λ l. first.0 | suc j ↦ λ l. rest.0 j d (omega (arith, l)) ] within,
-        λ i d within. elim i as (λ j. j < length (v ∷ vs) → Q (slice_index_or (v ∷ vs) j d)) [ zero ↦ λ l. first.1 | suc j ↦ λ l. rest.1 j d (omega (arith, l)) ] within,
-      )

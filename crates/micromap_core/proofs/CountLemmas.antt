@@ -40,7 +40,7 @@ module _ {C X K : Type 0} {eq : K → K → Bool} (laws : IsEquivalence eq) {N :
       member q true same there = ap (λ test. list_any test (keys c)) (λ i k. laws.congr q (key x) k same i) ∙ there ∙ sym (or-true _)
       member q false other there = sym (or-false _)
 
-  keys-fold : (c : C) (items : List X) → IsDistinct eq (keys c) → IsDistinct eq (keys (fold put c items)) × ((q : K) → is_member eq (keys (fold put c items)) q ≡ (is_member eq (keys c) q || is_member eq (map key items) q))
+  pub keys-fold : (c : C) (items : List X) → IsDistinct eq (keys c) → IsDistinct eq (keys (fold put c items)) × ((q : K) → is_member eq (keys (fold put c items)) q ≡ (is_member eq (keys c) q || is_member eq (map key items) q))
   keys-fold c [] distinct = (distinct, λ q. sym (or-false _))
   keys-fold c (x ∷ items) distinct =
       let one = keys-put c x distinct in
@@ -73,7 +73,7 @@ module _ {C X K : Type 0} {eq : K → K → Bool} (laws : IsEquivalence eq) {N :
   pub length-built : (items : List X) → length (keys (fold put empty items)) ≡ count items
   length-built items = let built = keys-built items in length-from_keys laws _ (map key items) built.0 built.1 ∙ sym (keyed.counts items)
 
-  all_fit-count : (items : List X) → each_fits fits put empty items ≡ nat_le (count items) N
+  pub all_fit-count : (items : List X) → each_fits fits put empty items ≡ nat_le (count items) N
   all_fit-count items =
       each_fits-count empty items (subst (IsDistinct eq) (sym keyed.none) (IsDistinct-nil eq)) (rw (keyed.none) (omega arith))
       ∙ ap (λ n. nat_le n N) (length-built items)
@@ -86,6 +86,19 @@ module _ {C X K : Type 0} {eq : K → K → Bool} (laws : IsEquivalence eq) {N :
   many_distinct items x misfit =
       let many : each_fits fits put empty (items ++ x ∷ []) ≡ false = each_fits-push fits put empty items x ∙ ap (λ b. each_fits fits put empty items && b) (not-true _ misfit) ∙ and-false _ in
       leb-false _ N (sym (all_fit-count (items ++ x ∷ [])) ∙ many)
+
+  -- where not even the first of the items all fit, there are too many distinct ones
+  pub many_prefix : (items : List X) → IsTrue (not (each_fits fits put empty items)) → N < count items
+  many_prefix items misfit = leb-false _ N (sym (all_fit-count items) ∙ not-true _ misfit)
+
+  -- which takes more items than there is room for
+  full_before : (items : List X) (x : X) → N < count (items ++ x ∷ []) → N ≤ length items
+  full_before items x many =
+      let all = items ++ x ∷ [] in
+      omega (arith, many, keyed.counts all, distinct_count-le eq (map key all), length-map all key, length_push items x)
+
+  pub full_at : {S : Type 0} {steps : S → Option X → S → Type 0} {it : S} {position : ℕ} → BuildsUpTo fits put steps count N empty it position → N ≤ position
+  full_at up = omega (arith, full_before up.first.before up.first.item up.many, up.first.position_is)
 
   module _ {S : Type 0} {steps : S → Option X → S → Type 0} {it : S} {now : C} where
     pub builds_all : PutsAll fits put steps empty it now → BuildsAll fits put steps count N empty it now

@@ -121,7 +121,7 @@ module _ {T : Type 0} {eq : T → T → Bool} (laws : IsEquivalence eq) (xs ys :
       by false b one two = refl
 
 -- what holds of each element holds of the one behind the first ones
-at_seam : {T : Type 0} (P : T → Type 0) (ys : List T) (x : T) (xs : List T) → AllByRecursion P (ys ++ x ∷ xs) → P x
+pub at_seam : {T : Type 0} (P : T → Type 0) (ys : List T) (x : T) (xs : List T) → AllByRecursion P (ys ++ x ∷ xs) → P x
 at_seam P [] x xs all = all.0
 at_seam P (y ∷ ys) x xs all = at_seam P ys x xs all.1
 

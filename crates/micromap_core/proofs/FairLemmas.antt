@@ -11,10 +11,11 @@ use Rattle.std.proofs.lemmas.Bool.{false≢true, false_from_ne_true, OnTrue_from
 use Rattle.std.proofs.lemmas.Map.Entries.{length-keys_of}
 use Rattle.std.proofs.lemmas.Map.Made.{is_some-lookup, length-from_same_keys}
 use Rattle.micromap_core.specs.Calls.{Call, Answer, insert, insert_key_value, get, get_key_value, contains, remove, remove_entry, len, is_empty, clear, value, entry, refused, agree, answer, after, run}
+use Rattle.micromap_core.specs.Equalities.{Lawful}
 use Rattle.micromap_core.specs.Fair.{IsFairCall, IsFair, AnswersAgree, ToldApart, SameForGood}
 use Rattle.micromap_core.specs.Pairs.{at, pair, has, has_room, fits, put, put_key, take_out, IsUnique}
 use Rattle.micromap_core.specs.Same.{pair_eq, is_same, Same, DiffersAt}
-use Rattle.micromap_core.proofs.Equalities.{lawful}
+use Rattle.micromap_core.proofs.Equalities.{equalities, lawful, of_lawful}
 use Rattle.micromap_core.proofs.MapLaws.{at_put, at_put_key, at_take_out, unique_put, unique_put_key, unique_take_out}
 use Rattle.micromap_core.proofs.SameLemmas.{FindAlike, alike_from_same, same_from_alike, differs_where_unlike}
 
@@ -182,3 +183,40 @@ module _ {K V : Type 0} (eq : K → K → Bool) (same : V → V → Bool) (keys 
 
       pub yes_answered : OnTrue answer (SameForGood eq same N M first second)
       yes_answered = OnTrue_from answer (SameForGood eq same N M first second) (λ yes. same_for_good (is.0 yes))
+
+-- For callers: two lists that are the same stay the same where both get the same put, or the same removal. Whether there
+-- is room is for the caller to know.
+module _ {K V : Type 0} (eq : K → K → Bool) (same : V → V → Bool) (first second : List (K × V)) (k : K) where
+  -- what the two find is found after the change
+  stay_same : (one other : List (K × V)) (keys : Lawful eq) (values : Lawful same) → AreSame eq same (of_lawful eq keys) (of_lawful same values) one other → Same eq same one other
+  stay_same one other keys values are = same_from_alike eq same (of_lawful eq keys) (of_lawful same values) one other are.unique_first are.unique_second are.alike
+
+  are_same : (keys : Lawful eq) (values : Lawful same) → IsUnique eq first → IsUnique eq second → Same eq same first second → AreSame eq same (of_lawful eq keys) (of_lawful same values) first second
+  are_same keys values unique_first unique_second are =
+      record { unique_first = unique_first; unique_second = unique_second; alike = alike_from_same eq same (of_lawful eq keys) (of_lawful same values) first second unique_first unique_second are }
+
+  pub same_put : (v : V) → Lawful eq → Lawful same → IsUnique eq first → IsUnique eq second → Same eq same first second → Same eq same (put eq first k v) (put eq second k v)
+  same_put v keys values unique_first unique_second are =
+      stay_same (put eq first k v) (put eq second k v) keys values (put_same eq same (of_lawful eq keys) (of_lawful same values) first second (are_same keys values unique_first unique_second are) k v)
+
+  pub same_put_key : (v : V) → Lawful eq → Lawful same → IsUnique eq first → IsUnique eq second → Same eq same first second → Same eq same (put_key eq first k v) (put_key eq second k v)
+  same_put_key v keys values unique_first unique_second are =
+      stay_same (put_key eq first k v) (put_key eq second k v) keys values (put_key_same eq same (of_lawful eq keys) (of_lawful same values) first second (are_same keys values unique_first unique_second are) k v)
+
+  pub same_take_out : Lawful eq → Lawful same → IsUnique eq first → IsUnique eq second → Same eq same first second → Same eq same (take_out eq first k) (take_out eq second k)
+  same_take_out keys values unique_first unique_second are =
+      stay_same (take_out eq first k) (take_out eq second k) keys values (take_out_same eq same (of_lawful eq keys) (of_lawful same values) first second (are_same keys values unique_first unique_second are) k)
+
+-- the same by the word alone: for a search that doesn't see the equality in what it computes to
+module _ {K V : Type 0} (eq : K → K → Bool) (first : List (K × V)) (k : K) where
+  pub each_same_put : (v : V) → Lawful eq → IsUnique eq first → (put eq first k v ≡ put eq first k v) × ((same : V → V → Bool) (second : List (K × V)) → Lawful same → IsUnique eq second → Same eq same first second → Same eq same (put eq first k v) (put eq second k v))
+  each_same_put v keys unique = (refl, λ same second values other are. same_put eq same first second k v keys values unique other are)
+
+  pub each_same_put_key : (v : V) → Lawful eq → IsUnique eq first → (put_key eq first k v ≡ put_key eq first k v) × ((same : V → V → Bool) (second : List (K × V)) → Lawful same → IsUnique eq second → Same eq same first second → Same eq same (put_key eq first k v) (put_key eq second k v))
+  each_same_put_key v keys unique = (refl, λ same second values other are. same_put_key eq same first second k v keys values unique other are)
+
+  pub each_same_take_out : Lawful eq → IsUnique eq first → (take_out eq first k ≡ take_out eq first k) × ((same : V → V → Bool) (second : List (K × V)) → Lawful same → IsUnique eq second → Same eq same first second → Same eq same (take_out eq first k) (take_out eq second k))
+  each_same_take_out keys unique = (refl, λ same second values other are. same_take_out eq same first second k keys values unique other are)
+
+-- for who knows that two maps are the same
+pub ruleset same_laws = (each_same_put, each_same_put_key, each_same_take_out, equalities)

@@ -5,7 +5,7 @@ use Rattle.std.specs.Map.{keys_of}
 use Rattle.std.proofs.lemmas.Bool.Decides.{nat_tests}
 use Rattle.std.proofs.lemmas.List.{length-map}
 use Rattle.micromap_core.specs.Found.{FoundAt, NotFound}
-use Rattle.micromap_core.specs.Pairs.{index_by, without_at}
+use Rattle.micromap_core.specs.Pairs.{first_index, without_at}
 
 module _ {K V : Type 0} (test : K → Bool) where
   -- the first index whose key passes, or the length
@@ -64,21 +64,21 @@ module _ {K V : Type 0} (test : K → Bool) where
 
   module _ (pairs : List (K × V)) where
     -- the index of a key
-    pub found_at : (i : ℕ) → index_by test pairs ≡ Some i → FoundAt test pairs i
+    pub found_at : (i : ℕ) → first_index test pairs ≡ Some i → FoundAt test pairs i
     found_at i found =
         let n = length-map pairs (λ (e : K × V). e.0) in
         found_from pairs i (grind (arith, nat_tests)) (grind (arith, nat_tests))
 
-    pub not_found : index_by test pairs ≡ None → NotFound test pairs
+    pub not_found : first_index test pairs ≡ None → NotFound test pairs
     not_found missing =
         let n = length-map pairs (λ (e : K × V). e.0) in
         missing_from pairs (grind (arith, nat_tests))
 
     -- both at once, of what a scan answers
-    pub if_found : (o : Option ℕ) → o ≡ index_by test pairs → IfSome o (FoundAt test pairs)
+    pub if_found : (o : Option ℕ) → o ≡ first_index test pairs → IfSome o (FoundAt test pairs)
     if_found None is = tt
     if_found (Some i) is = found_at i (sym is)
 
-    pub if_not_found : (o : Option ℕ) → o ≡ index_by test pairs → IfNone o (NotFound test pairs)
+    pub if_not_found : (o : Option ℕ) → o ≡ first_index test pairs → IfNone o (NotFound test pairs)
     if_not_found None is = not_found (sym is)
     if_not_found (Some i) is = tt

@@ -2,6 +2,7 @@ pub mod BuildLemmas
 pub mod CloneLemmas
 pub mod ColumnLemmas
 pub mod ClosureLemmas
+pub mod CountLaws
 pub mod CountLemmas
 pub mod DistinctLemmas
 pub mod EntryLemmas

@@ -7,7 +7,7 @@ use Rattle.std.proofs.lemmas.Bool.{false≢true}
 use Rattle.std.proofs.lemmas.Map.Entries.{option_filter}
 use Rattle.micromap_core.specs.Equalities.{IsProbe}
 use Rattle.micromap_core.specs.Found.{FoundAt, NotFound}
-use Rattle.micromap_core.specs.Pairs.{pair, index_by, index_of, has, put, take_out, IsUnique}
+use Rattle.micromap_core.specs.Pairs.{pair, first_index, index_of, has, put, take_out, IsUnique}
 use Rattle.micromap_core.proofs.FoundLemmas.{found_at, not_found}
 
 -- where all keys are apart from one that passes, none of them passes
@@ -117,9 +117,9 @@ set_last test (e ∷ es) k v w passes missing = grind (arith, set_last test es k
 
 -- a test finds nothing, or it finds a key at an index
 pub by_test : {K V : Type 0} (test : K → Bool) (pairs : List (K × V)) (P : Type 0) → (NotFound test pairs → P) → ((i : ℕ) → FoundAt test pairs i → P) → P
-by_test test pairs P missing stored = by (index_by test pairs) refl
+by_test test pairs P missing stored = by (first_index test pairs) refl
   where
-    by : (o : Option ℕ) → index_by test pairs ≡ o → P
+    by : (o : Option ℕ) → first_index test pairs ≡ o → P
     by None none = missing (not_found test pairs none)
     by (Some i) found = stored i (found_at test pairs i found)
 

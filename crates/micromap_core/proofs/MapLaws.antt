@@ -2,23 +2,27 @@
 -- the word, as `lookup_put` and `length_take_out`. What reads is a look-up of the value (`lookup`) or of the pair
 -- (`pair`) by a test, and of the keys' own `at`, `has` and `fits`, the number of pairs (`length`), and that keys are
 -- pairwise unequal (`unique`). The ruleset at the end has what a search needs of them.
-use Rattle.std.proofs.Common.{◌≡◌, ℕ, nat_eq, ◌+◌, ◌<◌, ◌≤◌, ◌&&◌, ◌||◌, nat_lt, Bool, true, false, not, List, [], ◌∷◌, ◌++◌, filter, length, reverse, Option, Some, None, is_some, cond, if◌then◌else◌, refl, ap, sym, subst, ◌∙◌, arith}
-use Rattle.std.specs.List.{fold, list_any, IsDistinct}
+use Rattle.std.proofs.Common.{◌≡◌, ℕ, nat_eq, ◌+◌, ◌<◌, ◌≤◌, ◌&&◌, ◌||◌, nat_lt, Bool, true, false, not, List, [], ◌∷◌, ◌++◌, filter, length, reverse, Option, Some, None, is_some, cond, get_or, if◌then◌else◌, refl, ap, sym, subst, ◌∙◌, arith}
+use Rattle.std.specs.List.{fold, list_all, list_any, IsDistinct}
 use Rattle.std.specs.Map.{keys_of, lookup, lookup_entry, remove_entry, set_value, set_key}
-use Rattle.std.specs.Option.{option_map, option_map_or, option_or, unwrap_or}
+use Rattle.std.specs.Option.{option_eq, option_map, option_map_or, option_or, unwrap_or}
 use Rattle.std.specs.Ordering.{on}
 use Rattle.std.specs.Set.{distinct_count}
 use Rattle.std.proofs.Math.Bool.{or-true}
 use Rattle.std.proofs.lemmas.Bool.{false≢true, lt-ltb}
 use Rattle.std.proofs.lemmas.List.{reverse-append, length-append}
-use Rattle.std.proofs.lemmas.Map.Entries.{length-keys_of, option_filter}
+use Rattle.std.proofs.lemmas.List.Folds.{list_all-map}
+use Rattle.std.proofs.lemmas.List.Sums.{list_all-from_AllPass}
+use Rattle.std.proofs.lemmas.Map.Entries.{length-keys_of, lookup_from_place, option_filter}
 use Rattle.std.proofs.lemmas.Map.{keys-set_value, length-set_value}
 use Rattle.std.proofs.lemmas.Map.Made.{IsDistinct-keys_filter, is_some-lookup}
 use Rattle.std.proofs.lemmas.Map.Steps.{set_value_same}
+use Rattle.std.proofs.lemmas.Option.{slice_get-get_or}
 use Rattle.micromap_core.specs.Build.{build, put_pair}
 use Rattle.micromap_core.specs.Equalities.{Lawful, Probes}
 use Rattle.micromap_core.specs.Pairs.{at, pair, has, fits, put, put_key, take_out, without_at, IsUnique}
 use Rattle.micromap_core.specs.Probe.{has_matched, at_matched, pair_matched, put_matched, take_out_matched}
+use Rattle.micromap_core.specs.Same.{has_value}
 use Rattle.micromap_core.proofs.Equalities.{equalities, lawful, lawful_nat, lawful_on, of_lawful, of_probes, probes_key}
 use Rattle.micromap_core.proofs.CountLemmas.{keys-built, length-built, pairs_keyed}
 use Rattle.micromap_core.proofs.Lists.{is_some-option_map}
@@ -315,10 +319,38 @@ module _ {K V : Type 0} (eq : K → K → Bool) (pairs : List (K × V)) (k : K) 
   pub found_take_out : Lawful eq → IsUnique eq pairs → (take_out eq pairs k ≡ take_out eq pairs k) × (at eq (take_out eq pairs k) k ≡ None)
   found_take_out laws unique = (refl, at_take_out_same eq pairs k laws unique)
 
-pub ruleset map_laws = (pair_put, lookup_put, pair_put_key, lookup_put_key, pair_take_out, lookup_take_out, pair_build, lookup_build, pair_filter, lookup_filter, length_put, length_put_key, length_take_out, keys_take_out, length_build, unique_put, unique_put_key, unique_take_out, unique_build, unique_filter, put_back, put_again, take_out_missing, lookup_matched, pair_matched_found, put_matched_missing, take_out_matched_missing, length_put_matched, length_take_out_matched, keys_take_out_matched, lookup_put_matched, lookup_take_out_matched, unique_put_matched, unique_take_out_matched, found_put, found_put_key, found_take_out, equalities)
+-- each pair that a loop over a map comes to is what its key finds: so of what is left at the start, which is all
+module _ {K V : Type 0} (eq : K → K → Bool) where
+  pub at_walked : (same : V → V → Bool) (pairs left : List (K × V)) → left ≡ pairs → Lawful eq → Lawful same → IsUnique eq pairs → list_all (has_value eq same pairs) left ≡ true
+  at_walked same pairs left all laws values unique =
+      ap (list_all (has_value eq same pairs)) all
+      ∙ list_all-from_AllPass (has_value eq same pairs) pairs (λ i d within.
+      let p = get_or pairs i d in
+      ap (λ o. option_eq same o (Some p.1)) (lookup_from_place (of_lawful eq laws) pairs i p.0 p.1 unique (slice_get-get_or pairs i d within)) ∙ (of_lawful same values).refl p.1)
 
--- for keys of a type parameter, where `Lawful K.eq` is at hand
-pub ruleset bound_laws = (at_put, at_put_key, at_take_out, length_put, length_put_key, length_take_out, keys_take_out, unique_put, unique_put_key, unique_take_out, put_back, put_again, take_out_missing, found_put, found_put_key, found_take_out)
+  pub has_walked : (pairs : List (K × V)) (left : List K) → left ≡ keys_of pairs → Lawful eq → IsUnique eq pairs → list_all (has eq pairs) left ≡ true
+  has_walked pairs left all laws unique =
+      ap (list_all (has eq pairs)) all
+      ∙ list_all-map (has eq pairs) (λ p. p.0) pairs
+      ∙ list_all-from_AllPass (λ p. has eq pairs p.0) pairs (λ i d within.
+      let p = get_or pairs i d in
+      ap is_some (lookup_from_place (of_lawful eq laws) pairs i p.0 p.1 unique (slice_get-get_or pairs i d within)))
+
+pub ruleset map_laws = (pair_put, lookup_put, pair_put_key, lookup_put_key, pair_take_out, lookup_take_out, pair_build, lookup_build, pair_filter, lookup_filter, length_put, length_put_key, length_take_out, keys_take_out, length_build, unique_put, unique_put_key, unique_take_out, unique_build, unique_filter, put_back, put_again, take_out_missing, lookup_matched, pair_matched_found, put_matched_missing, take_out_matched_missing, length_put_matched, length_take_out_matched, keys_take_out_matched, lookup_put_matched, lookup_take_out_matched, unique_put_matched, unique_take_out_matched, found_put, found_put_key, found_take_out, at_walked, has_walked, equalities)
+
+-- what each key finds, by the word alone: for a search that doesn't see the equality in what it computes to
+module _ {K V : Type 0} (eq : K → K → Bool) (pairs : List (K × V)) (k : K) where
+  pub each_put : (v : V) → Lawful eq → (put eq pairs k v ≡ put eq pairs k v) × (at eq (put eq pairs k v) k ≡ Some v) × ((q : K) → at eq (put eq pairs k v) q ≡ (if eq k q then Some v else at eq pairs q))
+  each_put v laws = (refl, at_put_same eq pairs k v laws, λ q. at_put eq pairs k v q laws)
+
+  pub each_put_key : (v : V) → Lawful eq → (put_key eq pairs k v ≡ put_key eq pairs k v) × (at eq (put_key eq pairs k v) k ≡ Some v) × ((q : K) → at eq (put_key eq pairs k v) q ≡ (if eq k q then Some v else at eq pairs q))
+  each_put_key v laws = (refl, at_put_key_same eq pairs k v laws, λ q. at_put_key eq pairs k v q laws)
+
+  pub each_take_out : Lawful eq → IsUnique eq pairs → (take_out eq pairs k ≡ take_out eq pairs k) × (at eq (take_out eq pairs k) k ≡ None) × ((q : K) → at eq (take_out eq pairs k) q ≡ (if eq k q then None else at eq pairs q))
+  each_take_out laws unique = (refl, at_take_out_same eq pairs k laws unique, λ q. at_take_out eq pairs k q laws unique)
+
+-- for keys of a type parameter, or of a type with a derived `==`, where `Lawful eq` is at hand
+pub ruleset bound_laws = (each_put, each_put_key, each_take_out, length_put, length_put_key, length_take_out, keys_take_out, unique_put, unique_put_key, unique_take_out, put_back, put_again, take_out_missing, at_walked, has_walked)
 
 -- at keys that compare by a number that they have
 module _ {K V : Type 0} (f : K → ℕ) (pairs : List (K × V)) (k q : K) where

@@ -1,10 +1,18 @@
--- For callers: where the items of an iterator are known, the place at which a misfit stands is its place in them.
-use Rattle.std.proofs.Common.{◌≡◌, ℕ, ◌+◌, ◌<◌, ◌≤◌, Bool, List, length, take, slice_index_or, Option, Some, Result, Ok, Err, IfErr, sym, ap, subst, ◌∙◌, arith}
+-- For callers: where the items of an iterator are known, the place at which a misfit stands is its place in them, and they
+-- have more distinct keys than there is room for.
+use Rattle.std.proofs.Common.{◌≡◌, ℕ, ◌+◌, ◌<◌, ◌≤◌, Bool, List, [], length, take, slice_index_or, Option, Some, Result, Ok, Err, IfErr, sym, ap, subst, ◌∙◌, arith}
 use Rattle.std.specs.Option.{option_map}
 use Rattle.std.specs.Iterator.Runs.{EveryRun, ItemsAre, Run, SomeRun}
 use Rattle.std.proofs.lemmas.Grind.{common_steps}
 use Rattle.std.proofs.lemmas.List.{same_lists}
-use Rattle.micromap_core.specs.Build.{StopsAt}
+use Rattle.std.specs.Map.{keys_of}
+use Rattle.std.specs.Set.{distinct_count}
+use Rattle.std.proofs.lemmas.List.{take-map}
+use Rattle.micromap_core.specs.Build.{pair_fits, put_pair, MisfitIn, StopsAt}
+use Rattle.micromap_core.specs.Equalities.{Lawful}
+use Rattle.micromap_core.proofs.CountLaws.{distinct_prefix}
+use Rattle.micromap_core.proofs.CountLemmas.{many_prefix, pairs_keyed}
+use Rattle.micromap_core.proofs.Equalities.{of_lawful}
 
 -- what a run took of a list that it reads from the front
 run_taken : {S A : Type 0} {steps : S → Option A → S → Type 0} (p : Run steps) (xs : List A) → p.len ≤ length xs → ((k : ℕ) (d : A) → k < p.len → option_map (λ y. y) (p.at k) ≡ Some (slice_index_or xs k d)) → p.items ≡ take p.len xs
@@ -14,7 +22,7 @@ run_taken p xs few reads = same_lists p.items (take p.len xs) (grind (arith, com
     grind (arith, common_steps, same, within))
 
 module _ {C X S : Type 0} (fits : C → X → Bool) (put : C → X → C) (content : C) {steps : S → Option X → S → Type 0} (rest : S → List X) {s : S} {xs : List X} where
-  stops_in : (at : ℕ) (p : Run steps) → p.from ≡ s → EveryRun steps (λ q. ItemsAre q (rest q.from)) → rest s ≡ xs → p.len ≡ at + 1 → StopsAt fits put content p.items at → StopsAt fits put content xs at
+  pub stops_in : (at : ℕ) (p : Run steps) → p.from ≡ s → EveryRun steps (λ q. ItemsAre q (rest q.from)) → rest s ≡ xs → p.len ≡ at + 1 → StopsAt fits put content p.items at → StopsAt fits put content xs at
   stops_in at p from reads left long stops =
       let shown = reads p p.seen in
       let are : rest p.from ≡ xs = ap rest from ∙ left in
@@ -27,3 +35,16 @@ module _ {C X S : Type 0} (fits : C → X → Bool) (put : C → X → C) (conte
   pub misfit_in : {E Y : Type 0} (at : E → ℕ) (r : Result Y E) → EveryRun steps (λ q. ItemsAre q (rest q.from)) → rest s ≡ xs → IfErr r (λ e. SomeRun steps s (λ p. (p.len ≡ at e + 1) × StopsAt fits put content p.items (at e))) → IfErr r (λ e. StopsAt fits put content xs (at e))
   misfit_in at (Ok y) reads left stops = tt
   misfit_in at (Err e) reads left stops = stops_in (at e) stops.0 stops.1 reads left stops.2.0 stops.2.1
+
+module _ {K V : Type 0} (eq : K → K → Bool) (N : ℕ) where
+  -- items one of which doesn't fit have more than N distinct keys
+  pub misfit_many : (items : List (K × V)) (at : ℕ) → Lawful eq → MisfitIn eq N items at → N < distinct_count eq (keys_of items)
+  misfit_many items at laws misfit =
+      let many : N < distinct_count eq (keys_of (take (at + 1) items)) = many_prefix (of_lawful eq laws) (pairs_keyed eq N) (take (at + 1) items) misfit.1 in
+      let same : keys_of (take (at + 1) items) ≡ take (at + 1) (keys_of items) = sym (take-map (λ p. p.0) (at + 1) items) in
+      omega (arith, many, ap (distinct_count eq) same, distinct_prefix eq (keys_of items) (at + 1) laws)
+
+  -- the facts are those of `misfit_in`, and that the equality is lawful
+  pub many_in : {S E Y : Type 0} {steps : S → Option (K × V) → S → Type 0} (rest : S → List (K × V)) {s : S} {xs : List (K × V)} (at : E → ℕ) (r : Result Y E) → Lawful eq → EveryRun steps (λ q. ItemsAre q (rest q.from)) → rest s ≡ xs → IfErr r (λ e. SomeRun steps s (λ p. (p.len ≡ at e + 1) × MisfitIn eq N p.items (at e))) → IfErr r (λ e. N < distinct_count eq (keys_of xs))
+  many_in rest at (Ok y) laws reads left stops = tt
+  many_in rest {xs = xs} at (Err e) laws reads left stops = misfit_many xs (at e) laws (stops_in (pair_fits eq N) (put_pair eq) [] rest (at e) stops.0 stops.1 reads left stops.2.0 stops.2.1)

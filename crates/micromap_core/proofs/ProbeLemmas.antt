@@ -5,23 +5,23 @@ use Rattle.std.specs.Option.{option_map_or}
 use Rattle.std.specs.Map.{lookup, lookup_entry, lookup_key, remove_entry, set_value}
 use Rattle.std.proofs.lemmas.Map.Made.{lookup_key_passes}
 use Rattle.micromap_core.specs.Found.{NotFound}
-use Rattle.micromap_core.specs.Pairs.{has, index_by, put, take_out}
+use Rattle.micromap_core.specs.Pairs.{first_index, has, put, take_out}
 use Rattle.micromap_core.specs.Probe.{at_matched, pair_matched, put_matched, take_out_matched}
 use Rattle.micromap_core.proofs.FoundLemmas.{found_at, not_found}
 use Rattle.micromap_core.proofs.PairsLemmas.{put_stored}
 
 -- where no key is found, nothing is, and one that is found has a value
 no_key : {K V : Type 0} (test : K → Bool) (pairs : List (K × V)) → lookup_key test pairs ≡ None → NotFound test pairs
-no_key test pairs none = by (index_by test pairs) refl
+no_key test pairs none = by (first_index test pairs) refl
   where
-    by : (o : Option ℕ) → index_by test pairs ≡ o → NotFound test pairs
+    by : (o : Option ℕ) → first_index test pairs ≡ o → NotFound test pairs
     by None is = not_found test pairs is
     by (Some i) is = let f = found_at test pairs i is in absurd (cc (f.key, none))
 
 some_key : {K V : Type 0} (test : K → Bool) (pairs : List (K × V)) (k : K) → lookup_key test pairs ≡ Some k → is_some (lookup test pairs) ≡ true
-some_key test pairs k some = by (index_by test pairs) refl
+some_key test pairs k some = by (first_index test pairs) refl
   where
-    by : (o : Option ℕ) → index_by test pairs ≡ o → is_some (lookup test pairs) ≡ true
+    by : (o : Option ℕ) → first_index test pairs ≡ o → is_some (lookup test pairs) ≡ true
     by None is = let n = not_found test pairs is in absurd (cc (n.key, some))
     by (Some i) is = ap is_some (found_at test pairs i is).value
 

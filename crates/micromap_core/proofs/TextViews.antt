@@ -2,18 +2,19 @@
 -- with texts as keys, and `texts` for one with texts as values too.
 use Rattle.std.proofs.Common.{◌≡◌, ℕ, Bool, true, false, List, [], ◌∷◌, ◌++◌, codes, length, String, Option, Some, None, is_some, cond, if◌then◌else◌, refl, ap, sym, ◌∙◌, string_bytes}
 use Rattle.std.specs.List.{AllByRecursion, IsDistinct}
-use Rattle.std.specs.Map.{keys_of, lookup, remove_entry, set_value}
+use Rattle.std.specs.Map.{keys_of, lookup, lookup_entry, remove_entry, set_value}
 use Rattle.std.specs.Option.{option_map}
 use Rattle.std.specs.String.{string_eq}
 use Rattle.std.proofs.lemmas.List.{length-map, map-append}
 use Rattle.std.specs.Fmt.{◌++?◌, comma_space, debug_items}
-use Rattle.micromap_core.specs.Pairs.{at, has, put, take_out, IsUnique}
+use Rattle.micromap_core.specs.Pairs.{at, has, pair, put, take_out, IsUnique}
 use Rattle.micromap_core.specs.Print.{map_text, pair_text}
-use Rattle.micromap_core.specs.Probe.{at_matched, is_text, put_matched, take_out_matched}
+use Rattle.micromap_core.specs.Probe.{at_matched, has_matched, is_text, pair_matched, put_matched, take_out_matched}
 use Rattle.micromap_core.specs.Texts.{key_texts, same_text, texts, texts_by}
 use Rattle.micromap_core.proofs.Equalities.{of_probes, probes_text}
 use Rattle.micromap_core.proofs.Lists.{is_some-option_map}
-use Rattle.micromap_core.proofs.MapLaws.{lookup_matched}
+use Rattle.micromap_core.proofs.MapLaws.{lookup_matched, pair_matched_found}
+use Rattle.micromap_core.proofs.MapLawLemmas.{is_some-key}
 use Rattle.micromap_core.proofs.ProbeLemmas.{put_matched_is, take_out_matched_is}
 use Rattle.micromap_core.proofs.TextLemmas.{map_text_known}
 
@@ -57,6 +58,20 @@ module _ {Z V W : Type 0} (read : V → W) where
         ap (texts_by read) (put_matched_is string_eq (is_text bs) p.alike_keys p.equal_keys pairs w)
         ∙ set_value-texts pairs w
         ∙ sym (ap (λ b. if b then set_value (same_text bs) (texts_by read pairs) (read w) else texts_by read pairs ++ (bs, read w) ∷ []) stored)
+
+    pair-texts : (pairs : List (String Z × V)) → pair same_text (texts_by read pairs) bs ≡ option_map (λ (p : String Z × V). (string_bytes p.0, read p.1)) (lookup_entry (is_text bs) pairs)
+    pair-texts [] = refl
+    pair-texts (e ∷ es) = by (is_text bs e.0) (pair-texts es)
+      where
+        by : (b : Bool) → pair same_text (texts_by read es) bs ≡ option_map (λ (p : String Z × V). (string_bytes p.0, read p.1)) (lookup_entry (is_text bs) es) → (if b then Some (string_bytes e.0, read e.1) else pair same_text (texts_by read es) bs) ≡ option_map (λ (p : String Z × V). (string_bytes p.0, read p.1)) (if b then Some e else lookup_entry (is_text bs) es)
+        by true rest = refl
+        by false rest = rest
+
+    pair-matched : (pairs : List (String Z × V)) → pair same_text (texts_by read pairs) bs ≡ option_map (λ (p : String Z × V). (string_bytes p.0, read p.1)) (pair_matched string_eq (is_text bs) pairs)
+    pair-matched pairs = pair-texts pairs ∙ ap (option_map (λ (p : String Z × V). (string_bytes p.0, read p.1))) (sym (pair_matched_found string_eq (is_text bs) pairs (probes_text Z bs)))
+
+    has-matched : (pairs : List (String Z × V)) → has_matched (is_text bs) pairs ≡ has same_text (texts_by read pairs) bs
+    has-matched pairs = is_some-key (is_text bs) pairs ∙ sym (has-texts pairs)
 
     take_out-matched : (pairs : List (String Z × V)) → texts_by read (take_out_matched string_eq (is_text bs) pairs) ≡ take_out same_text (texts_by read pairs) bs
     unfolding take_out
@@ -117,6 +132,15 @@ module _ {Z V : Type 0} (pairs : List (String Z × V)) where
     unfolding key_texts
     at_key_texts = at-matched (λ v. v) bs pairs ∙ same_value (at_matched string_eq (is_text bs) pairs)
 
+    pub pair_key_texts : pair same_text (key_texts pairs) bs ≡ option_map (λ (p : String Z × V). (string_bytes p.0, p.1)) (pair_matched string_eq (is_text bs) pairs)
+    unfolding key_texts
+    pair_key_texts = pair-matched (λ v. v) bs pairs
+
+    -- whether a probe finds a key is whether its text is there
+    pub matched_key_texts : (at same_text (key_texts pairs) bs ≡ at same_text (key_texts pairs) bs) × (has_matched (is_text bs) pairs ≡ has same_text (key_texts pairs) bs)
+    unfolding key_texts
+    matched_key_texts = (refl, has-matched (λ v. v) bs pairs)
+
     -- a value written at the text that is there
     pub key_texts_put_matched : (v : V) → is_some (at_matched string_eq (is_text bs) pairs) ≡ true → key_texts (put_matched string_eq (is_text bs) pairs v) ≡ put same_text (key_texts pairs) bs v
     unfolding key_texts
@@ -159,6 +183,14 @@ module _ {Y Z : Type 0} (pairs : List (String Y × String Z)) where
     unfolding texts
     at_texts = at-matched string_bytes bs pairs
 
+    pub pair_texts : pair same_text (texts pairs) bs ≡ option_map (λ (p : String Y × String Z). (string_bytes p.0, string_bytes p.1)) (pair_matched string_eq (is_text bs) pairs)
+    unfolding texts
+    pair_texts = pair-matched string_bytes bs pairs
+
+    pub matched_texts : (at same_text (texts pairs) bs ≡ at same_text (texts pairs) bs) × (has_matched (is_text bs) pairs ≡ has same_text (texts pairs) bs)
+    unfolding texts
+    matched_texts = (refl, has-matched string_bytes bs pairs)
+
     pub texts_put_matched : (v : String Z) → is_some (at_matched string_eq (is_text bs) pairs) ≡ true → texts (put_matched string_eq (is_text bs) pairs v) ≡ put same_text (texts pairs) bs (string_bytes v)
     unfolding texts
     texts_put_matched v found = put-matched string_bytes bs pairs v found
@@ -180,4 +212,4 @@ module _ {Y Z : Type 0} (pairs : List (String Y × String Z)) where
     unfolding texts
     has_texts bs is = (refl, has-made string_bytes bs k pairs is)
 
-pub ruleset text_views = (length_key_texts, unique_key_texts, at_key_texts, key_texts_put_matched, key_texts_take_out_matched, key_texts_put, key_texts_take_out, has_key_texts, length_texts, unique_texts, text_of_texts, at_texts, texts_put_matched, texts_take_out_matched, texts_put, texts_take_out, has_texts)
+pub ruleset text_views = (length_key_texts, unique_key_texts, at_key_texts, pair_key_texts, matched_key_texts, key_texts_put_matched, key_texts_take_out_matched, key_texts_put, key_texts_take_out, has_key_texts, length_texts, unique_texts, text_of_texts, at_texts, pair_texts, matched_texts, texts_put_matched, texts_take_out_matched, texts_put, texts_take_out, has_texts)

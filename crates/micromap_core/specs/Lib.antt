@@ -11,6 +11,7 @@ pub mod Calls
 pub mod Clones
 pub mod Closures
 pub mod Columns
+pub mod Counts
 pub mod Same
 pub mod SameLaws
 pub mod Slots

@@ -16,8 +16,8 @@ module _ {K V : Type 0} where
   has_room N pairs = nat_lt (length pairs) N
 
   -- the number of pairs before the first whose key passes the test
-  abbrev pub index_by : (K → Bool) → List (K × V) → Option ℕ
-  index_by test pairs = position test (keys_of pairs)
+  abbrev pub first_index : (K → Bool) → List (K × V) → Option ℕ
+  first_index test pairs = position test (keys_of pairs)
 
   -- with v as the value of the pair at the index
   abbrev pub with_value_at : List (K × V) → ℕ → V → List (K × V)
@@ -44,7 +44,7 @@ module _ {K V : Type 0} where
 
     -- the number of pairs before it
     abbrev pub index_of : List (K × V) → K → Option ℕ
-    index_of pairs k = index_by (eq k) pairs
+    index_of pairs k = first_index (eq k) pairs
 
     -- whether some key equals k
     abbrev pub has : List (K × V) → K → Bool

@@ -1,8 +1,8 @@
 //! The slots in which a map keeps its keys, and those in which it keeps its values. Only this module knows that a slot
 //! is an `Option`, and that each is filled.
-ghost use Rattle.std.specs.Prelude.{◌≡◌, ◌<◌, ◌≤◌, [], ◌∷◌, ◌++◌, length, take, All, Some, IsOk, IfOk, slice_get};
+ghost use Rattle.std.specs.Prelude.{◌≡◌, ◌<◌, ◌≤◌, [], ◌∷◌, ◌++◌, length, take, Some, slice_get};
 ghost use Rattle.std.specs.Borrow.{sem};
-ghost use Rattle.std.specs.List.{AllZip, remove, swap};
+ghost use Rattle.std.specs.List.{remove, swap};
 ghost use Rattle.micromap_core.specs.Slots.{lends_item_at};
 ghost use Rattle.micromap_walk.specs.Filled.{items_of, AreFilled};
 
@@ -11,7 +11,6 @@ mod columns;
 use arrayvec::ArrayVec;
 pub(crate) use columns::Columns;
 use micromap_walk::slot::{into_item, item_of, item_of_mut};
-use std::alloc::AllocError;
 use std::marker::Model;
 
 /// A list of at most `N` items. A contract sees it as that list, from front to end.
@@ -151,17 +150,5 @@ impl<T: Drop, const N: usize> Slots<T, N> {
         ensures { self.new ≡ [] }
     {
         self.slots.clear();
-    }
-}
-
-impl<T: Clone + Drop, const N: usize> Slots<T, N> {
-    /// Returns the clones of the items, in the same order. The result is `Err` only if the clone of an item is.
-    #[inline]
-    pub(crate) fn clone(&self) -> Result<Self, AllocError>
-        ensures clones { IfOk result (AllZip T.is_clone self.now) }
-        ensures succeeds { All T.is_infallible self.now → IsOk result }
-    {
-        let slots = self.slots.clone()?;
-        Ok(Slots { slots })
     }
 }

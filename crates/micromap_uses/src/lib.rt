@@ -3,6 +3,9 @@
 #![tactic(auto)]
 
 pub mod attributes;
+pub mod board;
 pub mod frame;
 pub mod graph;
 pub mod headers;
+pub mod permissions;
+pub mod votes;

@@ -1,5 +1,5 @@
 //! Access to a filled slot, and what the compiler is told because it doesn't see it by itself.
-ghost use Rattle.std.specs.Prelude.{◌≡◌, Some, IsSome};
+ghost use Rattle.std.specs.Prelude.{◌≡◌, ◌<◌, Some, IsSome};
 ghost use Rattle.std.specs.Borrow.{sem};
 ghost use Rattle.micromap_walk.specs.Lends.{lends_item};
 
@@ -59,6 +59,17 @@ pub fn hint_equal(left: usize, right: usize)
     requires { left ≡ right }
 {
     if left != right {
+        nowhere!()
+    }
+}
+
+/// Tells the compiler that a number is below another, such as a length below the capacity, so that it can leave out a
+/// test of it. It must be below.
+#[inline]
+pub fn hint_below(number: usize, bound: usize)
+    requires { number < bound }
+{
+    if number >= bound {
         nowhere!()
     }
 }

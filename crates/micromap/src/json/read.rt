@@ -1,5 +1,5 @@
 //! Reading a map from an object, and a set from an array.
-ghost use Rattle.std.specs.Prelude.{◌≡◌, IfOk, IfErr, MatchResult, Ok, Err, ok_or, option_map, string_bytes, bytes_eq, if◌then◌else◌};
+ghost use Rattle.std.specs.Prelude.{◌≡◌, ◌≢◌, ◌<◌, length, IfOk, IfErr, MatchResult, Ok, Err, ok_or, option_map, string_bytes, bytes_eq, if◌then◌else◌};
 ghost use Rattle.std.specs.Ordering.{int_eq};
 ghost use Rattle.std.specs.String.{string_eq};
 ghost use Rattle.serde_json.specs.Find.{as_str};
@@ -20,13 +20,14 @@ use std::alloc::Global;
 /// Creates a map of an object's members, or returns why there is none.
 ///
 /// The pairs have the order of `serde_json`'s own map, which keeps one member of a repeated name. Allocates memory for
-/// the values that are read. Makes one scan for each member.
+/// the values that are read, and never returns `Memory` for an empty text. Makes one scan for each member.
 pub fn map_from_json<const N: usize>(
     alloc: Global,
     text: &str,
 ) -> Result<Map<String, i64, N>, JsonFault>
     ensures pairs { IfOk result (HasPairs N text.now) }
     ensures fault { IfErr result (IsFault (pairs_for N text.now)) }
+    ensures memory { IfErr result (λ fault. fault ≡ Memory → 0 < length text.now) }
     ensures again { (pairs : Pairs) → HasPairs N text.now pairs → MatchResult result (λ map. Same string_eq int_eq pairs map) (λ fault. fault ≡ Memory) }
     ensures content { IfOk result (IsContent string_eq N) }
 {
@@ -38,11 +39,12 @@ pub fn map_from_json<const N: usize>(
 
 /// Creates a set of an array's texts, or returns why there is none.
 ///
-/// Each distinct text is stored as it first came, in that order. Allocates memory for the values that are read. Makes
-/// one scan for each text.
+/// Each distinct text is stored as it first came, in that order. Allocates memory for the values that are read, and
+/// never returns `Memory` for an empty text. Makes one scan for each text.
 pub fn set_from_json<const N: usize>(alloc: Global, text: &str) -> Result<Set<String, N>, JsonFault>
     ensures texts { IfOk result (λ set. texts_for N text.now ≡ Ok (texts_of set)) }
     ensures fault { IfErr result (IsFault (texts_for N text.now)) }
+    ensures memory { IfErr result (λ fault. fault ≡ Memory → 0 < length text.now) }
     ensures content { IfOk result (IsItems string_eq N) }
 {
     match read(alloc, text)? {
@@ -54,6 +56,7 @@ pub fn set_from_json<const N: usize>(alloc: Global, text: &str) -> Result<Set<St
 fn read(alloc: Global, text: &str) -> Result<Value, JsonFault>
     ensures value { IfOk result (λ value. ok_or (value_of text.now) BadText ≡ Ok (view value)) }
     ensures fault { IfErr result (IsFault (ok_or (value_of text.now) BadText)) }
+    ensures memory { IfErr result (λ fault. fault ≡ Memory → 0 < length text.now) }
 {
     match Value::from_str(alloc, text) {
         Ok(value) => Ok(value),
@@ -68,6 +71,7 @@ fn map_of_members<const N: usize>(
 ) -> Result<Map<String, i64, N>, JsonFault>
     ensures pairs { IfOk result (λ map. and_then (ok_or (whole_members (members_view members.entries)) NotWhole) (within N) ≡ Ok (in_bytes map)) }
     ensures fault { IfErr result (λ fault. and_then (ok_or (whole_members (members_view members.entries)) NotWhole) (within N) ≡ Err fault) }
+    ensures no_memory { IfErr result (λ fault. fault ≢ Memory) }
     ensures content { IfOk result (IsContent string_eq N) }
 {
     let mut map = Map::new();
@@ -106,6 +110,7 @@ fn put<const N: usize>(map: &mut Map<String, i64, N>, name: String, whole: i64) 
 fn set_of_elements<const N: usize>(elements: Vec<Value>) -> Result<Set<String, N>, JsonFault>
     ensures texts { IfOk result (λ set. and_then (ok_or (all_texts (items_view elements.items)) NotText) (λ texts. within N (distinct bytes_eq texts)) ≡ Ok (texts_of set)) }
     ensures fault { IfErr result (λ fault. and_then (ok_or (all_texts (items_view elements.items)) NotText) (λ texts. within N (distinct bytes_eq texts)) ≡ Err fault) }
+    ensures no_memory { IfErr result (λ fault. fault ≢ Memory) }
     ensures content { IfOk result (IsItems string_eq N) }
 {
     let mut set = Set::new();

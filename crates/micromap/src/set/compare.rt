@@ -1,17 +1,20 @@
 //! Comparing two sets, whose capacities may differ.
-ghost use Rattle.std.specs.Prelude.{◌≡◌};
+ghost use Rattle.std.specs.Prelude.{◌≡◌, ◌↔◌, IsTrue};
 ghost use Rattle.std.specs.Cmp.{partial_equiv_from_equiv};
+ghost use Rattle.micromap.specs.Items.{contains};
 ghost use Rattle.micromap.specs.Same.{have_equal_items};
 ghost use Rattle.micromap.specs.SameLaws.{have_equal_items_equiv};
 
 use super::Set;
 
 impl<T: Eq, const N: usize> Set<T, N> {
-    /// Returns `true` if each item of either set has an equal one in the other. Neither order nor capacity matters.
+    /// Returns `true` if each item of either set has an equal one in the other, so that both contain the same items.
+    /// Neither order nor capacity matters.
     ///
     /// Compares no item if the lengths differ. Else it costs what `is_subset` costs.
     pub fn eq_with<const M: usize>(&self, other: &Set<T, M>) -> bool
-        ensures { result ≡ have_equal_items T.eq self.now other.now }
+        ensures answer { result ≡ have_equal_items T.eq self.now other.now }
+        ensures members { IsTrue result ↔ ((x : T) → contains T.eq self.now x ≡ contains T.eq other.now x) }
     {
         // Both have the same number of items, and `other` has each item of this set. So `other` has no other item.
         self.len() == other.len() && self.is_subset(other)

@@ -1,6 +1,6 @@
 //! Inserting the items of an iterator, one after the other, as `insert` does. Each distinct item is stored as it first
 //! came, in that order.
-ghost use Rattle.std.specs.Prelude.{◌≡◌, ◌+◌, [], IfOk, IfErr, IsTrue, if◌then◌else◌};
+ghost use Rattle.std.specs.Prelude.{◌≡◌, ◌+◌, ◌≤◌, [], length, IfOk, IfErr, IsTrue, if◌then◌else◌};
 ghost use Rattle.std.specs.Iterator.{UpTo};
 ghost use Rattle.std.specs.Iterator.Runs.{SomeRun, WholeRun};
 ghost use Rattle.micromap.specs.Build.{most_items, PutsAll, PutsUpTo};
@@ -16,14 +16,15 @@ impl<T: Eq + Drop, const N: usize> Set<T, N> {
     pub(crate) fn put(&mut self, x: T) -> bool
         ensures answer { result ≡ item_fits T.eq N self.old x }
         ensures items { self.new ≡ (if item_fits T.eq N self.old x then add T.eq self.old x else self.old) }
+        ensures content { IsItems T.eq N self.old }
     {
         self.map.checked_insert(x, ()).is_some()
     }
 
     /// Inserts the items of an iterator, or returns the position of the first item that doesn't fit, counted from 0.
     ///
-    /// Requires that the iterator ends, after fewer than `usize::MAX` items. After an `Err`, the set has all items
-    /// before that position. The item at it is dropped, and no later item is taken. Makes one scan for each item.
+    /// Requires that the iterator ends, after fewer than `usize::MAX` items. After an `Err`, the set is full, and has all
+    /// items before that position. The item at it is dropped, and no later item is taken. Makes one scan for each item.
     pub fn try_extend<I: Iterator<Item = T>>(&mut self, items: I) -> Result<(), Overfull>
         requires can { I.can_next items }
         requires ends { UpTo (I.remaining items) most_items }
@@ -31,6 +32,7 @@ impl<T: Eq + Drop, const N: usize> Set<T, N> {
         ensures misfit { IfErr result (λ e. PutsUpTo (item_fits T.eq N) (add T.eq) I.next_gives self.old items e.at self.new) }
         ensures runs { IfOk result (λ _. WholeRun I.next_gives items (λ p. self.new ≡ add_all T.eq self.old p.items)) }
         ensures stops { IfErr result (λ e. SomeRun I.next_gives items (λ p. (p.len ≡ e.at + 1) × ItemMisfitIn T.eq N self.old p.items e.at)) }
+        ensures full { IfErr result (λ _. length self.new ≡ N) }
         ensures content { IsItems T.eq N self.old }
     {
         let _content = self.len();
@@ -48,8 +50,8 @@ impl<T: Eq + Drop, const N: usize> Set<T, N> {
     /// 0.
     ///
     /// Requires that the iterator ends, after fewer than `usize::MAX` items. The result is `Err` exactly if more than
-    /// `N` of the items are distinct. Then the items inserted before and those left are dropped. Makes one scan for
-    /// each item.
+    /// `N` of the items are distinct. Then at least `N` items came before the one that didn't fit, and these and those left
+    /// are dropped. Makes one scan for each item.
     pub fn try_from_iter<I: Iterator<Item = T>>(items: I) -> Result<Self, Overfull>
         requires can { I.can_next items }
         requires ends { UpTo (I.remaining items) most_items }
@@ -57,6 +59,7 @@ impl<T: Eq + Drop, const N: usize> Set<T, N> {
         ensures misfit { IfErr result (λ e. ItemMisfitAt T.eq I.next_gives N items e.at) }
         ensures runs { IfOk result (λ new. WholeRun I.next_gives items (λ p. new ≡ distinct T.eq p.items)) }
         ensures stops { IfErr result (λ e. SomeRun I.next_gives items (λ p. (p.len ≡ e.at + 1) × ItemMisfitIn T.eq N [] p.items e.at)) }
+        ensures full { IfErr result (λ e. N ≤ e.at) }
         ensures content { IfOk result (IsItems T.eq N) }
     {
         let mut set = Set::new();

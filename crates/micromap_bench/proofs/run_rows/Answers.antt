@@ -1,16 +1,8 @@
-use Rattle.std.proofs.Common.{◌≡◌, true, map, ap, sym, ◌∙◌, subst, rules}
-use Rattle.std.specs.Io.KnownBytes.{Appends}
 use Rattle.micromap_bench.specs.declared.rows.TheConstants.{NUMBERS}
-use Rattle.micromap_bench.specs.Report.{lines}
-use Rattle.micromap_bench.proofs.ReportLemmas.{rows_all_ok}
+use Rattle.micromap_bench.proofs.ReportLemmas.{all_written}
 use Rattle.micromap_bench.proofs.run_rows.Goals as goal
 
--- a row was made of each number, and all of them are ok
-pub returns-in-Ok-true-clause-lines : goal.returns-in-Ok-true-clause-lines
-returns-in-Ok-true-clause-lines g c =
-    let (run, from, whole, report) = c.in-Ok-true.ensures in
-    let (source, begins, made) = c.map-rows.ensures.runs run run.seen from in
-    let given = c.into_iter.ensures.into_iter_gives in
-    let numbers : source.items ≡ NUMBERS = cc ((given.2 source source.seen).4 (made.0 ∙ whole), begins, given.0) in
-    let rows = rows_all_ok run source _ _ (λ n row f' said. search rules) made (sym report.answer ∙ c.in-Ok-true.field-0-test) ∙ ap (map (λ n. (n, true))) numbers in
-    λ _. subst (λ rows. Appends (g.W.Write.contents c.args.out.now) (g.W.Write.contents c.write_report.new.out) (lines rows)) rows report.written
+-- each line that was taken is one of a row that is ok
+pub returns-clause-lines : goal.returns-clause-lines
+returns-clause-lines g c = λ zero.
+    all_written (goal.P-post g c.args.perform) g.S.LineSink.takes g.S.LineSink.contents g.met.S.LineSink.appends NUMBERS c.args.out.now c.write_report.result c.write_report.new.out c.write_report.ensures (c.status.ensures.zero.0 zero)

@@ -1,4 +1,5 @@
 //! The rows of JSON.
+use super::Outcome;
 use micromap::json::{JsonFault, map_from_json, map_to_json, set_from_json, set_to_json};
 use micromap::{Map, Set};
 use std::alloc::{AllocError, Global};
@@ -9,16 +10,16 @@ fn fails<T: Drop>(read: Result<T, JsonFault>, fault: JsonFault) -> bool {
 }
 
 // An object is read, or the first fault in their order is returned.
-pub(super) fn row_18(alloc: Global) -> Result<bool, AllocError> {
+pub(super) fn row_18(alloc: Global) -> Result<Outcome<18>, AllocError> {
     let letters = "{\"a\":1,\"b\":2,\"c\":3}";
     let mut wanted: Map<String, i64, 3> = Map::new();
     for (name, value) in [("a", 1), ("b", 2), ("c", 3)] {
         wanted.checked_insert(String::from_str(alloc, name)?, value);
     }
     let Ok(map) = map_from_json::<3>(alloc, letters) else {
-        return Ok(false);
+        return Ok(Outcome::of(false));
     };
-    Ok(
+    Ok(Outcome::of(
         map.eq_with(&wanted)
             && fails(map_from_json::<2>(alloc, letters), JsonFault::TooMany)
             && fails(map_from_json::<2>(alloc, "[1]"), JsonFault::NotObject)
@@ -32,11 +33,11 @@ pub(super) fn row_18(alloc: Global) -> Result<bool, AllocError> {
                 map_from_json::<1>(alloc, "{\"a\":\"x\",\"b\":1}"),
                 JsonFault::NotWhole,
             ),
-    )
+    ))
 }
 
 // A map and a set are written, and a set is read.
-pub(super) fn row_27(alloc: Global) -> Result<bool, AllocError> {
+pub(super) fn row_27(alloc: Global) -> Result<Outcome<27>, AllocError> {
     let mut map: Map<String, i64, 2> = Map::new();
     let mut set: Set<String, 2> = Set::new();
     for (name, value) in [("b", 2), ("a", 1)] {
@@ -48,9 +49,9 @@ pub(super) fn row_27(alloc: Global) -> Result<bool, AllocError> {
         set_to_json(alloc, &set),
         set_from_json::<2>(alloc, "[\"b\",\"a\",\"b\"]"),
     ) else {
-        return Ok(false);
+        return Ok(Outcome::of(false));
     };
-    Ok(
+    Ok(Outcome::of(
         object.as_str() == "{\"a\":1,\"b\":2}"
             && array.as_str() == "[\"b\",\"a\"]"
             && read.iter().eq(set.iter())
@@ -60,5 +61,5 @@ pub(super) fn row_27(alloc: Global) -> Result<bool, AllocError> {
             )
             && fails(set_from_json::<2>(alloc, "[\"a\",1]"), JsonFault::NotText)
             && fails(set_from_json::<2>(alloc, "{\"a\":1}"), JsonFault::NotArray),
-    )
+    ))
 }

@@ -1,6 +1,6 @@
 //! Inserting the items of an iterator, one after the other, as `insert` does. The keys are stored in the order in which
 //! each distinct key first came. Each has the value of its last item.
-ghost use Rattle.std.specs.Prelude.{◌≡◌, ◌+◌, IsTrue, IfOk, IfErr};
+ghost use Rattle.std.specs.Prelude.{◌≡◌, ◌+◌, ◌≤◌, length, IsTrue, IfOk, IfErr};
 ghost use Rattle.std.specs.Iterator.{UpTo};
 ghost use Rattle.std.specs.Iterator.Runs.{SomeRun, WholeRun};
 ghost use Rattle.micromap_core.specs.Build.{all_fit, build, BuiltFrom, MisfitAt, MisfitIn, most_items, pair_fits, put_all, put_pair, PutsAll, PutsUpTo, StopsAt};
@@ -50,8 +50,8 @@ impl<K: Eq + Copy, V: Copy, const N: usize> From<[(K, V); N]> for Map<K, V, N> {
 impl<K: Eq + Drop, V: Drop, const N: usize> Map<K, V, N> {
     /// Inserts the items of an iterator, or returns the position of the first item that doesn't fit, counted from 0.
     ///
-    /// Requires that the iterator ends, after fewer than `usize::MAX` items. After an `Err`, the map has all items
-    /// before that position. The item at it is dropped, and no later item is taken. Makes one scan for each item.
+    /// Requires that the iterator ends, after fewer than `usize::MAX` items. After an `Err`, the map is full, and has all
+    /// items before that position. The item at it is dropped, and no later item is taken. Makes one scan for each item.
     pub fn try_extend<I: Iterator<Item = (K, V)>>(&mut self, items: I) -> Result<(), Overfull>
         requires can { I.can_next items }
         requires ends { UpTo (I.remaining items) most_items }
@@ -59,6 +59,7 @@ impl<K: Eq + Drop, V: Drop, const N: usize> Map<K, V, N> {
         ensures misfit { IfErr result (λ e. PutsUpTo (pair_fits K.eq N) (put_pair K.eq) I.next_gives self.old items e.at self.new) }
         ensures runs { IfOk result (λ _. WholeRun I.next_gives items (λ p. self.new ≡ put_all K.eq self.old p.items)) }
         ensures stops { IfErr result (λ e. SomeRun I.next_gives items (λ p. (p.len ≡ e.at + 1) × StopsAt (pair_fits K.eq N) (put_pair K.eq) self.old p.items e.at)) }
+        ensures full { IfErr result (λ _. length self.new ≡ N) }
         ensures content { IsContent K.eq N self.old }
     {
         let _content = self.len();
@@ -76,8 +77,8 @@ impl<K: Eq + Drop, V: Drop, const N: usize> Map<K, V, N> {
     /// 0.
     ///
     /// Requires that the iterator ends, after fewer than `usize::MAX` items. The result is `Err` exactly if the items
-    /// have more than `N` distinct keys. Then the items inserted before and those left are dropped. Makes one scan for
-    /// each item.
+    /// have more than `N` distinct keys. Then at least `N` items came before the one that didn't fit, and these and those
+    /// left are dropped. Makes one scan for each item.
     pub fn try_from_iter<I: Iterator<Item = (K, V)>>(items: I) -> Result<Self, Overfull>
         requires can { I.can_next items }
         requires ends { UpTo (I.remaining items) most_items }
@@ -85,6 +86,7 @@ impl<K: Eq + Drop, V: Drop, const N: usize> Map<K, V, N> {
         ensures misfit { IfErr result (λ e. MisfitAt K.eq I.next_gives N items e.at) }
         ensures runs { IfOk result (λ map. WholeRun I.next_gives items (λ p. map ≡ build K.eq p.items)) }
         ensures stops { IfErr result (λ e. SomeRun I.next_gives items (λ p. (p.len ≡ e.at + 1) × MisfitIn K.eq N p.items e.at)) }
+        ensures full { IfErr result (λ e. N ≤ e.at) }
         ensures content { IfOk result (IsContent K.eq N) }
     {
         let mut map = Map::new();

@@ -7,7 +7,7 @@ ghost use Rattle.std.specs.Option.{IfSome, option_map};
 ghost use Rattle.micromap_core.specs.Closures.{CalledOnPair, AcceptsPair, VisitsAt};
 ghost use Rattle.micromap_core.specs.Found.{FoundAt, NotFound};
 ghost use Rattle.micromap_core.specs.Lends.{lends_value_at};
-ghost use Rattle.micromap_core.specs.Pairs.{IsContent, at, has_room, index_by, index_of, pair, put, put_key, with_value_at, without_at};
+ghost use Rattle.micromap_core.specs.Pairs.{IsContent, at, first_index, has_room, index_of, pair, put, put_key, with_value_at, without_at};
 ghost use Rattle.micromap_core.specs.Probe.{at_matched, pair_matched, take_out_matched};
 
 use super::Map;
@@ -19,7 +19,7 @@ impl<K: Eq, V, const N: usize> Map<K, V, N> {
     // every call that changes a map.
     #[inline]
     fn first_index<P: Probe<K>>(&self, probe: &P) -> Option<usize>
-        ensures { result ≡ index_by (P.matches probe.now) self.now }
+        ensures { result ≡ first_index (P.matches probe.now) self.now }
     {
         let keys = self.keys();
         let _bounded = keys.len();
@@ -37,7 +37,7 @@ impl<K: Eq, V, const N: usize> Map<K, V, N> {
     // every call by probe that only reads. The number of keys left gives the index.
     #[inline]
     fn first_index_by_rest<P: Probe<K>>(&self, probe: &P) -> Option<usize>
-        ensures { result ≡ index_by (P.matches probe.now) self.now }
+        ensures { result ≡ first_index (P.matches probe.now) self.now }
     {
         let mut keys = self.keys();
         while let Some(key) = keys.next() {
@@ -73,7 +73,7 @@ impl<K: Eq, V, const N: usize> Map<K, V, N> {
     // a key.
     #[inline]
     pub(crate) fn index_of<P: Probe<K>>(&self, probe: &P) -> Option<usize>
-        ensures answer { result ≡ index_by (P.matches probe.now) self.now }
+        ensures answer { result ≡ first_index (P.matches probe.now) self.now }
         ensures found { IfSome result (FoundAt (P.matches probe.now) self.now) }
         ensures missing { IfNone result (NotFound (P.matches probe.now) self.now) }
         ensures content { IsContent K.eq N self.now }
@@ -140,7 +140,7 @@ impl<K: Eq, V, const N: usize> Map<K, V, N> {
         ensures old { at K.eq self.old key.now ≡ Some result }
         ensures pairs { self.new ≡ put K.eq self.old key.now value }
     {
-        mem::replace(self.value_at(index), value)
+        self.replace_at(index, value)
     }
 
     // Replaces the key at `index` and its value, and returns the old pair.

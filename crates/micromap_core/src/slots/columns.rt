@@ -1,19 +1,17 @@
 //! The keys and the values of a map, each in slots of their own. A pair is a key and the value at the same index.
-ghost use Rattle.std.specs.Prelude.{◌≡◌, ◌<◌, ◌≤◌, [], ◌∷◌, ◌++◌, length, take, All, Some, IsOk, IfOk, slice_get, slice_set};
+ghost use Rattle.std.specs.Prelude.{◌≡◌, ◌<◌, ◌≤◌, [], ◌∷◌, ◌++◌, length, take, Some, slice_get, slice_set};
 ghost use Rattle.std.specs.Borrow.{sem};
-ghost use Rattle.std.specs.List.{AllZip, remove, swap, zip};
+ghost use Rattle.std.specs.List.{remove, swap, zip};
 ghost use Rattle.std.specs.Map.{keys_of, values_of};
 ghost use Rattle.std.specs.Map.Calls.{CallableOnEachPair, RetainsPairs};
 ghost use Rattle.std.specs.Option.{IfSome, option_map};
 ghost use Rattle.micromap_walk.specs.Filled.{items_of, AreFilled};
-ghost use Rattle.micromap_core.specs.Clones.{IsPairClone};
 ghost use Rattle.micromap_core.specs.Closures.{AcceptsPair, CalledOnPair, VisitsAt};
 ghost use Rattle.micromap_core.specs.Columns.{lends_value_in};
 
 use super::Slots;
 use arrayvec::ArrayVec;
 use micromap_walk::slot::hint_equal;
-use std::alloc::AllocError;
 use std::marker::Model;
 use std::mem;
 
@@ -233,19 +231,5 @@ impl<K: Drop, V: Drop, const N: usize> Columns<K, V, N> {
     {
         self.keys.clear();
         self.values.clear();
-    }
-}
-
-impl<K: Clone + Drop, V: Clone + Drop, const N: usize> Columns<K, V, N> {
-    /// Returns the clones of the keys and then of the values, in the same order. The result is `Err` only if the clone
-    /// of one is.
-    #[inline]
-    pub(crate) fn clone(&self) -> Result<Self, AllocError>
-        ensures clones { IfOk result (AllZip (IsPairClone K.is_clone V.is_clone) self.now) }
-        ensures succeeds { All (λ p. K.is_infallible p.0 × V.is_infallible p.1) self.now → IsOk result }
-    {
-        let keys = self.keys.clone()?;
-        let values = self.values.clone()?;
-        Ok(Columns { keys, values })
     }
 }

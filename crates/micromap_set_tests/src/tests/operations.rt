@@ -1,5 +1,5 @@
 //! The operations on two sets as a user calls them, and callers' proofs.
-ghost use Rattle.std.specs.Prelude.{◌≡◌, ◌==◌, ◌%◌, ◌<◌, ◌^◌, filter, length, nat_eq, sum, Ok, IfOk};
+ghost use Rattle.std.specs.Prelude.{◌≡◌, ◌↔◌, ◌==◌, ◌%◌, ◌<◌, ◌^◌, filter, length, nat_eq, sum, Ok, IfOk, IsErr};
 ghost use Rattle.micromap.specs.Operations.{difference, intersection, union};
 
 use micromap::{Overfull, Set};
@@ -41,7 +41,8 @@ fn joined<const N: usize, const M: usize, const L: usize>(
     a: &Set<u8, N>,
     b: &Set<u8, M>,
 ) -> Result<Set<u8, L>, Overfull>
-    ensures { IfOk result (λ set. set ≡ union nat_eq a.now b.now) }
+    ensures members { IfOk result (λ set. set ≡ union nat_eq a.now b.now) }
+    ensures refused { IsErr result ↔ (L < length (union nat_eq a.now b.now)) }
 {
     Set::try_from_iter(a.union(b).copied())
 }

@@ -1,5 +1,5 @@
 //! Callers that are proved by the laws of the map and the set alone: one line names the laws, and no proof is written.
-ghost use Rattle.std.specs.Prelude.{◌≡◌, ◌≤◌, ◌+◌, ◌&&◌, IfOk, Some, None, IsTrue, filter, is_some, length, nat_eq, not, if◌then◌else◌};
+ghost use Rattle.std.specs.Prelude.{◌≡◌, ◌≤◌, ◌+◌, ◌&&◌, ◌||◌, IfOk, Some, None, IsFalse, IsTrue, filter, is_some, length, nat_eq, not, if◌then◌else◌};
 ghost use Rattle.std.specs.Map.{keys_of};
 ghost use Rattle.std.specs.Option.{option_map_or};
 ghost use Rattle.std.specs.Ordering.{on};
@@ -99,6 +99,33 @@ fn put_any<K: Eq + Drop>(map: &mut Map<K, u8, 8>, a: K, b: &K) -> Option<u8>
 {
     map.insert(a, 1);
     map.get(b).copied()
+}
+
+// Inserts and looks for items of any type.
+#[tactic(auto, using(micromap::proofs::SetLaws::bound_laws))]
+fn insert_any<T: Eq + Drop>(set: &mut Set<T, 8>, a: T, b: &T) -> bool
+    requires { IsTrue (item_fits T.eq 8 set.old a) }
+    ensures { result ≡ (T.eq a b.now || contains T.eq set.old b.now) }
+{
+    set.insert(a);
+    set.contains(b)
+}
+
+// Inserts a word, which is then there.
+#[tactic(auto, using(micromap::proofs::SetLaws::set_laws))]
+fn insert_word(set: &mut Set<String, 8>, word: String)
+    requires { IsTrue (item_fits string_eq 8 set.old word) }
+    ensures { IsTrue (contains string_eq set.new word) }
+{
+    set.insert(word);
+}
+
+// Takes a word out, which is then not there.
+#[tactic(auto, using(micromap::proofs::SetLaws::set_laws))]
+fn take_word(set: &mut Set<String, 8>, word: &String)
+    ensures { IsFalse (contains string_eq set.new word.now) }
+{
+    set.take(word);
 }
 
 // Removes a number by its entry, and returns whether it was there. The other keys keep their order.

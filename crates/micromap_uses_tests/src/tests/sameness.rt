@@ -3,14 +3,16 @@ ghost use Rattle.std.specs.Prelude.{◌≡◌, ◌↔◌, ◌≤◌, List, lengt
 ghost use Rattle.std.specs.Bool.{OnTrue};
 ghost use Rattle.std.specs.List.{list_all};
 ghost use Rattle.std.specs.Option.{IfSome, option_copied, option_eq};
+ghost use Rattle.std.specs.String.{string_eq};
 ghost use Rattle.micromap.specs.Calls.{Call};
 ghost use Rattle.micromap.specs.Fair.{AnswersAgree, IsFair};
 ghost use Rattle.micromap.specs.Items.{contains};
 ghost use Rattle.micromap.specs.Operations.{intersection};
-ghost use Rattle.micromap.specs.Pairs.{has};
+ghost use Rattle.micromap.specs.Pairs.{fits, has};
 ghost use Rattle.micromap.specs.Same.{Same, has_value, have_equal_items};
 
 use micromap::{Map, Set};
+use micromap_uses::board::{Board, Square};
 
 // What each of two maps has at a key where they differ, or `None` where they are the same.
 fn conflict<'a, const N: usize, const M: usize>(
@@ -32,6 +34,91 @@ fn is_replica<const N: usize, const M: usize>(
     ensures { ((calls : List (Call _ _)) → IsFair nat_eq N M list.now replica.now calls → AnswersAgree nat_eq nat_eq N M list.now replica.now calls) → IsTrue result }
 {
     list.eq_with(replica)
+}
+
+// Puts one pair into a list and its replica. Where they are the same, they stay the same.
+#[tactic(auto, using(micromap_core::proofs::FairLemmas::same_laws))]
+fn put_both<const N: usize, const M: usize>(
+    list: &mut Map<u8, u8, N>,
+    replica: &mut Map<u8, u8, M>,
+    key: u8,
+    value: u8,
+)
+    requires same { Same nat_eq nat_eq list.old replica.old }
+    requires fits { IsTrue (fits nat_eq N list.old key) }
+    requires fits_replica { IsTrue (fits nat_eq M replica.old key) }
+    ensures { Same nat_eq nat_eq list.new replica.new }
+{
+    list.insert(key, value);
+    replica.insert(key, value);
+}
+
+// Puts one pair with its own key into a list and its replica.
+#[tactic(auto, using(micromap_core::proofs::FairLemmas::same_laws))]
+fn exchange_both<const N: usize, const M: usize>(
+    list: &mut Map<u8, u8, N>,
+    replica: &mut Map<u8, u8, M>,
+    key: u8,
+    value: u8,
+)
+    requires same { Same nat_eq nat_eq list.old replica.old }
+    requires fits { IsTrue (fits nat_eq N list.old key) }
+    requires fits_replica { IsTrue (fits nat_eq M replica.old key) }
+    ensures { Same nat_eq nat_eq list.new replica.new }
+{
+    list.insert_key_value(key, value);
+    replica.insert_key_value(key, value);
+}
+
+// Removes one key from a list and its replica. Where they are the same, they stay the same.
+#[tactic(auto, using(micromap_core::proofs::FairLemmas::same_laws))]
+fn remove_both<const N: usize, const M: usize>(
+    list: &mut Map<u8, u8, N>,
+    replica: &mut Map<u8, u8, M>,
+    key: u8,
+)
+    requires { Same nat_eq nat_eq list.old replica.old }
+    ensures { Same nat_eq nat_eq list.new replica.new }
+{
+    list.remove(&key);
+    replica.remove(&key);
+}
+
+// Removes one key of any type from a list and its replica.
+#[tactic(auto, using(micromap_core::proofs::FairLemmas::same_laws))]
+fn remove_any<K: Eq + Drop, const N: usize, const M: usize>(
+    list: &mut Map<K, u8, N>,
+    replica: &mut Map<K, u8, M>,
+    key: &K,
+)
+    requires { Same K.eq nat_eq list.old replica.old }
+    ensures { Same K.eq nat_eq list.new replica.new }
+{
+    list.remove(key);
+    replica.remove(key);
+}
+
+// Removes one name from both.
+fn remove_name<const N: usize, const M: usize>(
+    list: &mut Map<String, u8, N>,
+    replica: &mut Map<String, u8, M>,
+    key: &String,
+)
+    requires { Same string_eq nat_eq list.old replica.old }
+    ensures { Same string_eq nat_eq list.new replica.new }
+{
+    list.remove(key);
+    replica.remove(key);
+}
+
+// Takes a piece off two boards that are the same.
+#[tactic(auto, using(micromap_core::proofs::FairLemmas::same_laws))]
+fn clear_square<const N: usize>(board: &mut Board<N>, copy: &mut Board<N>, at: &Square)
+    requires { Same ⟦<Square as PartialEq>⟧.eq nat_eq board.old copy.old }
+    ensures { Same ⟦<Square as PartialEq>⟧.eq nat_eq board.new copy.new }
+{
+    board.remove(at);
+    copy.remove(at);
 }
 
 // Whether three maps are the same, by two comparisons.
@@ -102,6 +189,17 @@ fn a_conflict_is_read_from_both(rt: HostRuntime) {
     assert_eq!(rt; conflict(&first, &first), None);
     assert!(rt; is_replica(&first, &Map::from([(2, 20), (1, 10)])));
     assert!(rt; !is_replica(&first, &second));
+}
+
+#[test]
+#[tactic(auto, unfolding(micromap_core::specs::Pairs::put))]
+fn a_replica_gets_what_its_list_gets(rt: HostRuntime) {
+    let mut list: Map<u8, u8, 3> = Map::new();
+    let mut replica: Map<u8, u8, 4> = Map::new();
+    put_both(&mut list, &mut replica, 1, 10);
+    assert!(rt; list.eq_with(&replica));
+    remove_both(&mut list, &mut replica, 1);
+    assert!(rt; list.is_empty() && replica.is_empty());
 }
 
 #[test]

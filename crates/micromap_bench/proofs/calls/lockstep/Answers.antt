@@ -19,3 +19,21 @@ pub returns-clause-keeps_same : goal.returns-clause-keeps_same
 returns-clause-keeps_same g c =
     Leads-same g.K.PartialEq.eq g.V.PartialEq.eq g.row.N g.row.M g.met.K.Eq.laws g.met.V.Eq.laws c.loop-call.first c.loop-call.second c.loop-call.agreed _ _ _
     (rw (calls_ended call_of c.args.calls.now c.loop-call.call-index c.loop-call-test.false) at c.loop-call.invariant) c.len.ensures.content.unique c.len-2.ensures.content.unique
+
+pub len-requires : goal.len-requires
+len-requires g c = assumption
+
+pub len-requires-2 : goal.len-requires-2
+len-requires-2 g c = assumption
+
+pub perform-one-requires : goal.perform-one-requires
+perform-one-requires g c = assumption
+
+pub perform-other-requires : goal.perform-other-requires
+perform-other-requires g c = assumption
+
+pub returns-clause-first : goal.returns-clause-first
+returns-clause-first g c = (rw (calls_ended call_of c.args.calls.now c.loop-call.call-index c.loop-call-test.false) at c.loop-call.invariant).first_ends
+
+pub returns-clause-second : goal.returns-clause-second
+returns-clause-second g c = (rw (calls_ended call_of c.args.calls.now c.loop-call.call-index c.loop-call-test.false) at c.loop-call.invariant).second_ends

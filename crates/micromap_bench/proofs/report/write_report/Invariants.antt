@@ -1,10 +1,9 @@
-use Rattle.std.proofs.Common.{◌≡◌}
-use Rattle.micromap_bench.specs.Report.{Reports}
+use Rattle.std.proofs.Common.{drop}
+use Rattle.micromap_bench.specs.Report.{TakesLines, also}
 use Rattle.micromap_bench.proofs.report.write_report.Given as goal
 
--- the lines of the rows so far were written, and it is known whether those are ok
+-- a report of the rows left is a report of all, with the rows so far
 abbrev pub invariant-loop-number : goal.invariant-loop-number
 invariant-loop-number g l =
-    (goal.iterator-loop-number g).can_next l.number-iterator
-    × (goal.iterator-loop-number g).is_finite l.number-iterator
-    × Reports l.yielded l.all_ok (g.W.Write.contents l.fn.out) (g.W.Write.contents l.out)
+    (rest : _) (new : _) → TakesLines (goal.P-post g l.fn.perform) g.S.LineSink.takes (drop l.number-index l.fn.numbers) l.out rest new
+    → TakesLines (goal.P-post g l.fn.perform) g.S.LineSink.takes l.fn.numbers l.fn.out (also l.all_ok rest) new

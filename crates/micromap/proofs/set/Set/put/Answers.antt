@@ -3,7 +3,7 @@ use Rattle.std.proofs.Common.{is_some, ap, sym, ◌∙◌}
 use Rattle.std.specs.Map.{keys_of}
 use Rattle.micromap.specs.Pairs.{at, fits}
 use Rattle.micromap_core.proofs.Lists.{is_some-if}
-use Rattle.micromap.proofs.ItemLemmas.{fits-keys, checked-keys}
+use Rattle.micromap.proofs.ItemLemmas.{fits-keys, checked-keys, content_items}
 use Rattle.micromap.proofs.set.Set.put.Goals as goal
 
 pub returns-clause-answer : goal.returns-clause-answer
@@ -18,3 +18,6 @@ returns-clause-items g c = rw (← c.self.view_is, checked-keys) (ap keys_of c.c
 
 pub checked_insert-requires : goal.checked_insert-requires
 checked_insert-requires g c = map_fits g.row.T g.row.N g.T.PartialEq.eq assumption
+
+pub returns-clause-content : goal.returns-clause-content
+returns-clause-content g c = content_items c.self.view_is c.checked_insert.ensures.content

@@ -1,6 +1,6 @@
-use Rattle.std.proofs.Common.{sym, ◌∙◌, arith}
-use Rattle.micromap.specs.Items.{add, item_fits}
-use Rattle.micromap_core.proofs.BuildLemmas.{has_put_more, puts_up_to, puts_all, run_puts, run_stops}
+use Rattle.std.proofs.Common.{◌≡◌, false, if◌then◌else◌, length, ap, sym, ◌∙◌, arith}
+use Rattle.micromap.specs.Items.{add, contains, item_fits}
+use Rattle.micromap_core.proofs.BuildLemmas.{full_is, has_put_more, puts_up_to, puts_all, run_puts, run_stops}
 use Rattle.micromap.proofs.set.Set.try_extend.Goals as goal
 
 pub loop-x-preserved : goal.loop-x-preserved
@@ -24,6 +24,15 @@ returns-then-not-put-clause-misfit g c =
 
 pub returns-then-not-put-clause-stops : goal.returns-then-not-put-clause-stops
 returns-then-not-put-clause-stops g c = run_stops (item_fits g.T.PartialEq.eq g.row.N) (add g.T.PartialEq.eq) g.I.Iterator.next_gives c.args.items c.args.self.now c.put.new.self c.loop-x.at (returns-then-not-put-clause-misfit g c)
+
+-- the set is as it was before the item that didn't fit, and full
+pub returns-then-not-put-clause-full : goal.returns-then-not-put-clause-full
+returns-then-not-put-clause-full g c =
+    let l = c.loop-x in
+    let eq = g.T.PartialEq.eq in
+    let misfit : item_fits eq g.row.N l.self c.in-Some.x ≡ false = sym c.put.ensures.answer ∙ c.if-not-put.true in
+    ap length (c.put.ensures.items ∙ ap (λ b. if b then add eq l.self c.in-Some.x else l.self) misfit)
+    ∙ full_is (contains eq l.self c.in-Some.x) (length l.self) g.row.N misfit c.put.ensures.content.bounded
 
 pub returns-clause-extends : goal.returns-clause-extends
 returns-clause-extends g c =

@@ -1,5 +1,5 @@
 use Rattle.std.proofs.lemmas.Result.{err_from_is_err_and}
-use Rattle.micromap_core.proofs.CountLemmas.{builds_all, builds_up_to}
+use Rattle.micromap_core.proofs.CountLemmas.{builds_all, builds_up_to, full_at}
 use Rattle.micromap.proofs.ExtendLemmas.{items_keyed}
 use Rattle.micromap.proofs.set.Set.try_from_iter.Goals as goal
 use Rattle.std.proofs.Common.{arith}
@@ -12,6 +12,13 @@ pub returns-in_err-try_extend-clause-misfit : goal.returns-in_err-try_extend-cla
 returns-in_err-try_extend-clause-misfit g c =
     let same = err_from_is_err_and c.from_residual.result c.from_residual.ensures.1 in
     rw (same.1, same.2) (builds_up_to g.met.T.Eq.laws (items_keyed g.T.PartialEq.eq g.row.N) (rw c.new-set.ensures at c.in_err-try_extend.ensures.misfit))
+
+pub returns-in_err-try_extend-clause-full : goal.returns-in_err-try_extend-clause-full
+returns-in_err-try_extend-clause-full g c =
+    let laws = g.met.T.Eq.laws in
+    let keyed = items_keyed g.T.PartialEq.eq g.row.N in
+    let same = err_from_is_err_and c.from_residual.result c.from_residual.ensures.1 in
+    rw (same.1, same.2) (full_at laws keyed (builds_up_to laws keyed (rw c.new-set.ensures at c.in_err-try_extend.ensures.misfit)))
 
 pub returns-in_err-try_extend-clause-stops : goal.returns-in_err-try_extend-clause-stops
 returns-in_err-try_extend-clause-stops g c =

@@ -1,7 +1,7 @@
-use Rattle.std.proofs.Common.{◌≡◌, true, false, is_some, ap, sym, ◌∙◌, arith, refl}
+use Rattle.std.proofs.Common.{◌≡◌, true, false, is_some, if◌then◌else◌, length, ap, sym, ◌∙◌, arith, refl}
 use Rattle.micromap_core.specs.Build.{pair_fits, put_pair}
-use Rattle.micromap_core.specs.Pairs.{at}
-use Rattle.micromap_core.proofs.BuildLemmas.{has_put_more, puts_up_to, puts_all, run_puts, run_stops}
+use Rattle.micromap_core.specs.Pairs.{at, has, put}
+use Rattle.micromap_core.proofs.BuildLemmas.{full_is, has_put_more, puts_up_to, puts_all, run_puts, run_stops}
 use Rattle.micromap_core.proofs.Lists.{is_some-if}
 use Rattle.micromap_core.proofs.map.Map.try_extend.Goals as goal
 use Rattle.std.specs.Iterator.{size}
@@ -32,6 +32,19 @@ returns-then-is_none-clause-misfit g c =
 pub returns-then-is_none-clause-stops : goal.returns-then-is_none-clause-stops
 returns-then-is_none-clause-stops g c =
     run_stops (pair_fits g.K.PartialEq.eq g.row.N) (put_pair g.K.PartialEq.eq) g.I.Iterator.next_gives c.args.items c.args.self.now c.checked_insert.new.self c.loop-key.at (returns-then-is_none-clause-misfit g c)
+
+-- the map is as it was before the item that didn't fit, and full
+pub returns-then-is_none-clause-full : goal.returns-then-is_none-clause-full
+returns-then-is_none-clause-full g c =
+    let l = c.loop-key in
+    let eq = g.K.PartialEq.eq in
+    let k = c.in-Some.key in
+    let misfit : pair_fits eq g.row.N l.self (k, c.in-Some.value) ≡ false = sym (is_some-if _ (at eq l.self k)) ∙ ap is_some (sym c.checked_insert.ensures.answer) ∙ c.if-is_none.ensures in
+    ap length (c.checked_insert.ensures.pairs ∙ ap (λ b. if b then put eq l.self k c.in-Some.value else l.self) misfit)
+    ∙ full_is (has eq l.self k) (length l.self) g.row.N misfit c.checked_insert.ensures.content.bounded
+
+pub returns-clause-full : goal.returns-clause-full
+returns-clause-full g c = tt
 
 pub returns-clause-extends : goal.returns-clause-extends
 returns-clause-extends g c =

@@ -1,5 +1,5 @@
 use Rattle.std.proofs.lemmas.Result.{err_from_is_err_and}
-use Rattle.micromap_core.proofs.CountLemmas.{builds_all, builds_up_to, pairs_keyed}
+use Rattle.micromap_core.proofs.CountLemmas.{builds_all, builds_up_to, full_at, pairs_keyed}
 use Rattle.micromap_core.proofs.map.Map.try_from_iter.Goals as goal
 use Rattle.std.proofs.Common.{rules}
 
@@ -11,6 +11,16 @@ pub returns-in_err-try_extend-clause-misfit : goal.returns-in_err-try_extend-cla
 returns-in_err-try_extend-clause-misfit g c =
     let same = err_from_is_err_and c.from_residual.result c.from_residual.ensures.1 in
     rw (same.1, same.2) (builds_up_to g.met.K.Eq.laws (pairs_keyed g.K.PartialEq.eq g.row.N) (rw c.new-map.ensures at c.in_err-try_extend.ensures.misfit))
+
+pub returns-in_err-try_extend-clause-full : goal.returns-in_err-try_extend-clause-full
+returns-in_err-try_extend-clause-full g c =
+    let laws = g.met.K.Eq.laws in
+    let keyed = pairs_keyed g.K.PartialEq.eq g.row.N in
+    let same = err_from_is_err_and c.from_residual.result c.from_residual.ensures.1 in
+    rw (same.1, same.2) (full_at laws keyed (builds_up_to laws keyed (rw c.new-map.ensures at c.in_err-try_extend.ensures.misfit)))
+
+pub returns-clause-full : goal.returns-clause-full
+returns-clause-full g c = tt
 
 pub returns-in_err-try_extend-clause-stops : goal.returns-in_err-try_extend-clause-stops
 returns-in_err-try_extend-clause-stops g c =

@@ -9,4 +9,4 @@ pub returns-then-eq_with : goal.returns-then-eq_with
 returns-then-eq_with g c =
     let laws = of_lawful (have_equal_items nat_eq) (sameness_of_items nat_eq lawful_nat) in
     OnTrue_from c.eq_with-then-eq_with.result _ (λ yes.
-    laws.congr c.args.first.now c.args.second.now c.args.third.now (sym c.eq_with.ensures ∙ c.if-eq_with.true) ∙ sym c.eq_with-then-eq_with.ensures ∙ yes)
+    laws.congr c.args.first.now c.args.second.now c.args.third.now (sym c.eq_with.ensures.answer ∙ c.if-eq_with.true) ∙ sym c.eq_with-then-eq_with.ensures.answer ∙ yes)

@@ -1,0 +1,96 @@
+//! Workloads on sets of bytes.
+use crate::inputs::{SEED, below, next, odd};
+use crate::platform::{Drop, Global};
+
+/// A set of bytes with room for a few items.
+pub trait Bytes: Drop {
+    /// A new set.
+    fn empty() -> Self;
+
+    /// Adds an item.
+    fn put(&mut self, item: u8);
+
+    /// Whether an item is there.
+    fn has(&self, item: u8) -> bool;
+
+    /// The sum of all items, each with the bits of `mask` flipped.
+    fn total(&self, mask: u64) -> u64;
+
+    /// The number of items.
+    fn count(&self) -> u64;
+}
+
+// The byte of an index: below 128, and another for each index below 128.
+#[inline]
+fn byte(index: u64, salt: u64) -> u8 {
+    ((index ^ salt) & 127) as u8
+}
+
+#[inline(never)]
+fn filled<S: Bytes, const N: usize>(salt: u64) -> S {
+    let mut set = S::empty();
+    for index in 0..N as u64 {
+        set.put(byte(index, salt));
+    }
+    set
+}
+
+#[inline(never)]
+fn contains_miss<S: Bytes, const N: usize>(salt: u64, rounds: u64) -> u64 {
+    let set: S = filled::<S, N>(salt);
+    let mut state = SEED;
+    let mut sum = 0u64;
+    for _ in 0..rounds {
+        state = next(state);
+        if set.has(byte(below::<N>(state), salt) | 128) {
+            sum = sum.wrapping_add(1);
+        }
+    }
+    sum
+}
+
+#[inline(never)]
+fn fill<S: Bytes, const N: usize>(salt: u64, rounds: u64) -> u64 {
+    let mut sum = 0u64;
+    for round in 0..rounds {
+        let first = odd(round, salt);
+        let mut set: S = S::empty();
+        for index in 0..N as u64 {
+            set.put(byte(index.wrapping_mul(first), salt));
+        }
+        if set.has(byte(sum, salt)) {
+            sum = sum.wrapping_add(1);
+        }
+        sum = sum.wrapping_add(set.count());
+    }
+    sum
+}
+
+#[inline(never)]
+fn walk<S: Bytes, const N: usize>(salt: u64, rounds: u64) -> u64 {
+    let set: S = filled::<S, N>(salt);
+    let mut sum = 0u64;
+    for round in 0..rounds {
+        // Each round has another sum, so that none can be taken over from the one before.
+        sum = sum.wrapping_add(set.total(round));
+    }
+    sum
+}
+
+/// The names of the workloads, by their numbers.
+pub const NAMES: [&'static str; 3] = ["new and fill", "contains, miss", "walk"];
+
+/// Runs a workload for some rounds at sets with room for `N` items.
+pub fn run<S: Bytes, const N: usize>(
+    _memory: Global,
+    workload: u64,
+    salt: u64,
+    rounds: u64,
+) -> u64 {
+    match workload {
+        0 => fill::<S, N>(salt, rounds),
+        1 => contains_miss::<S, N>(salt, rounds),
+        2 => walk::<S, N>(salt, rounds),
+        _ => u64::MAX,
+    }
+}

@@ -1,0 +1,63 @@
+//! The workloads' calls at the `IndexMap` of the kit, a hash map in the order of insertion, which its removals keep.
+use crate::numbers::Numbers;
+use indexmap::IndexMap;
+use std::alloc::Global;
+
+impl Numbers for IndexMap<u64, u64> {
+    #[inline]
+    fn with_room(memory: Global, room: u64) -> Self {
+        match IndexMap::with_capacity(memory, room as usize) {
+            Ok(map) => map,
+            Err(_) => IndexMap::new(memory),
+        }
+    }
+
+    #[inline]
+    fn put(&mut self, key: u64, value: u64) -> Option<u64> {
+        match self.insert(key, value) {
+            Ok(old) => old,
+            Err(_) => None,
+        }
+    }
+
+    #[inline]
+    fn find(&self, key: u64) -> Option<u64> {
+        self.get(&key).copied()
+    }
+
+    #[inline]
+    fn take_out(&mut self, key: u64) -> Option<u64> {
+        self.shift_remove(&key)
+    }
+
+    #[inline]
+    fn note(&mut self, key: u64) {
+        if let Ok(entry) = self.entry(key) {
+            entry
+                .and_modify(|times| *times = times.wrapping_add(1))
+                .or_insert(1);
+        }
+    }
+
+    #[inline]
+    fn total(&self) -> u64 {
+        let mut sum = 0u64;
+        for value in self.values() {
+            sum = sum.wrapping_add(*value);
+        }
+        sum
+    }
+
+    #[inline]
+    fn count(&self) -> u64 {
+        self.len() as u64
+    }
+
+    #[inline]
+    fn clone_and_find(&self, key: u64) -> u64 {
+        match self.clone() {
+            Ok(copy) => copy.find(key).unwrap_or(0).wrapping_add(copy.count()),
+            Err(_) => u64::MAX,
+        }
+    }
+}

@@ -1,0 +1,98 @@
+//! Workloads over this library's map and set, for the driver in `tools/speed` that times them beside the Rust crate's.
+//!
+//! `inputs` and the files of workloads (`bytes`, `numbers`, `texts` and `wide`) have no clause and are Rust as well: the
+//! driver compiles the same files. `library` has what this library's types do at a workload's calls, `scan` and `index_map`
+//! what types do that a user might take in their place. Of a workload it is proved that it is safe and ends; the driver
+//! compares what it returns.
+#![tactic(auto)]
+
+ghost use Rattle.std.specs.Prelude.{◌≤◌};
+
+pub mod bytes;
+mod index_map;
+pub mod inputs;
+mod library;
+pub mod numbers;
+pub mod platform;
+mod scan;
+pub mod texts;
+pub mod wide;
+
+use arrayvec::ArrayVec;
+use indexmap::IndexMap;
+use micromap::{Map, Set};
+use std::alloc::Global;
+use std::mem;
+
+type NumberMap<const N: usize> = Map<u64, u64, N>;
+
+type PairScan<const N: usize> = ArrayVec<(u64, u64), N>;
+
+type ByteSet<const N: usize> = Set<u8, N>;
+
+type TextMap<const N: usize> = Map<String, u64, N>;
+
+type WideMap<const N: usize> = Map<u64, [u64; 3], N>;
+
+/// Runs a workload of a subject for some rounds at a capacity, and returns a sum of what it found; the greatest number
+/// where there is no such workload. The salt is 0, which no compiler can know, nor so the keys.
+#[unsafe(no_mangle)]
+pub extern "C" fn micromap_speed(
+    memory: Global,
+    subject: u64,
+    workload: u64,
+    capacity: u64,
+    salt: u64,
+    rounds: u64,
+) -> u64 {
+    match capacity {
+        2 => run::<2>(memory, subject, workload, salt, rounds),
+        4 => run::<4>(memory, subject, workload, salt, rounds),
+        8 => run::<8>(memory, subject, workload, salt, rounds),
+        16 => run::<16>(memory, subject, workload, salt, rounds),
+        32 => run::<32>(memory, subject, workload, salt, rounds),
+        64 => run::<64>(memory, subject, workload, salt, rounds),
+        _ => u64::MAX,
+    }
+}
+
+fn run<const N: usize>(memory: Global, subject: u64, workload: u64, salt: u64, rounds: u64) -> u64
+    requires { N ≤ 1024 }
+{
+    match subject {
+        0 => numbers::run::<NumberMap<N>, N>(memory, workload, salt, rounds),
+        1 => numbers::run::<PairScan<N>, N>(memory, workload, salt, rounds),
+        2 => numbers::run::<IndexMap<u64, u64>, N>(memory, workload, salt, rounds),
+        3 => bytes::run::<ByteSet<N>, N>(memory, workload, salt, rounds),
+        4 => texts::run::<TextMap<N>, N>(memory, workload, salt, rounds),
+        5 => wide::run::<WideMap<N>, N>(memory, workload, salt, rounds),
+        _ => u64::MAX,
+    }
+}
+
+macro_rules! size_at {
+    ($capacity:expr, $subject:ident) => {
+        match $capacity {
+            2 => mem::size_of::<$subject<2>>(),
+            4 => mem::size_of::<$subject<4>>(),
+            8 => mem::size_of::<$subject<8>>(),
+            16 => mem::size_of::<$subject<16>>(),
+            32 => mem::size_of::<$subject<32>>(),
+            64 => mem::size_of::<$subject<64>>(),
+            _ => 0,
+        }
+    };
+}
+
+/// The size in bytes of one of this library's types at a capacity; 0 where there is none.
+#[unsafe(no_mangle)]
+pub extern "C" fn micromap_speed_size(subject: u64, capacity: u64) -> u64 {
+    let size = match subject {
+        0 => size_at!(capacity, NumberMap),
+        3 => size_at!(capacity, ByteSet),
+        4 => size_at!(capacity, TextMap),
+        5 => size_at!(capacity, WideMap),
+        _ => 0,
+    };
+    size as u64
+}

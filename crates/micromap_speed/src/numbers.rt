@@ -1,0 +1,256 @@
+//! Workloads on maps of numbers.
+use crate::inputs::{SEED, below, beyond, key_of, next, odd, value_of};
+use crate::platform::{Drop, Global};
+
+/// A map of numbers with room for a few keys.
+pub trait Numbers: Drop {
+    /// A new map with room for `room` keys.
+    fn with_room(memory: Global, room: u64) -> Self;
+
+    /// Stores a value at a key, and returns the value that stood there.
+    fn put(&mut self, key: u64, value: u64) -> Option<u64>;
+
+    /// The value at a key.
+    fn find(&self, key: u64) -> Option<u64>;
+
+    /// Removes a key, and returns its value.
+    fn take_out(&mut self, key: u64) -> Option<u64>;
+
+    /// Adds 1 to the value at a key by its entry, or stores 1 where the key is new.
+    fn note(&mut self, key: u64);
+
+    /// The sum of all values.
+    fn total(&self) -> u64;
+
+    /// The number of keys.
+    fn count(&self) -> u64;
+
+    /// Clones the map, and looks a key up in the clone: its value plus the number of keys.
+    fn clone_and_find(&self, key: u64) -> u64;
+
+    /// Makes another map of `room` pairs, by a call that takes an iterator where there is one, and looks a key up in it: its
+    /// value plus the number of keys. Each pair is the key of an index from the odd number `first`, and that index.
+    #[inline]
+    fn collect_and_find(&self, memory: Global, room: u64, first: u64, key: u64) -> u64 {
+        let mut map = Self::with_room(memory, room);
+        for index in 0..room {
+            let _old = map.put(key_of(index, first), index);
+        }
+        map.find(key).unwrap_or(0).wrapping_add(map.count())
+    }
+
+    /// The same with a call that takes an array, where there is one.
+    #[inline]
+    fn from_array_and_find(&self, memory: Global, room: u64, first: u64, key: u64) -> u64 {
+        self.collect_and_find(memory, room, first, key)
+    }
+}
+
+#[inline(never)]
+fn filled<M: Numbers, const N: usize>(memory: Global, salt: u64) -> M {
+    let mut map = M::with_room(memory, N as u64);
+    for index in 0..N as u64 {
+        let _old = map.put(index ^ salt, value_of(index));
+    }
+    map
+}
+
+#[inline(never)]
+fn get_hit<M: Numbers, const N: usize>(memory: Global, salt: u64, rounds: u64) -> u64 {
+    let map: M = filled::<M, N>(memory, salt);
+    let mut state = SEED;
+    let mut sum = 0u64;
+    for _ in 0..rounds {
+        state = next(state);
+        if let Some(value) = map.find(below::<N>(state) ^ salt) {
+            sum = sum.wrapping_add(value);
+        }
+    }
+    sum
+}
+
+#[inline(never)]
+fn get_miss<M: Numbers, const N: usize>(memory: Global, salt: u64, rounds: u64) -> u64 {
+    let map: M = filled::<M, N>(memory, salt);
+    let mut state = SEED;
+    let mut sum = 0u64;
+    for _ in 0..rounds {
+        state = next(state);
+        if map.find(beyond(state)).is_some() {
+            sum = sum.wrapping_add(1);
+        }
+    }
+    sum
+}
+
+#[inline(never)]
+fn overwrite<M: Numbers, const N: usize>(memory: Global, salt: u64, rounds: u64) -> u64 {
+    let mut map: M = filled::<M, N>(memory, salt);
+    let mut state = SEED;
+    let mut sum = 0u64;
+    for _ in 0..rounds {
+        state = next(state);
+        if let Some(old) = map.put(below::<N>(state) ^ salt, state) {
+            sum = sum.wrapping_add(old);
+        }
+    }
+    sum
+}
+
+#[inline(never)]
+fn fill<M: Numbers, const N: usize>(memory: Global, salt: u64, rounds: u64) -> u64 {
+    let mut sum = 0u64;
+    for round in 0..rounds {
+        let first = odd(round, salt);
+        let mut map: M = M::with_room(memory, N as u64);
+        for index in 0..N as u64 {
+            let _old = map.put(key_of(index, first), round);
+        }
+        if map.find(sum).is_some() {
+            sum = sum.wrapping_add(1);
+        }
+        sum = sum.wrapping_add(map.count());
+    }
+    sum
+}
+
+#[inline(never)]
+fn put_back<M: Numbers, const N: usize>(memory: Global, salt: u64, rounds: u64) -> u64 {
+    let mut map: M = filled::<M, N>(memory, salt);
+    let mut state = SEED;
+    let mut sum = 0u64;
+    for _ in 0..rounds {
+        state = next(state);
+        let key = below::<N>(state) ^ salt;
+        if let Some(value) = map.take_out(key) {
+            sum = sum.wrapping_add(value);
+            let _old = map.put(key, value);
+        }
+    }
+    sum
+}
+
+// Counts four times as many keys as there is room for, from a new map.
+#[inline(never)]
+fn count_keys<M: Numbers, const N: usize>(memory: Global, salt: u64, rounds: u64) -> u64 {
+    let mut state = SEED ^ salt;
+    let mut sum = 0u64;
+    for _ in 0..rounds {
+        let mut map: M = M::with_room(memory, N as u64);
+        for _ in 0..(N as u64) << 2 {
+            state = next(state);
+            map.note(below::<N>(state));
+        }
+        if let Some(times) = map.find(1) {
+            sum = sum.wrapping_add(times);
+        }
+        sum = sum.wrapping_add(map.count());
+    }
+    sum
+}
+
+#[inline(never)]
+fn walk<M: Numbers, const N: usize>(memory: Global, salt: u64, rounds: u64) -> u64 {
+    let mut map: M = filled::<M, N>(memory, salt);
+    let mut sum = 0u64;
+    for round in 0..rounds {
+        let _old = map.put(salt, round);
+        sum = sum.wrapping_add(map.total());
+    }
+    sum
+}
+
+#[inline(never)]
+fn copy<M: Numbers, const N: usize>(memory: Global, salt: u64, rounds: u64) -> u64 {
+    let mut map: M = filled::<M, N>(memory, salt);
+    let mut sum = 0u64;
+    for round in 0..rounds {
+        let _old = map.put(salt, round);
+        sum = sum.wrapping_add(map.clone_and_find(salt));
+    }
+    sum
+}
+
+#[inline(never)]
+fn collect<M: Numbers, const N: usize>(memory: Global, salt: u64, rounds: u64) -> u64 {
+    let map: M = M::with_room(memory, 0);
+    let mut sum = 0u64;
+    for round in 0..rounds {
+        sum = sum.wrapping_add(map.collect_and_find(memory, N as u64, odd(round, salt), sum));
+    }
+    sum
+}
+
+#[inline(never)]
+fn from_array<M: Numbers, const N: usize>(memory: Global, salt: u64, rounds: u64) -> u64 {
+    let map: M = M::with_room(memory, 0);
+    let mut sum = 0u64;
+    for round in 0..rounds {
+        sum = sum.wrapping_add(map.from_array_and_find(memory, N as u64, odd(round, salt), sum));
+    }
+    sum
+}
+
+#[inline(never)]
+fn with_one<M: Numbers, const N: usize>(memory: Global, key: u64) -> M {
+    let mut map = M::with_room(memory, N as u64);
+    let _old = map.put(key, key);
+    map
+}
+
+#[inline(never)]
+fn consumed<M: Numbers>(map: M, key: u64) -> u64 {
+    match map.find(key) {
+        Some(value) => value,
+        None => 0,
+    }
+}
+
+#[inline(never)]
+fn hand_on<M: Numbers, const N: usize>(memory: Global, salt: u64, rounds: u64) -> u64 {
+    let mut sum = 0u64;
+    for round in 0..rounds {
+        let key = round ^ salt;
+        let map: M = with_one::<M, N>(memory, key);
+        sum = sum.wrapping_add(consumed(map, key));
+    }
+    sum
+}
+
+/// The names of the workloads, by their numbers.
+pub const NAMES: [&'static str; 11] = [
+    "get, hit",
+    "get, miss",
+    "overwrite",
+    "new and fill",
+    "remove and put back",
+    "count by entries",
+    "walk",
+    "clone",
+    "from an iterator",
+    "from an array",
+    "put one, hand on",
+];
+
+/// Runs a workload for some rounds at maps with room for `N` keys.
+pub fn run<M: Numbers, const N: usize>(
+    memory: Global,
+    workload: u64,
+    salt: u64,
+    rounds: u64,
+) -> u64 {
+    match workload {
+        0 => get_hit::<M, N>(memory, salt, rounds),
+        1 => get_miss::<M, N>(memory, salt, rounds),
+        2 => overwrite::<M, N>(memory, salt, rounds),
+        3 => fill::<M, N>(memory, salt, rounds),
+        4 => put_back::<M, N>(memory, salt, rounds),
+        5 => count_keys::<M, N>(memory, salt, rounds),
+        6 => walk::<M, N>(memory, salt, rounds),
+        7 => copy::<M, N>(memory, salt, rounds),
+        8 => collect::<M, N>(memory, salt, rounds),
+        9 => from_array::<M, N>(memory, salt, rounds),
+        10 => hand_on::<M, N>(memory, salt, rounds),
+        _ => u64::MAX,
+    }
+}

@@ -1,0 +1,5 @@
+//! What the workloads take from the language. The Rust driver, which compiles the same workloads, has a module of its own
+//! in the place of this one.
+
+pub use std::alloc::Global;
+pub use std::ops::Drop;

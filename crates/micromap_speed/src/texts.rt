@@ -1,0 +1,69 @@
+//! Workloads on maps with texts as keys, looked up by a borrowed text.
+use crate::inputs::{SEED, below, next, value_of, word};
+use crate::platform::{Drop, Global};
+
+/// A map from texts to numbers with room for a few keys.
+pub trait Texts: Drop {
+    /// A new map.
+    fn empty() -> Self;
+
+    /// Stores a value at a copy of a text.
+    fn put(&mut self, memory: Global, key: &str, value: u64);
+
+    /// The value at a text.
+    fn find(&self, key: &str) -> Option<u64>;
+
+    /// The number of keys.
+    fn count(&self) -> u64;
+}
+
+#[inline(never)]
+fn filled<M: Texts, const N: usize>(memory: Global, salt: u64) -> M {
+    let mut map = M::empty();
+    for index in 0..N as u64 {
+        map.put(memory, word(index ^ salt), value_of(index));
+    }
+    map
+}
+
+#[inline(never)]
+fn get_hit<M: Texts, const N: usize>(memory: Global, salt: u64, rounds: u64) -> u64 {
+    let map: M = filled::<M, N>(memory, salt);
+    let mut state = SEED;
+    let mut sum = 0u64;
+    for _ in 0..rounds {
+        state = next(state);
+        if let Some(value) = map.find(word(below::<N>(state) ^ salt)) {
+            sum = sum.wrapping_add(value);
+        }
+    }
+    sum
+}
+
+#[inline(never)]
+fn fill<M: Texts, const N: usize>(memory: Global, salt: u64, rounds: u64) -> u64 {
+    let mut sum = 0u64;
+    for round in 0..rounds {
+        let mut map: M = M::empty();
+        for index in 0..N as u64 {
+            map.put(memory, word(index ^ salt), round);
+        }
+        if map.find(word(sum ^ salt)).is_some() {
+            sum = sum.wrapping_add(1);
+        }
+        sum = sum.wrapping_add(map.count());
+    }
+    sum
+}
+
+/// The names of the workloads, by their numbers.
+pub const NAMES: [&'static str; 2] = ["get, hit", "new and fill"];
+
+/// Runs a workload for some rounds at maps with room for `N` keys.
+pub fn run<M: Texts, const N: usize>(memory: Global, workload: u64, salt: u64, rounds: u64) -> u64 {
+    match workload {
+        0 => get_hit::<M, N>(memory, salt, rounds),
+        1 => fill::<M, N>(memory, salt, rounds),
+        _ => u64::MAX,
+    }
+}

@@ -1,0 +1,90 @@
+//! What a role may do: a set of permissions, which are an enum with a derived `==`.
+//!
+//! A contract names that equality as `⟦<Permission as PartialEq>⟧.eq`.
+ghost use Rattle.std.specs.Prelude.{◌≡◌, ◌↔◌, ◌||◌, ◌&&◌, IfOk, IsFalse, IsTrue, Ok, not};
+ghost use Rattle.std.specs.Bool.{OnFalse, OnTrue};
+ghost use Rattle.micromap.specs.Items.{contains, item_fits};
+ghost use Rattle.micromap.specs.Operations.{intersection};
+
+use micromap::{Overfull, Set};
+use std::alloc::AllocError;
+
+/// One permission.
+#[derive(Debug, Clone, Copy, PartialEq, Eq)]
+pub enum Permission {
+    /// To read.
+    Read,
+    /// To change what is there.
+    Write,
+    /// To pass it on.
+    Share,
+    /// To remove it.
+    Delete,
+}
+
+/// The permissions of one role.
+pub type Role<const N: usize> = Set<Permission, N>;
+
+/// Grants a permission, and returns whether there was room for it. If not, the role is unchanged.
+#[tactic(auto, using(micromap::proofs::SetLaws::bound_laws))]
+pub fn grant<const N: usize>(role: &mut Role<N>, permission: Permission) -> bool
+    ensures answer { result ≡ item_fits ⟦<Permission as PartialEq>⟧.eq N role.old permission }
+    ensures granted { OnTrue result (IsTrue (contains ⟦<Permission as PartialEq>⟧.eq role.new permission)) }
+    ensures others { OnTrue result ((p : _) → contains ⟦<Permission as PartialEq>⟧.eq role.new p ≡ (⟦<Permission as PartialEq>⟧.eq permission p || contains ⟦<Permission as PartialEq>⟧.eq role.old p)) }
+    ensures refused { OnFalse result (role.new ≡ role.old) }
+{
+    let fits = role.fits(&permission);
+    role.checked_insert(permission);
+    fits
+}
+
+/// Revokes a permission, and returns whether it was granted.
+#[tactic(auto, using(micromap::proofs::SetLaws::bound_laws))]
+pub fn revoke<const N: usize>(role: &mut Role<N>, permission: Permission) -> bool
+    ensures answer { result ≡ contains ⟦<Permission as PartialEq>⟧.eq role.old permission }
+    ensures revoked { IsFalse (contains ⟦<Permission as PartialEq>⟧.eq role.new permission) }
+    ensures others { (p : _) → contains ⟦<Permission as PartialEq>⟧.eq role.new p ≡ (not (⟦<Permission as PartialEq>⟧.eq permission p) && contains ⟦<Permission as PartialEq>⟧.eq role.old p) }
+{
+    role.remove(&permission)
+}
+
+/// Returns a role with the permissions of both, in any capacity, or that it has no room for them.
+#[tactic(auto, using(micromap::proofs::SetLaws::bound_laws))]
+pub fn merged<const N: usize, const M: usize, const L: usize>(
+    first: &Role<N>,
+    second: &Role<M>,
+) -> Result<Role<L>, Overfull>
+    ensures { IfOk result (λ role. (p : _) → contains ⟦<Permission as PartialEq>⟧.eq role p ≡ (contains ⟦<Permission as PartialEq>⟧.eq first.now p || contains ⟦<Permission as PartialEq>⟧.eq second.now p)) }
+{
+    Set::try_from_iter(first.union(second).copied())
+}
+
+/// Returns a role limited to what another one may do. It is always `Ok`.
+#[tactic(auto, using(micromap::proofs::SetLaws::bound_laws))]
+pub fn limited<const N: usize, const M: usize>(
+    role: &Role<N>,
+    most: &Role<M>,
+) -> Result<Role<N>, AllocError>
+    ensures answer { result ≡ Ok (intersection ⟦<Permission as PartialEq>⟧.eq role.now most.now) }
+    ensures members { IfOk result (λ new. (p : _) → contains ⟦<Permission as PartialEq>⟧.eq new p ≡ (contains ⟦<Permission as PartialEq>⟧.eq role.now p && contains ⟦<Permission as PartialEq>⟧.eq most.now p)) }
+{
+    role.bitand(most)
+}
+
+/// Returns what a role may do beyond another one.
+#[tactic(auto, using(micromap::proofs::SetLaws::bound_laws))]
+pub fn beyond<const N: usize, const M: usize>(
+    role: &Role<N>,
+    other: &Role<M>,
+) -> Result<Role<N>, AllocError>
+    ensures { IfOk result (λ new. (p : _) → contains ⟦<Permission as PartialEq>⟧.eq new p ≡ (contains ⟦<Permission as PartialEq>⟧.eq role.now p && not (contains ⟦<Permission as PartialEq>⟧.eq other.now p))) }
+{
+    role.sub(other)
+}
+
+/// Returns `true` if two roles have the same permissions, whatever their capacities.
+pub fn may_the_same<const N: usize, const M: usize>(first: &Role<N>, second: &Role<M>) -> bool
+    ensures { IsTrue result ↔ ((p : _) → contains ⟦<Permission as PartialEq>⟧.eq first.now p ≡ contains ⟦<Permission as PartialEq>⟧.eq second.now p) }
+{
+    first.eq_with(second)
+}

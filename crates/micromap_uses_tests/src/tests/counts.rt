@@ -1,0 +1,98 @@
+//! Callers of the laws about how many keys or items there are.
+ghost use Rattle.std.specs.Prelude.{◌≡◌, ◌↔◌, ◌<◌, length, nat_eq, IfErr, IsErr, IsNone};
+ghost use Rattle.std.specs.Option.{IfSome};
+ghost use Rattle.std.specs.Set.{distinct_count};
+ghost use Rattle.std.specs.Vec.{vec_items};
+ghost use Rattle.micromap.specs.Extend.{distinct};
+ghost use Rattle.micromap.specs.Operations.{difference, intersection, symmetric_difference, union};
+
+use micromap::{Overfull, Set};
+use std::alloc::AllocError;
+
+// The numbers of either set. They are refused exactly if the union has more than `L` members.
+fn share_items<const N: usize, const M: usize, const L: usize>(
+    first: &Set<u8, N>,
+    second: &Set<u8, M>,
+) -> Result<Set<u8, L>, Overfull>
+    ensures { IsErr result ↔ (L < length (union nat_eq first.now second.now)) }
+{
+    Set::try_from_iter(first.union(second).copied())
+}
+
+// The same of the numbers that are in both sets.
+fn common_items<const N: usize, const M: usize, const L: usize>(
+    first: &Set<u8, N>,
+    second: &Set<u8, M>,
+) -> Result<Set<u8, L>, Overfull>
+    ensures { IsErr result ↔ (L < length (intersection nat_eq first.now second.now)) }
+{
+    Set::try_from_iter(first.intersection(second).copied())
+}
+
+// The same of the numbers that are in the first set alone.
+fn first_items<const N: usize, const M: usize, const L: usize>(
+    first: &Set<u8, N>,
+    second: &Set<u8, M>,
+) -> Result<Set<u8, L>, Overfull>
+    ensures { IsErr result ↔ (L < length (difference nat_eq first.now second.now)) }
+{
+    Set::try_from_iter(first.difference(second).copied())
+}
+
+// The same of the numbers that are in one of the two sets.
+fn single_items<const N: usize, const M: usize, const L: usize>(
+    first: &Set<u8, N>,
+    second: &Set<u8, M>,
+) -> Result<Set<u8, L>, Overfull>
+    ensures { IsErr result ↔ (L < length (symmetric_difference nat_eq first.now second.now)) }
+{
+    Set::try_from_iter(first.symmetric_difference(second).copied())
+}
+
+// The distinct numbers of a list, in the order in which each first came, or `None` if there are more than `N`.
+#[tactic(auto, using(micromap::proofs::ItemCounts::item_counts, micromap_core::proofs::Equalities::equalities))]
+fn distinct_items<const N: usize>(items: &[u8]) -> Option<Set<u8, N>>
+    ensures items { IfSome result (λ set. set ≡ distinct nat_eq items.now) }
+    ensures refused { IsNone result ↔ (N < distinct_count nat_eq items.now) }
+{
+    let mut set = Set::new();
+    for item in items {
+        if !set.fits(item) {
+            return None;
+        }
+        set.insert(*item);
+    }
+    let _content = set.len();
+    Some(set)
+}
+
+// The distinct numbers of a list that is taken by value, by one call.
+fn collected_items<const N: usize>(items: Vec<u8>) -> Result<Set<u8, N>, Overfull>
+    ensures { IfErr result (λ _. N < distinct_count nat_eq (vec_items items)) }
+{
+    Set::try_from_iter(items.into_iter())
+}
+
+#[test]
+fn members_beyond_the_room_are_refused(rt: HostRuntime) {
+    let first = Set::from([1, 2]);
+    let second = Set::from([2, 3]);
+    assert!(rt; share_items::<2, 2, 3>(&first, &second).is_ok_and(|set| set.iter().eq(&[2, 3, 1])));
+    assert!(rt; share_items::<2, 2, 2>(&first, &second).is_err());
+    assert!(rt; common_items::<2, 2, 1>(&first, &second).is_ok_and(|set| set.iter().eq(&[2])));
+    assert!(rt; common_items::<2, 2, 0>(&first, &second).is_err());
+    assert!(rt; first_items::<2, 2, 1>(&first, &second).is_ok_and(|set| set.iter().eq(&[1])));
+    assert!(rt; first_items::<2, 2, 0>(&first, &second).is_err());
+    assert!(rt; single_items::<2, 2, 2>(&first, &second).is_ok_and(|set| set.iter().eq(&[1, 3])));
+    assert!(rt; single_items::<2, 2, 1>(&first, &second).is_err());
+}
+
+#[test]
+fn distinct_items_beyond_the_room_are_refused(rt: HostRuntime) -> Result<(), AllocError> {
+    assert!(rt; distinct_items::<2>(&[5, 4, 5]).is_some_and(|set| set.iter().eq(&[5, 4])));
+    assert!(rt; distinct_items::<2>(&[5, 4, 5, 6]).is_none());
+    assert!(rt; distinct_items::<0>(&[]).is_some());
+    let items = vec![in rt.alloc(); 5, 4, 5]?;
+    assert!(rt; collected_items::<1>(items).is_err());
+    Ok(())
+}

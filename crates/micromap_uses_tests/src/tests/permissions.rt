@@ -1,0 +1,45 @@
+//! Keys with a derived `==`: the permissions of a role, and the squares of a board.
+use micromap::{Map, Overfull, Set};
+use micromap_uses::board::{Board, Square, move_piece, put_piece};
+use micromap_uses::permissions::Permission::{Delete, Read, Share, Write};
+use micromap_uses::permissions::{Role, beyond, grant, limited, may_the_same, merged, revoke};
+
+#[test]
+fn a_permission_is_granted_and_revoked(rt: HostRuntime) {
+    let mut role: Role<2> = Set::new();
+    assert!(rt; grant(&mut role, Write));
+    assert!(rt; grant(&mut role, Read));
+    assert!(rt; grant(&mut role, Write));
+    assert!(rt; !grant(&mut role, Share));
+    assert!(rt; role.iter().eq(&[Write, Read]));
+    assert!(rt; revoke(&mut role, Write));
+    assert!(rt; !revoke(&mut role, Write));
+    assert!(rt; role.iter().eq(&[Read]));
+}
+
+#[test]
+fn roles_are_merged_and_limited(rt: HostRuntime) -> Result<(), Overfull> {
+    let writer = Set::from([Read, Write]);
+    let owner = Set::from([Delete, Write, Share]);
+    let both: Role<4> = merged(&writer, &owner)?;
+    assert!(rt; both.iter().eq(&[Delete, Write, Share, Read]));
+    assert!(rt; merged::<2, 3, 3>(&writer, &owner).is_err());
+    assert!(rt; limited(&both, &writer).is_ok_and(|role| may_the_same(&role, &writer)));
+    assert!(rt; limited(&writer, &owner).is_ok_and(|role| role.iter().eq(&[Write])));
+    assert!(rt; beyond(&writer, &owner).is_ok_and(|role| role.iter().eq(&[Read])));
+    assert!(rt; !may_the_same(&writer, &both));
+    Ok(())
+}
+
+#[test]
+fn a_piece_moves(rt: HostRuntime) {
+    let start = Square { row: 0, column: 4 };
+    let end = Square { row: 4, column: 0 };
+    let mut board: Board<1> = Map::new();
+    assert_eq!(rt; put_piece(&mut board, start, 'k'), Some('k'));
+    assert_eq!(rt; put_piece(&mut board, end, 'q'), None);
+    assert!(rt; move_piece(&mut board, start, end));
+    assert!(rt; !move_piece(&mut board, start, end));
+    assert_eq!(rt; board.get(&end), Some(&'k'));
+    assert_eq!(rt; board.len(), 1);
+}

@@ -1,0 +1,146 @@
+//! Loops over a map and over a set, with invariants that name what is still to come.
+ghost use Rattle.std.specs.Prelude.{◌≡◌, ◌<◌, ◌≤◌, Some, IsFalse, IsTrue, nat_eq};
+ghost use Rattle.std.specs.Option.{IfSome};
+ghost use Rattle.std.specs.String.{string_eq};
+ghost use Rattle.micromap.specs.Items.{contains};
+ghost use Rattle.micromap.specs.Pairs.{at, has};
+
+use micromap::{Map, Set};
+use micromap_uses::board::{Board, Square};
+
+// A pair whose value is over the limit, if there is one. `get` finds that value at its key.
+#[tactic(auto, using(micromap_core::proofs::MapLaws::map_laws))]
+fn pair_over<const N: usize>(map: &Map<u8, u8, N>, limit: u8) -> Option<(u8, u8)>
+    ensures found { IfSome result (λ p. at nat_eq map.now p.0 ≡ Some p.1) }
+    ensures over { IfSome result (λ p. limit < p.1) }
+{
+    let _content = map.len();
+    for (key, value) in map {
+        if *value > limit {
+            return Some((*key, *value));
+        }
+    }
+    None
+}
+
+// A name whose value is over the limit, if there is one.
+#[tactic(auto, using(micromap_core::proofs::MapLaws::map_laws))]
+fn name_over<const N: usize>(map: &Map<String, u8, N>, limit: u8) -> Option<(&String, u8)>
+    ensures found { IfSome result (λ p. at string_eq map.now p.0.now ≡ Some p.1) }
+    ensures over { IfSome result (λ p. limit < p.1) }
+{
+    let _content = map.len();
+    for (key, value) in map {
+        if *value > limit {
+            return Some((key, *value));
+        }
+    }
+    None
+}
+
+// A square with this piece, if there is one.
+#[tactic(auto, using(micromap_core::proofs::MapLaws::bound_laws, micromap_core::proofs::Equalities::equalities))]
+fn square_of<const N: usize>(board: &Board<N>, piece: char) -> Option<Square>
+    ensures { IfSome result (λ square. at ⟦<Square as PartialEq>⟧.eq board.now square ≡ Some piece) }
+{
+    let _content = board.len();
+    for (square, stored) in board {
+        if *stored == piece {
+            return Some(*square);
+        }
+    }
+    None
+}
+
+// A key other than this one, if there is one.
+#[tactic(auto, using(micromap_core::proofs::MapLaws::map_laws))]
+fn key_other<const N: usize>(map: &Map<u8, u8, N>, other: u8) -> Option<u8>
+    ensures { IfSome result (λ k. IsTrue (has nat_eq map.now k)) }
+{
+    let _content = map.len();
+    for key in map.keys() {
+        if *key != other {
+            return Some(*key);
+        }
+    }
+    None
+}
+
+// An item over the limit, if there is one.
+#[tactic(auto, using(micromap::proofs::SetLaws::set_laws))]
+fn item_over<const N: usize>(set: &Set<u8, N>, limit: u8) -> Option<u8>
+    ensures stored { IfSome result (λ x. IsTrue (contains nat_eq set.now x)) }
+    ensures over { IfSome result (λ x. limit < x) }
+{
+    for item in set {
+        if *item > limit {
+            return Some(*item);
+        }
+    }
+    None
+}
+
+// A pair whose value is over the limit, if there is one, for keys of any type.
+#[tactic(auto, using(micromap_core::proofs::MapLaws::bound_laws, micromap_core::proofs::Equalities::equalities))]
+fn any_over<K: Eq, const N: usize>(map: &Map<K, u8, N>, limit: u8) -> Option<(&K, u8)>
+    ensures found { IfSome result (λ p. at K.eq map.now p.0.now ≡ Some p.1) }
+    ensures over { IfSome result (λ p. limit < p.1) }
+{
+    let _content = map.len();
+    for (key, value) in map {
+        if *value > limit {
+            return Some((key, *value));
+        }
+    }
+    None
+}
+
+// An item other than this one, if there is one, for items of any type.
+#[tactic(auto, using(micromap::proofs::SetLaws::bound_laws))]
+fn other_than<'a, T: Eq, const N: usize>(set: &'a Set<T, N>, item: &T) -> Option<&'a T>
+    ensures stored { IfSome result (λ x. IsTrue (contains T.eq set.now x.now)) }
+    ensures other { IfSome result (λ x. IsFalse (T.eq x.now item.now)) }
+{
+    let _content = set.len();
+    for stored in set {
+        if stored != item {
+            return Some(stored);
+        }
+    }
+    None
+}
+
+// How many different bytes there are, or `None` where they are more than `N`. The map is a local of any capacity.
+fn count_different<const N: usize>(bytes: &[u8]) -> Option<usize>
+    requires { N ≤ 1000 }
+    ensures { IfSome result (λ count. count ≤ N) }
+{
+    let mut seen: Map<u8, usize, N> = Map::new();
+    for (index, byte) in bytes.iter().enumerate() {
+        seen.checked_insert(*byte, index)?;
+    }
+    Some(seen.len())
+}
+
+#[test]
+fn a_walked_pair_is_found(rt: HostRuntime) {
+    let map = Map::from([(1, 10), (2, 20), (3, 30)]);
+    assert_eq!(rt; pair_over(&map, 10), Some((2, 20)));
+    assert_eq!(rt; pair_over(&map, 30), None);
+    let set = Set::from([1, 5, 3]);
+    assert_eq!(rt; item_over(&set, 2), Some(5));
+    assert_eq!(rt; item_over(&set, 5), None);
+    assert_eq!(rt; other_than(&set, &1), Some(&5));
+    assert_eq!(rt; any_over(&map, 20), Some((&3, 30)));
+    assert_eq!(rt; key_other(&map, 1), Some(2));
+    let square = Square { row: 1, column: 2 };
+    let board = Map::from([(square, 'k')]);
+    assert_eq!(rt; square_of(&board, 'k'), Some(square));
+    assert_eq!(rt; square_of(&board, 'q'), None);
+}
+
+#[test]
+fn different_bytes_are_counted(rt: HostRuntime) {
+    assert_eq!(rt; count_different::<3>(&[1, 2, 1, 3]), Some(3));
+    assert_eq!(rt; count_different::<2>(&[1, 2, 1, 3]), None);
+}

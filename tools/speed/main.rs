@@ -1,0 +1,166 @@
+//! Times the workloads of `crates/micromap_speed` at the Rust crate and at that static library, in turns, and prints lines
+//! of words with tabs between them, for `tools/compare` to make its tables of:
+//!
+//!     time  SUBJECT  WORKLOAD  CAPACITY  NANOSECONDS  RATIO..
+//!     size  TYPE  CAPACITY  BYTES  BYTES
+//!
+//! The nanoseconds are those of a round at the Rust crate. The ratios are the times over the Rust crate's of this library
+//! and, for numbers, of the scan by hand and of the `IndexMap`. The bytes are this library's and the Rust crate's. Each
+//! figure is a median over the turns.
+
+// The files of workloads are those of the static library, so that both sides run the same text.
+#[path = "../../crates/micromap_speed/src/bytes.rt"]
+mod bytes;
+#[path = "../../crates/micromap_speed/src/inputs.rt"]
+mod inputs;
+#[path = "../../crates/micromap_speed/src/numbers.rt"]
+mod numbers;
+mod platform;
+mod rust_crate;
+#[path = "../../crates/micromap_speed/src/texts.rt"]
+mod texts;
+#[path = "../../crates/micromap_speed/src/wide.rt"]
+mod wide;
+
+use micromap::{Map, Set};
+use platform::Global;
+use std::hint::black_box;
+use std::mem::size_of;
+use std::time::Instant;
+
+extern "C" {
+    fn micromap_speed(subject: u64, workload: u64, capacity: u64, salt: u64, rounds: u64) -> u64;
+    fn micromap_speed_size(subject: u64, capacity: u64) -> u64;
+}
+
+const CAPACITIES: [u64; 6] = [2, 4, 8, 16, 32, 64];
+
+type NumberMap<const N: usize> = Map<u64, u64, N>;
+type ByteSet<const N: usize> = Set<u8, N>;
+type TextMap<const N: usize> = Map<String, u64, N>;
+type WideMap<const N: usize> = Map<u64, [u64; 3], N>;
+
+/// Runs a workload, by its number, with a salt for some rounds.
+type Run = fn(Global, u64, u64, u64) -> u64;
+
+struct Subject {
+    name: &'static str,
+    type_name: &'static str,
+    workloads: &'static [&'static str],
+    /// The subjects of the static library that are compared, by their numbers there: first this library's own.
+    rivals: &'static [u64],
+    /// The Rust crate's, at each capacity.
+    runs: [Run; 6],
+    sizes: [usize; 6],
+}
+
+macro_rules! subject {
+    ($name:literal, $type_name:literal, $workloads:ident, $map:ident, $rivals:expr) => {
+        Subject {
+            name: $name,
+            type_name: $type_name,
+            workloads: &$workloads::NAMES,
+            rivals: &$rivals,
+            runs: [
+                $workloads::run::<$map<2>, 2>,
+                $workloads::run::<$map<4>, 4>,
+                $workloads::run::<$map<8>, 8>,
+                $workloads::run::<$map<16>, 16>,
+                $workloads::run::<$map<32>, 32>,
+                $workloads::run::<$map<64>, 64>,
+            ],
+            sizes: [
+                size_of::<$map<2>>(),
+                size_of::<$map<4>>(),
+                size_of::<$map<8>>(),
+                size_of::<$map<16>>(),
+                size_of::<$map<32>>(),
+                size_of::<$map<64>>(),
+            ],
+        }
+    };
+}
+
+fn subjects() -> [Subject; 4] {
+    [
+        subject!("numbers", "Map<u64, u64, N>", numbers, NumberMap, [0, 1, 2]),
+        subject!("set of bytes", "Set<u8, N>", bytes, ByteSet, [3]),
+        subject!("texts", "Map<String, u64, N>", texts, TextMap, [4]),
+        subject!("24-byte values", "Map<u64, [u64; 3], N>", wide, WideMap, [5]),
+    ]
+}
+
+/// The seconds that a call takes, and its result.
+fn timed(run: impl FnOnce() -> u64) -> (f64, u64) {
+    let start = Instant::now();
+    let result = black_box(run());
+    (start.elapsed().as_secs_f64(), result)
+}
+
+fn median(mut figures: Vec<f64>) -> f64 {
+    figures.sort_by(f64::total_cmp);
+    figures[figures.len() / 2]
+}
+
+/// How many rounds take about half a millisecond.
+fn enough_rounds(run: &dyn Fn(u64) -> u64) -> u64 {
+    let mut rounds = 16;
+    loop {
+        let (seconds, _) = timed(|| run(rounds));
+        if seconds > 0.0005 {
+            return rounds;
+        }
+        rounds *= 2;
+    }
+}
+
+/// A workload at one capacity: the Rust crate's nanoseconds for a round, and the ratio of each rival's time to its. Each
+/// turn starts with another of them.
+fn measured(subject: &Subject, workload: usize, at: usize, turns: usize) -> (f64, Vec<f64>) {
+    let (number, capacity, rust) = (workload as u64, CAPACITIES[at], subject.runs[at]);
+    let mut runs: Vec<Box<dyn Fn(u64) -> u64>> = vec![Box::new(move |rounds| rust(Global, number, black_box(0), rounds))];
+    for &rival in subject.rivals {
+        // SAFETY: both are functions over numbers alone, which ask nothing of their caller.
+        runs.push(Box::new(move |rounds| unsafe { micromap_speed(rival, number, capacity, black_box(0), rounds) }));
+    }
+    let rounds = enough_rounds(&runs[0]);
+    let expected = runs[0](rounds);
+    let (mut nanoseconds, mut ratios) = (Vec::new(), vec![Vec::new(); subject.rivals.len()]);
+    for turn in 0..turns {
+        let mut seconds = vec![0.0; runs.len()];
+        for step in 0..runs.len() {
+            let which = (turn + step) % runs.len();
+            let (time, result) = timed(|| runs[which](black_box(rounds)));
+            assert_eq!(result, expected, "{}, {}, capacity {capacity}: run {which}", subject.name, subject.workloads[workload]);
+            seconds[which] = time;
+        }
+        nanoseconds.push(seconds[0] * 1e9 / rounds as f64);
+        for (ratio, time) in ratios.iter_mut().zip(&seconds[1..]) {
+            ratio.push(time / seconds[0]);
+        }
+    }
+    (median(nanoseconds), ratios.into_iter().map(median).collect())
+}
+
+fn main() {
+    let turns = std::env::args().nth(1).and_then(|word| word.parse().ok()).filter(|turns| *turns > 0).expect("a number of turns");
+    for subject in subjects() {
+        for (workload, name) in subject.workloads.iter().enumerate() {
+            for (at, capacity) in CAPACITIES.iter().enumerate() {
+                let (nanoseconds, ratios) = measured(&subject, workload, at, turns);
+                print!("time\t{}\t{name}\t{capacity}\t{nanoseconds:.2}", subject.name);
+                for ratio in ratios {
+                    print!("\t{ratio:.4}");
+                }
+                println!();
+            }
+        }
+    }
+    for subject in subjects() {
+        for (capacity, size) in CAPACITIES.iter().zip(subject.sizes) {
+            // SAFETY: as above.
+            let own = unsafe { micromap_speed_size(subject.rivals[0], *capacity) };
+            println!("size\t{}\t{capacity}\t{own}\t{size}", subject.type_name);
+        }
+    }
+}
