@@ -17,7 +17,7 @@ pub fits_room : {T : Type 0} (eq : T → T → Bool) (N : ℕ) (items : List T) 
 fits_room eq N items x room = ap (λ b. contains eq items x || b) (lt-ltb (length items) N room) ∙ or-true (contains eq items x)
 
 module _ {T : Type 0} (eq : T → T → Bool) where
-  pub added_new : (items : List T) (x : T) → contains eq items x ≡ false → add eq items x ≡ items ++ x ∷ []
+  added_new : (items : List T) (x : T) → contains eq items x ≡ false → add eq items x ≡ items ++ x ∷ []
   unfolding add
   added_new items x new = ap (λ b. if b then items else items ++ x ∷ []) new
 
@@ -48,9 +48,6 @@ pub record ClonesTo {T : Type 0} (C : T → T → Type 0) (members left set : Li
   pub given : List T
   pub split : given ++ left ≡ members
   pub clones : AllZip C given set
-
-pub clones_start : {T : Type 0} (C : T → T → Type 0) (members : List T) → ClonesTo C members members []
-clones_start C members = record { given = []; split = refl; clones = tt }
 
 pub clones_end : {T : Type 0} {C : T → T → Type 0} {members left set : List T} → ClonesTo C members left set → left ≡ [] → AllZip C members set
 clones_end {C = C} {set = set} c none = subst (λ l. AllZip C l set) (sym (append-nil c.given) ∙ ap (λ l. c.given ++ l) (sym none) ∙ c.split) c.clones

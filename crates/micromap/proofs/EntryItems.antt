@@ -1,12 +1,15 @@
--- Entries whose values are `()`: a set has the keys of the map that is made of them.
-use Rattle.std.proofs.Common.{◌≡◌, ℕ, Bool, ◌&&◌, not, List, [], ◌∷◌, Err, refl, ap, sym, ◌∙◌}
-use Rattle.std.specs.List.{fold}
+-- Entries whose values are `()`: a set has the keys of the map that is made of them. For callers: `items_read`, and the two
+-- lemmas before it.
+use Rattle.std.proofs.Common.{◌≡◌, ℕ, Bool, List, [], ◌∷◌, Option, Result, Ok, refl, ap, sym, ◌∙◌, arith}
 use Rattle.std.specs.Map.{keys_of}
-use Rattle.std.specs.Option.{option_map_or}
-use Rattle.std.specs.Result.{IsErrOf, result_err}
-use Rattle.micromap_core.specs.Build.{each_fits, pair_fits, put_pair}
-use Rattle.micromap_core.specs.Stream.{MapReadsAll, MapReadsUpTo, MapReadsToMisfit}
-use Rattle.micromap.specs.ItemEntries.{entries_of, entry_fits, add_entry, SetReadsAll, SetReadsUpTo, SetReadsToMisfit}
+use Rattle.std.specs.Result.{result_map_both}
+use Rattle.std.proofs.lemmas.Map.Entries.{length-keys_of}
+use Rattle.micromap_core.specs.Build.{each_fits, pair_fits, put_all, put_pair}
+use Rattle.micromap_core.specs.Pairs.{IsContent}
+use Rattle.micromap_core.specs.Stream.{ReadsWhole}
+use Rattle.micromap.specs.Extend.{add_all, distinct}
+use Rattle.micromap.specs.ItemEntries.{entries_of}
+use Rattle.micromap.specs.Items.{IsItems, add, item_fits}
 use Rattle.micromap.proofs.ItemLemmas.{add-keys, fits-keys}
 
 module _ {T : Type 0} where
@@ -14,36 +17,25 @@ module _ {T : Type 0} where
   entries_of-keys [] = refl
   entries_of-keys (p ∷ pairs) = ap (λ l. p ∷ l) (entries_of-keys pairs)
 
+  pub keys_of-entries : (items : List T) → keys_of (entries_of items) ≡ items
+  keys_of-entries [] = refl
+  keys_of-entries (x ∷ items) = ap (λ l. x ∷ l) (keys_of-entries items)
+
   module _ (eq : T → T → Bool) where
-    fold-keys : (pairs entries : List (T × Unit {0})) → fold (add_entry eq) (keys_of pairs) entries ≡ keys_of (fold (put_pair eq) pairs entries)
-    fold-keys pairs [] = refl
-    fold-keys pairs (p ∷ entries) = ap (λ items. fold (add_entry eq) items entries) (add-keys eq p.0 p.1 pairs) ∙ fold-keys (put_pair eq pairs p) entries
+    -- what is put of the entries is what is added of their items, and as many of them fit
+    pub keys_of-put_all : (pairs entries : List (T × Unit {0})) → keys_of (put_all eq pairs entries) ≡ add_all eq (keys_of pairs) (keys_of entries)
+    keys_of-put_all pairs [] = refl
+    keys_of-put_all pairs (p ∷ entries) = keys_of-put_all (put_pair eq pairs p) entries ∙ ap (λ items. add_all eq items (keys_of entries)) (sym (add-keys eq p.0 p.1 pairs))
 
-    module _ (N : ℕ) where
-      each_fits-keys : (pairs entries : List (T × Unit {0})) → each_fits (entry_fits eq N) (add_entry eq) (keys_of pairs) entries ≡ each_fits (pair_fits eq N) (put_pair eq) pairs entries
-      each_fits-keys pairs [] = refl
-      each_fits-keys pairs (p ∷ entries) =
-          ap (λ b. b && each_fits (entry_fits eq N) (add_entry eq) (add_entry eq (keys_of pairs) p) entries) (fits-keys eq N pairs p.0)
-          ∙ ap (λ items. pair_fits eq N pairs p && each_fits (entry_fits eq N) (add_entry eq) items entries) (add-keys eq p.0 p.1 pairs)
-          ∙ ap (λ b. pair_fits eq N pairs p && b) (each_fits-keys (put_pair eq pairs p) entries)
+    pub each_fits-keys : (N : ℕ) (pairs entries : List (T × Unit {0})) → each_fits (pair_fits eq N) (put_pair eq) pairs entries ≡ each_fits (item_fits eq N) (add eq) (keys_of pairs) (keys_of entries)
+    each_fits-keys N pairs [] = refl
+    each_fits-keys N pairs (p ∷ entries) = grind (arith, fits-keys eq N pairs p.0, add-keys eq p.0 p.1 pairs, each_fits-keys N (put_pair eq pairs p) entries)
 
-      module _ {entries : List (T × Unit {0})} where
-        pub set_reads_all : {pairs : List (T × Unit {0})} → MapReadsAll eq N entries pairs → SetReadsAll eq N entries (keys_of pairs)
-        set_reads_all all = record { fit = each_fits-keys [] entries ∙ all.fit; few = all.few; made = ap keys_of all.made ∙ sym (fold-keys [] entries) }
+  -- the items of a set that is read to the end
+  pub items_read : {S E : Type 0} {eq : T → T → Bool} {N : ℕ} {left : S → List (T × Unit {0})} {faults : S → ℕ} {last_fault : S → Option E} {old new : S} (items : List T) → ReadsWhole eq N left faults last_fault old new (entries_of items) → items ≡ distinct eq (keys_of (left old))
+  items_read {eq = eq} {left = left} {old = old} items reads = sym (keys_of-entries items) ∙ ap keys_of reads.made ∙ keys_of-put_all eq [] (left old)
 
-        pub set_reads_up_to : {left : List (T × Unit {0})} → MapReadsUpTo eq N entries left → SetReadsUpTo eq N entries left
-        set_reads_up_to taken = record { before = taken.before; split = taken.split; fit = each_fits-keys [] taken.before ∙ taken.fit }
-
-        pub set_reads_to_misfit : {left : List (T × Unit {0})} → MapReadsToMisfit eq N entries left → SetReadsToMisfit eq N entries left
-        set_reads_to_misfit m = record {
-          before = m.before;
-          item = m.item;
-          split = m.split;
-          fit = each_fits-keys [] m.before ∙ m.fit;
-          misfit = ap not (ap (λ items. entry_fits eq N items m.item) (fold-keys [] m.before) ∙ fits-keys eq N (fold (put_pair eq) [] m.before) m.item.0) ∙ m.misfit;
-          many = m.many;
-        }
-
--- the same error, beside another kind of answer
-pub same_error : {T U E : Type 0} {e f : E} → IsErrOf {T = T} (Err e) f → IsErrOf {T = U} (Err e) f
-same_error {e = e} same = ap (λ r. option_map_or (λ f. Err f) (result_err r) (Err e)) same
+  -- what a map reads back, a set does
+  pub items_read_back : {F : Type 0} {eq : T → T → Bool} {N : ℕ} {same : Type 0} (r : Result (List (T × Unit {0})) F) (pairs : List (T × Unit {0})) → (IsContent eq N pairs → same → r ≡ Ok pairs) → IsItems eq N (keys_of pairs) → same → result_map_both keys_of (λ e. e) r ≡ Ok (keys_of pairs)
+  items_read_back r pairs read items same =
+      ap (result_map_both keys_of (λ e. e)) (read (record { unique = items.unique; bounded = rw (length-keys_of pairs) at items.bounded; lawful = items.lawful }) same)

@@ -2,7 +2,7 @@
 use Rattle.std.proofs.Common.{◌≡◌, ℕ, nat_lt, Bool, true, false, ◌||◌, ◌⊎◌, inl, inr, List, [], ◌∷◌, ◌++◌, length, if◌then◌else◌, refl, ap, sym}
 use Rattle.std.specs.Set.{distinct_count}
 use Rattle.std.proofs.lemmas.List.{map-id}
-use Rattle.micromap_core.proofs.CountLemmas.{IsKeyed}
+use Rattle.micromap_core.proofs.BuildLemmas.{IsKeyed}
 use Rattle.micromap.specs.Items.{add, contains, item_fits}
 
 pub items_keyed : {T : Type 0} (eq : T → T → Bool) (N : ℕ) → IsKeyed eq N (item_fits eq N) (add eq) (λ items. items) (λ x. x) [] (distinct_count eq)

@@ -1,20 +1,21 @@
 -- For callers: that a set has one item for each distinct one that was put, as `CountLaws` has it of a map's keys. The
 -- ruleset `item_counts` is for a set that is built in a loop.
-use Rattle.std.proofs.Common.{◌≡◌, ℕ, ◌+◌, ◌<◌, ◌≤◌, ◌||◌, Bool, false, List, [], ◌∷◌, ◌++◌, length, get_or, take, Option, Result, Ok, Err, IfErr, if◌then◌else◌, refl, ap, sym, ◌∙◌, arith}
+use Rattle.std.proofs.Common.{◌≡◌, ℕ, ◌+◌, ◌<◌, ◌≤◌, ◌||◌, Bool, false, List, [], ◌∷◌, ◌++◌, drop, length, get_or, take, Option, Result, Ok, Err, IfErr, if◌then◌else◌, refl, ap, sym, ◌∙◌, append_assoc, arith}
 use Rattle.std.specs.Iterator.Runs.{EveryRun, ItemsAre, SomeRun}
 use Rattle.std.specs.List.{list_any, IsDistinct}
 use Rattle.std.specs.Set.{distinct_count}
-use Rattle.std.proofs.lemmas.List.{map-id, take_all, take_more}
+use Rattle.std.proofs.lemmas.Bool.{leb-false, not-true}
+use Rattle.std.proofs.lemmas.List.{map-id, take_all, take_more, take-append-drop}
 use Rattle.std.proofs.lemmas.List.Folds.{list_any-append}
-use Rattle.std.proofs.lemmas.List.Sums.{fold_push}
+use Rattle.std.proofs.lemmas.List.Sums.{fold_more, fold_push}
 use Rattle.std.proofs.lemmas.Map.Made.{length-from_keys}
 use Rattle.micromap_core.specs.Equalities.{Lawful}
-use Rattle.micromap_core.proofs.CountLaws.{distinct_prefix, distinct_push}
-use Rattle.micromap_core.proofs.CountLemmas.{keys-built, keys-fold, length-built, many_prefix}
+use Rattle.micromap_core.proofs.CountLaws.{distinct_prefix, distinct_push, distinct_grows}
+use Rattle.micromap_core.proofs.BuildLemmas.{keys-built, keys-fold, length-built, many_prefix, each_fits-count}
 use Rattle.micromap_core.proofs.Equalities.{of_lawful}
 use Rattle.micromap_core.proofs.MisfitLemmas.{stops_in}
 use Rattle.micromap.specs.Extend.{add_all, distinct, ItemMisfitIn}
-use Rattle.micromap.specs.Items.{add, contains, item_fits}
+use Rattle.micromap.specs.Items.{IsItems, add, contains, item_fits}
 use Rattle.micromap.proofs.ExtendLemmas.{items_keyed}
 use Rattle.micromap.proofs.SetLaws.{length_add}
 
@@ -29,6 +30,17 @@ module _ {T : Type 0} (eq : T → T → Bool) where
   length_add_all items xs laws unique =
       let keys = keys-fold (of_lawful eq laws) (items_keyed eq 0) items xs unique in
       length-from_keys (of_lawful eq laws) _ (items ++ xs) keys.0 (λ q. keys.1 q ∙ ap (λ l. contains eq items q || list_any (eq q) l) (map-id xs) ∙ sym (list_any-append (eq q) items xs))
+
+  add_all_grows : (items xs : List T) (i : ℕ) → Lawful eq → IsDistinct eq items → length (add_all eq items (take i xs)) ≤ length (add_all eq items xs)
+  add_all_grows items xs i laws unique =
+      omega (arith, length_add_all items (take i xs) laws unique, length_add_all items xs laws unique, distinct_grows eq (items ++ take i xs) (drop i xs) laws, ap (distinct_count eq) (append_assoc items (take i xs) (drop i xs) ∙ ap (λ l. items ++ l) (take-append-drop i xs)))
+
+  -- an item that is new when it is put is one more
+  add_all_beyond : (items xs : List T) (i : ℕ) (d : T) → i < length xs → Lawful eq → IsDistinct eq items → contains eq (add_all eq items (take i xs)) (get_or xs i d) ≡ false → length (add_all eq items (take i xs)) < length (add_all eq items xs)
+  add_all_beyond items xs i d within laws unique new =
+      let more = ap length (fold_more (add eq) items xs i d within) ∙ length_add eq (add_all eq items (take i xs)) (get_or xs i d) in
+      let grown = add_all_grows items xs (i + 1) laws unique in
+      grind (arith, new, more, grown)
 
   -- a set that is built of a list has its distinct items
   pub length_distinct : (xs : List T) → Lawful eq → length (distinct eq xs) ≡ distinct_count eq xs
@@ -73,4 +85,24 @@ module _ {T : Type 0} (eq : T → T → Bool) where
     λ d within new. distinct_beyond xs i d within laws new,
   )
 
-pub ruleset item_counts = (each_distinct, each_distinct_take)
+  -- of a set to which the first so many items are added
+  pub each_add_all_take : (items xs : List T) (i : ℕ) → Lawful eq → IsDistinct eq items → (add_all eq items (take i xs) ≡ add_all eq items (take i xs)) × (length xs ≤ i → add_all eq items (take i xs) ≡ add_all eq items xs) × ((d : T) → i < length xs → add_all eq items (take (i + 1) xs) ≡ add eq (add_all eq items (take i xs)) (get_or xs i d)) × ((d : T) → i < length xs → contains eq (add_all eq items (take i xs)) (get_or xs i d) ≡ false → length (add_all eq items (take i xs)) < length (add_all eq items xs))
+  each_add_all_take items xs i laws unique = (
+    refl,
+    λ over. ap (add_all eq items) (take_all i xs over),
+    λ d within. fold_more (add eq) items xs i d within,
+    λ d within new. add_all_beyond items xs i d within laws unique new,
+  )
+
+-- an iterator's items one of which is refused are more, with those that are there, than there is room for
+module _ {T : Type 0} {eq : T → T → Bool} {N : ℕ} {items : List T} (content : IsItems eq N items) where
+  stopped_many : (xs : List T) (at : ℕ) → ItemMisfitIn eq N items xs at → N < length (add_all eq items xs)
+  stopped_many xs at stops =
+      let fit = each_fits-count (of_lawful eq content.lawful) (items_keyed eq N) items (take (at + 1) xs) content.unique content.bounded in
+      omega (arith, leb-false _ N (sym fit ∙ not-true _ stops.1), add_all_grows eq items xs (at + 1) content.lawful content.unique)
+
+  pub refused_is_many : {S E Y : Type 0} {steps : S → Option T → S → Type 0} (rest : S → List T) {s : S} {xs : List T} (at : E → ℕ) (r : Result Y E) → EveryRun steps (λ q. ItemsAre q (rest q.from)) → rest s ≡ xs → IfErr r (λ e. SomeRun steps s (λ p. (p.len ≡ at e + 1) × ItemMisfitIn eq N items p.items (at e))) → IfErr r (λ e. N < length (add_all eq items xs))
+  refused_is_many rest at (Ok y) reads left stops = tt
+  refused_is_many rest {xs = xs} at (Err e) reads left stops = stopped_many xs (at e) (stops_in (item_fits eq N) (add eq) items rest (at e) stops.0 stops.1 reads left stops.2.0 stops.2.1)
+
+pub ruleset item_counts = (each_distinct, each_distinct_take, each_add_all_take)

@@ -1,11 +1,10 @@
 -- Reading an array's elements, and an object's members, one after the other.
-use Rattle.std.proofs.Common.{◌≡◌, ℕ, suc, ◌<◌, ◌≤◌, Bool, true, false, ◌||◌, List, [], ◌∷◌, ◌++◌, length, map, Option, Some, None, option_map, ok_or, if◌then◌else◌, Ok, Err, String, string_bytes, bytes_eq, string_cmp, Global, ℤ, refl, ap, sym, subst, ◌∙◌, arith}
+use Rattle.std.proofs.Common.{◌≡◌, ℕ, ◌<◌, ◌≤◌, Bool, true, false, List, [], ◌∷◌, ◌++◌, length, Option, Some, None, option_map, ok_or, if◌then◌else◌, Ok, Err, String, string_bytes, bytes_eq, string_cmp, Global, ℤ, refl, ap, sym, subst, ◌∙◌, arith}
 use Rattle.std.specs.Cmp.Lexicographic.{nat_list_eq_equiv}
-use Rattle.std.specs.List.{AllByRecursion, IsDistinct}
+use Rattle.std.specs.List.{IsDistinct}
 use Rattle.std.specs.List.Sorted.{IsStrictlySortedBy}
-use Rattle.std.specs.Map.{keys_of, set_value}
+use Rattle.std.specs.Map.{keys_of}
 use Rattle.std.specs.Ordering.{eq_by_cmp}
-use Rattle.std.specs.Set.{is_member}
 use Rattle.std.specs.String.{string_eq}
 use Rattle.std.proofs.lemmas.Bool.{true≢false, lt-ltb, le-ltb, ltb-false}
 use Rattle.std.proofs.lemmas.List.{append_assoc, append-nil, length_push, length-map}
@@ -19,9 +18,13 @@ use Rattle.serde_json.specs.View.{view, members_view}
 use Rattle.serde_json.specs.declared.value.Value.{Value}
 use Rattle.serde_json.proofs.Views.{Entry}
 use Rattle.micromap.specs.Extend.{distinct}
-use Rattle.micromap.specs.Items.{add, contains, item_fits}
-use Rattle.micromap.specs.Json.{Bytes, all_texts, and_then, in_bytes, texts_of, whole, whole_members, within}
-use Rattle.micromap.proofs.AddedItems.{added_new}
+use Rattle.micromap.specs.Items.{add, item_fits}
+use Rattle.micromap.specs.Json.{Bytes, all_texts, and_then, in_bytes, texts_of, whole_number, whole_members, items_for}
+use Rattle.micromap.proofs.SetLaws.{length_add}
+use Rattle.micromap.proofs.SetTextViews.{contains_item_texts, item_texts_add, unique_item_texts}
+use Rattle.micromap_core.specs.Texts.{item_texts, texts_by}
+use Rattle.micromap_core.proofs.TextViews.{texts_put}
+use Rattle.micromap_core.proofs.MapLaws.{put_new}
 use Rattle.micromap_core.proofs.DistinctLemmas.{new_behind}
 use Rattle.micromap.specs.declared.json.JsonFault.TheVariants.{NotText, NotWhole, TooMany}
 use Rattle.micromap_core.specs.Pairs.{fits, has, put}
@@ -31,41 +34,17 @@ joined : {A : Type 0} (xs : List A) (x : A) (rest : Option (List A)) → option_
 joined xs x None = refl
 joined xs x (Some more) = ap Some (sym (append_assoc xs (x ∷ []) more))
 
-pub few : {X : Type 0} (N : ℕ) (xs : List X) → length xs ≤ N → within N xs ≡ Ok xs
+joined_none : {A : Type 0} (rest : Option (List A)) → rest ≡ option_map (λ more. [] ++ more) rest
+joined_none None = refl
+joined_none (Some more) = refl
+
+pub few : {X : Type 0} (N : ℕ) (xs : List X) → length xs ≤ N → items_for N xs ≡ Ok xs
 few N xs short = ap (λ b. if b then Err TooMany else Ok xs) (le-ltb N (length xs) short)
 
-many : {X : Type 0} (N : ℕ) (xs : List X) → N < length xs → within N xs ≡ Err TooMany
+many : {X : Type 0} (N : ℕ) (xs : List X) → N < length xs → items_for N xs ≡ Err TooMany
 many N xs long = ap (λ b. if b then Err TooMany else Ok xs) (lt-ltb N (length xs) long)
 
-length-add : {T : Type 0} (eq : T → T → Bool) (items : List T) (x : T) → length items ≤ length (add eq items x)
-unfolding add
-length-add eq items x = by (contains eq items x)
-  where
-    by : (b : Bool) → length items ≤ length (if b then items else items ++ x ∷ [])
-    by true = omega arith
-    by false = omega (arith, length_push items x)
-
-pub neither : (a b : Bool) → (a || b) ≡ false → (a ≡ false) × (b ≡ false)
-neither true b none = absurd (true≢false none)
-neither false b none = (refl, none)
-
 module _ where
-  contains-bytes : (items : List (String Global)) (x : String Global) → contains string_eq items x ≡ contains bytes_eq (texts_of items) (string_bytes x)
-  contains-bytes [] x = refl
-  contains-bytes (y ∷ items) x = ap (λ b. string_eq x y || b) (contains-bytes items x)
-
-  add-bytes : (items : List (String Global)) (x : String Global) → texts_of (add string_eq items x) ≡ add bytes_eq (texts_of items) (string_bytes x)
-  unfolding add
-  add-bytes items x = by (contains string_eq items x) ∙ ap (λ b. if b then texts_of items else texts_of items ++ string_bytes x ∷ []) (contains-bytes items x)
-    where
-      push : (xs : List (String Global)) → texts_of (xs ++ x ∷ []) ≡ texts_of xs ++ string_bytes x ∷ []
-      push [] = refl
-      push (y ∷ xs) = ap (λ ts. string_bytes y ∷ ts) (push xs)
-
-      by : (b : Bool) → texts_of (if b then items else items ++ x ∷ []) ≡ (if b then texts_of items else texts_of items ++ string_bytes x ∷ [])
-      by true = refl
-      by false = push items
-
   -- the elements so far are texts, and the set has each distinct one, unless there are too many
   pub record HasTexts (N : ℕ) (all rest : Items) (items : List (String Global)) (all_fit : Bool) : Type 0 where
     pub texts : List Bytes
@@ -74,15 +53,11 @@ module _ where
     pub misfit : all_fit ≡ false → N < length (distinct bytes_eq texts)
 
   pub none_yet : (N : ℕ) (all : Items) → HasTexts N all all [] true
-  none_yet N all = record { texts = []; split = by (all_texts all); fit = λ _. refl; misfit = λ over. absurd (true≢false over) }
-    where
-      by : (all : Option (List Bytes)) → all ≡ option_map (λ more. [] ++ more) all
-      by None = refl
-      by (Some texts) = refl
+  none_yet N all = record { texts = []; split = joined_none (all_texts all); fit = λ _. refl; misfit = λ over. absurd (true≢false over) }
 
   module _ {N : ℕ} {all rest later : Items} {d : Data} {items : List (String Global)} {all_fit : Bool} (has : HasTexts N all rest items all_fit) (first : rest ≡ item d later) where
     -- an element that is no text
-    pub not_text : as_str d ≡ None → and_then (ok_or (all_texts all) NotText) (λ texts. within N (distinct bytes_eq texts)) ≡ Err NotText
+    pub not_text : as_str d ≡ None → and_then (ok_or (all_texts all) NotText) (λ texts. items_for N (distinct bytes_eq texts)) ≡ Err NotText
     not_text is = rw (has.split, first, is) refl
 
     module _ (x : String Global) (is : as_str d ≡ Some (string_bytes x)) where
@@ -93,72 +68,47 @@ module _ where
       more = fold_push (add bytes_eq) [] has.texts (string_bytes x)
 
       longer : length (distinct bytes_eq has.texts) ≤ length (distinct bytes_eq (has.texts ++ string_bytes x ∷ []))
-      longer = subst (λ ts. length (distinct bytes_eq has.texts) ≤ length ts) (sym more) (length-add bytes_eq (distinct bytes_eq has.texts) (string_bytes x))
+      longer = grind (arith, ap length more, length_add bytes_eq (distinct bytes_eq has.texts) (string_bytes x))
 
       -- one more text that fits
       pub text_fits : (new : List (String Global)) → new ≡ add string_eq items x → HasTexts N all later new all_fit
+      unfolding item_texts
       text_fits new made = record {
         texts = has.texts ++ string_bytes x ∷ [];
         split = split-more;
-        fit = λ whole. ap texts_of made ∙ add-bytes items x ∙ ap (λ ts. add bytes_eq ts (string_bytes x)) (has.fit whole) ∙ sym more;
+        fit = λ whole. ap texts_of made ∙ item_texts_add items x ∙ ap (λ ts. add bytes_eq ts (string_bytes x)) (has.fit whole) ∙ sym more;
         misfit = λ over. omega (arith, has.misfit over, longer);
       }
 
       -- one that doesn't fit
       pub text_misfits : (new : List (String Global)) → item_fits string_eq N items x ≡ false → HasTexts N all later new false
+      unfolding item_texts
       text_misfits new misfit = record {
         texts = has.texts ++ string_bytes x ∷ [];
         split = split-more;
         fit = λ whole. absurd (true≢false (sym whole));
-        misfit = λ _. by all_fit refl;
+        misfit = λ _. grind (arith, has.fit, has.misfit, misfit, more, longer, ltb-false (length items) N, contains_item_texts items (string_bytes x), length_add bytes_eq (distinct bytes_eq has.texts) (string_bytes x), length-map items (λ s. string_bytes s));
       }
-        where
-          by : (b : Bool) → all_fit ≡ b → N < length (distinct bytes_eq (has.texts ++ string_bytes x ∷ []))
-          by false over = omega (arith, has.misfit over, longer)
-          by true whole =
-              let apart = neither _ _ misfit in
-              let same = has.fit whole in
-              let full : N ≤ length items = ltb-false (length items) N apart.1 in
-              let new_here : contains bytes_eq (distinct bytes_eq has.texts) (string_bytes x) ≡ false = ap (λ ts. contains bytes_eq ts (string_bytes x)) (sym same) ∙ sym (contains-bytes items x) ∙ apart.0 in
-              let last = more ∙ added_new bytes_eq (distinct bytes_eq has.texts) (string_bytes x) new_here in
-              omega (arith, full, ap length last, length_push (distinct bytes_eq has.texts) (string_bytes x), ap length same, length-map items (λ s. string_bytes s))
 
   module _ {N : ℕ} {all rest : Items} {items : List (String Global)} {all_fit : Bool} (has : HasTexts N all rest items all_fit) (end : rest ≡ no_items) where
-    pub texts_fit : all_fit ≡ true → length items ≤ N → and_then (ok_or (all_texts all) NotText) (λ texts. within N (distinct bytes_eq texts)) ≡ Ok (texts_of items)
+    pub texts_fit : all_fit ≡ true → length items ≤ N → and_then (ok_or (all_texts all) NotText) (λ texts. items_for N (distinct bytes_eq texts)) ≡ Ok (texts_of items)
     texts_fit whole short =
         let same = has.fit whole in
         rw (has.split, end, append-nil has.texts, ← same) (few N (texts_of items) (omega (arith, short, length-map items (λ s. string_bytes s))))
 
-    pub texts_misfit : all_fit ≡ false → and_then (ok_or (all_texts all) NotText) (λ texts. within N (distinct bytes_eq texts)) ≡ Err TooMany
+    pub texts_misfit : all_fit ≡ false → and_then (ok_or (all_texts all) NotText) (λ texts. items_for N (distinct bytes_eq texts)) ≡ Err TooMany
     texts_misfit over = rw (has.split, end, append-nil has.texts) (many N (distinct bytes_eq has.texts) (has.misfit over))
 
 -- an object's names
 abbrev names : List Entry → List Bytes
-names es = map (λ e. string_bytes e.0) es
+names es = texts_of (keys_of es)
 
-names_apart : (k : String Global) (es : List Entry) → AllByRecursion (λ l. eq_by_cmp string_cmp k l ≡ false) (keys_of es) → AllByRecursion (λ l. bytes_eq (string_bytes k) l ≡ false) (names es)
-names_apart k [] apart = tt
-names_apart k (e ∷ es) apart = (sym (is_eq-slice_cmp (string_bytes k) (string_bytes e.0)) ∙ apart.0, names_apart k es apart.1)
+names_distinct : (ks : List (String Global)) → IsDistinct (eq_by_cmp string_cmp) ks → IsDistinct bytes_eq (texts_of ks)
+unfolding item_texts
+names_distinct ks distinct = unique_item_texts ks (subst (λ eq. IsDistinct eq ks) (λ i x y. is_eq-slice_cmp (string_bytes x) (string_bytes y) i) distinct)
 
-names_distinct : (es : List Entry) → IsDistinct (eq_by_cmp string_cmp) (keys_of es) → IsDistinct bytes_eq (names es)
-unfolding IsDistinct
-names_distinct [] distinct = tt
-names_distinct (e ∷ es) distinct = (names_apart e.0 es distinct.0, names_distinct es distinct.1)
-
-has-bytes : (pairs : List (String Global × ℤ)) (k : String Global) → has string_eq pairs k ≡ is_member bytes_eq (keys_of (in_bytes pairs)) (string_bytes k)
-has-bytes pairs k = is_some-lookup (string_eq k) pairs ∙ same pairs
-  where
-    same : (pairs : List (String Global × ℤ)) → is_member string_eq (keys_of pairs) k ≡ is_member bytes_eq (keys_of (in_bytes pairs)) (string_bytes k)
-    same [] = refl
-    same (p ∷ pairs) = ap (λ b. string_eq k p.0 || b) (same pairs)
-
-in_bytes-push : (pairs : List (String Global × ℤ)) (k : String Global) (n : ℤ) → in_bytes (pairs ++ (k, n) ∷ []) ≡ in_bytes pairs ++ (string_bytes k, n) ∷ []
-in_bytes-push [] k n = refl
-in_bytes-push (p ∷ pairs) k n = ap (λ ps. (string_bytes p.0, p.1) ∷ ps) (in_bytes-push pairs k n)
-
-pub length-in_bytes : (pairs : List (String Global × ℤ)) → length (in_bytes pairs) ≡ length pairs
-length-in_bytes [] = refl
-length-in_bytes (p ∷ pairs) = ap suc (length-in_bytes pairs)
+length-in_bytes : (pairs : List (String Global × ℤ)) → length (in_bytes pairs) ≡ length pairs
+length-in_bytes pairs = length-map pairs (λ p. (string_bytes p.0, p.1))
 
 keys_of-push : (pairs : List (Bytes × ℤ)) (k : Bytes) (n : ℤ) (ks : List Bytes) → keys_of (pairs ++ (k, n) ∷ []) ++ ks ≡ keys_of pairs ++ k ∷ ks
 keys_of-push [] k n ks = refl
@@ -173,18 +123,14 @@ pub record HasMembers (N : ℕ) (all : Members) (rest : List Entry) (pairs : Lis
   pub misfit : all_fit ≡ false → N < length members
 
 pub no_members_yet : (N : ℕ) (es : List Entry) → IsStrictlySortedBy string_cmp (keys_of es) → HasMembers N (members_view es) es [] true
-no_members_yet N es sorted = record { members = []; split = by (whole_members (members_view es)); apart = names_distinct es (IsDistinct-from_sorted string_cmp (keys_of es) sorted); fit = λ _. refl; misfit = λ over. absurd (true≢false over) }
-  where
-    by : (all : Option (List (Bytes × ℤ))) → all ≡ option_map (λ more. [] ++ more) all
-    by None = refl
-    by (Some pairs) = refl
+no_members_yet N es sorted = record { members = []; split = joined_none (whole_members (members_view es)); apart = names_distinct (keys_of es) (IsDistinct-from_sorted string_cmp (keys_of es) sorted); fit = λ _. refl; misfit = λ over. absurd (true≢false over) }
 
 module _ {N : ℕ} {all : Members} {rest later : List Entry} {k : String Global} {value : Value} {pairs : List (String Global × ℤ)} {all_fit : Bool} (has_read : HasMembers N all rest pairs all_fit) (first : rest ≡ (k, value) ∷ later) where
   -- a member that isn't whole
-  pub not_whole : whole (view value) ≡ None → and_then (ok_or (whole_members all) NotWhole) (within N) ≡ Err NotWhole
+  pub not_whole : whole_number (view value) ≡ None → and_then (ok_or (whole_members all) NotWhole) (items_for N) ≡ Err NotWhole
   not_whole is = rw (has_read.split, first, is) refl
 
-  module _ (n : ℤ) (is : whole (view value) ≡ Some n) where
+  module _ (n : ℤ) (is : whole_number (view value) ≡ Some n) where
     abbrev members_more : List (Bytes × ℤ)
     members_more = has_read.members ++ (string_bytes k, n) ∷ []
 
@@ -197,17 +143,17 @@ module _ {N : ℕ} {all : Members} {rest later : List Entry} {k : String Global}
     apart_more : IsDistinct bytes_eq (keys_of members_more ++ names later)
     apart_more = subst (IsDistinct bytes_eq) (sym (keys_of-push has_read.members (string_bytes k) n (names later))) apart_now
 
-    new_name : all_fit ≡ true → has string_eq pairs k ≡ false
-    new_name full = has-bytes pairs k ∙ ap (λ ps. is_member bytes_eq (keys_of ps) (string_bytes k)) (has_read.fit full) ∙ new_behind nat_list_eq_equiv (keys_of has_read.members) (string_bytes k) (names later) apart_now
+    new_name : has bytes_eq has_read.members (string_bytes k) ≡ false
+    new_name = is_some-lookup (bytes_eq (string_bytes k)) has_read.members ∙ new_behind nat_list_eq_equiv (keys_of has_read.members) (string_bytes k) (names later) apart_now
 
     -- one more member that fits
     pub member_fits : (new : List (String Global × ℤ)) → new ≡ put string_eq pairs k n → HasMembers N all later new all_fit
-    unfolding put
+    unfolding texts_by
     member_fits new made = record {
       members = members_more;
       split = split_more;
       apart = apart_more;
-      fit = λ full. ap in_bytes (made ∙ ap (λ b. if b then set_value (string_eq k) pairs n else pairs ++ (k, n) ∷ []) (new_name full)) ∙ in_bytes-push pairs k n ∙ ap (λ ps. ps ++ (string_bytes k, n) ∷ []) (has_read.fit full);
+      fit = λ full. ap in_bytes made ∙ texts_put (λ v. v) k pairs n ∙ ap (λ ps. put bytes_eq ps (string_bytes k) n) (has_read.fit full) ∙ put_new bytes_eq has_read.members (string_bytes k) n new_name;
       misfit = λ over. omega (arith, has_read.misfit over, length_push has_read.members (string_bytes k, n));
     }
 
@@ -218,20 +164,14 @@ module _ {N : ℕ} {all : Members} {rest later : List Entry} {k : String Global}
       split = split_more;
       apart = apart_more;
       fit = λ full. absurd (true≢false (sym full));
-      misfit = λ _. by all_fit refl;
+      misfit = λ _. grind (arith, has_read.fit, has_read.misfit, misfit, ltb-false (length pairs) N, length-in_bytes pairs, length_push has_read.members (string_bytes k, n));
     }
-      where
-        by : (b : Bool) → all_fit ≡ b → N < length members_more
-        by false over = omega (arith, has_read.misfit over, length_push has_read.members (string_bytes k, n))
-        by true full =
-            let over : N ≤ length pairs = ltb-false (length pairs) N (neither _ _ misfit).1 in
-            omega (arith, over, ap length (has_read.fit full), length-in_bytes pairs, length_push has_read.members (string_bytes k, n))
 
 module _ {N : ℕ} {all : Members} {rest : List Entry} {pairs : List (String Global × ℤ)} {all_fit : Bool} (has_read : HasMembers N all rest pairs all_fit) (end : rest ≡ []) where
-  pub members_fit : all_fit ≡ true → length pairs ≤ N → and_then (ok_or (whole_members all) NotWhole) (within N) ≡ Ok (in_bytes pairs)
+  pub members_fit : all_fit ≡ true → length pairs ≤ N → and_then (ok_or (whole_members all) NotWhole) (items_for N) ≡ Ok (in_bytes pairs)
   members_fit full short =
       let same = has_read.fit full in
       rw (has_read.split, end, append-nil has_read.members, ← same) (few N (in_bytes pairs) (omega (arith, short, length-in_bytes pairs)))
 
-  pub members_misfit : all_fit ≡ false → and_then (ok_or (whole_members all) NotWhole) (within N) ≡ Err TooMany
+  pub members_misfit : all_fit ≡ false → and_then (ok_or (whole_members all) NotWhole) (items_for N) ≡ Err TooMany
   members_misfit over = rw (has_read.split, end, append-nil has_read.members) (many N has_read.members (has_read.misfit over))

@@ -1,5 +1,5 @@
 -- Writing a map's pairs one after the other as the members of an object, and a set's items as the elements of an array.
-use Rattle.std.proofs.Common.{◌≡◌, ℕ, suc, ◌+◌, ◌≤◌, Bool, true, false, ◌||◌, List, [], ◌∷◌, ◌++◌, length, map, Some, option_map, ok_or, Ok, Ordering, Less, Equal, Greater, nat_cmp, is_eq, String, Global, string_bytes, bytes_eq, ℤ, refl, ap, sym, subst, ◌∙◌, arith}
+use Rattle.std.proofs.Common.{◌≡◌, ℕ, suc, ◌+◌, ◌≤◌, Bool, true, false, ◌||◌, List, [], ◌∷◌, ◌++◌, length, map, Some, option_map, ok_or, Ok, Ordering, Less, Equal, Greater, nat_cmp, String, Global, string_bytes, bytes_eq, ℤ, refl, ap, sym, subst, ◌∙◌, arith}
 use Rattle.std.specs.BTreeMap.{insert_entry}
 use Rattle.std.specs.Bool.{⊤}
 use Rattle.std.specs.Cmp.{first_so}
@@ -10,8 +10,7 @@ use Rattle.std.specs.Map.{keys_of}
 use Rattle.std.specs.Ordering.{int_eq, match_ordering}
 use Rattle.std.specs.String.{string_eq}
 use Rattle.std.proofs.Math.Bool.{or-false}
-use Rattle.std.proofs.lemmas.Bool.{true≢false}
-use Rattle.std.proofs.lemmas.List.{append-nil, length-map}
+use Rattle.std.proofs.lemmas.List.{append_assoc, append-nil, length-map, map_push}
 use Rattle.std.proofs.lemmas.Map.Text.{is_eq-slice_cmp}
 use Rattle.serde_json.specs.Data.{Data, Members, no_members, member, array, object, string, depth, items_depth, members_depth, put}
 use Rattle.serde_json.specs.Find.{as_array, as_object}
@@ -20,24 +19,26 @@ use Rattle.serde_json.specs.View.{view, items_of, items_view}
 use Rattle.serde_json.specs.Written.{compact_text, has_float, items_have_float}
 use Rattle.serde_json.specs.declared.value.Value.{Value}
 use Rattle.micromap.specs.Extend.{distinct}
-use Rattle.micromap.specs.Json.{Bytes, HasPairs, Pairs, all_texts, and_then, array_texts, elements, in_bytes, object_pairs, texts_for, texts_of, whole, whole_members, within}
+use Rattle.micromap.specs.Json.{Bytes, HasPairs, Pairs, all_texts, and_then, array_texts, elements, in_bytes, object_pairs, texts_for, texts_of, whole_number, whole_members, items_for}
 use Rattle.micromap.specs.declared.json.JsonFault.TheVariants.{BadText, NotArray, NotObject, NotText, NotWhole}
 use Rattle.micromap_core.specs.Same.{Same, pair_eq}
+use Rattle.micromap_core.specs.Texts.{item_texts}
 use Rattle.micromap.proofs.AddedItems.{added_all}
 use Rattle.micromap.proofs.JsonPairs.{in_bytes_equiv}
-use Rattle.micromap.proofs.JsonReading.{few, neither}
+use Rattle.micromap.proofs.SetTextViews.{unique_item_texts}
+use Rattle.micromap.proofs.JsonReading.{few}
 
 -- the members have these names and whole values
 abbrev ArePairs : Members → List (Bytes × ℤ) → Type 0
 ArePairs no_members [] = ⊤
 ArePairs no_members (p ∷ ps) = ⊥
 ArePairs (member l d ms) [] = ⊥
-ArePairs (member l d ms) (p ∷ ps) = (l ≡ p.0) × (whole d ≡ Some p.1) × (depth d ≡ 0) × ArePairs ms ps
+ArePairs (member l d ms) (p ∷ ps) = (l ≡ p.0) × (whole_number d ≡ Some p.1) × (depth d ≡ 0) × ArePairs ms ps
 
 abbrev insert : List (Bytes × ℤ) → Bytes → ℤ → List (Bytes × ℤ)
 insert = insert_entry (slice_cmp nat_cmp)
 
-module _ (k : Bytes) (d : Data) (n : ℤ) (is : whole d ≡ Some n) (flat : depth d ≡ 0) where
+module _ (k : Bytes) (d : Data) (n : ℤ) (is : whole_number d ≡ Some n) (flat : depth d ≡ 0) where
   are_pairs-put : (ms : Members) (ps : List (Bytes × ℤ)) → ArePairs ms ps → ArePairs (put k d ms) (insert ps k n)
   are_pairs-put no_members [] are = (refl, is, flat, tt)
   are_pairs-put no_members (p ∷ ps) are = absurd are
@@ -66,27 +67,11 @@ Lacks ps k = list_any (λ p. bytes_eq k p.0) ps ≡ false
 
 any-insert : (test : Bytes × ℤ → Bool) (ps : List (Bytes × ℤ)) (k : Bytes) (n : ℤ) → Lacks ps k → list_any test (insert ps k n) ≡ (test (k, n) || list_any test ps)
 any-insert test [] k n new = refl
-any-insert test (p ∷ ps) k n new = by (any-insert test ps k n (neither _ _ new).1) (slice_cmp nat_cmp k p.0) refl
-  where
-    swap : (a b c : Bool) → (a || (b || c)) ≡ (b || (a || c))
-    swap true true c = refl
-    swap true false c = refl
-    swap false true c = refl
-    swap false false c = refl
-
-    by : list_any test (insert ps k n) ≡ (test (k, n) || list_any test ps) → (o : Ordering) → slice_cmp nat_cmp k p.0 ≡ o → list_any test (match_ordering o ((k, n) ∷ p ∷ ps) ((p.0, n) ∷ ps) (p ∷ insert ps k n)) ≡ (test (k, n) || (test p || list_any test ps))
-    by later Less is = refl
-    by later Equal is = absurd (true≢false (sym (ap is_eq is) ∙ is_eq-slice_cmp k p.0 ∙ (neither _ _ new).0))
-    by later Greater is = ap (λ b. test p || b) later ∙ swap (test p) (test (k, n)) (list_any test ps)
+any-insert test (p ∷ ps) k n new = grind (arith, new, any-insert test ps k n, is_eq-slice_cmp k p.0)
 
 length-insert : (ps : List (Bytes × ℤ)) (k : Bytes) (n : ℤ) → Lacks ps k → length (insert ps k n) ≡ suc (length ps)
 length-insert [] k n new = refl
-length-insert (p ∷ ps) k n new = by (length-insert ps k n (neither _ _ new).1) (slice_cmp nat_cmp k p.0) refl
-  where
-    by : length (insert ps k n) ≡ suc (length ps) → (o : Ordering) → slice_cmp nat_cmp k p.0 ≡ o → length (match_ordering o ((k, n) ∷ p ∷ ps) ((p.0, n) ∷ ps) (p ∷ insert ps k n)) ≡ suc (suc (length ps))
-    by later Less is = refl
-    by later Equal is = absurd (true≢false (sym (ap is_eq is) ∙ is_eq-slice_cmp k p.0 ∙ (neither _ _ new).0))
-    by later Greater is = ap suc later
+length-insert (p ∷ ps) k n new = grind (arith, new, length-insert ps k n, is_eq-slice_cmp k p.0)
 
 -- the names of the pairs that aren't written yet: no two are equal, and none is written
 abbrev AreNew : List (Bytes × ℤ) → Pairs → Type 0
@@ -118,22 +103,16 @@ pub none_written : (all : Pairs) → IsDistinct string_eq (keys_of all) → HasW
 none_written all distinct = record { pairs = []; are = tt; new = all_new all distinct; together = λ test. refl; count = omega arith }
 
 -- one more
-pub writes_one : (ms after : Members) (rest later all : Pairs) (k : String Global) (n : ℤ) (d : Data) → HasWritten ms rest all → rest ≡ (k, n) ∷ later → whole d ≡ Some n → depth d ≡ 0 → after ≡ put (string_bytes k) d ms → HasWritten after later all
+pub writes_one : (ms after : Members) (rest later all : Pairs) (k : String Global) (n : ℤ) (d : Data) → HasWritten ms rest all → rest ≡ (k, n) ∷ later → whole_number d ≡ Some n → depth d ≡ 0 → after ≡ put (string_bytes k) d ms → HasWritten after later all
 writes_one ms after rest later all k n d has first is flat made =
     let new : AreNew has.pairs ((k, n) ∷ later) = subst (AreNew has.pairs) first has.new in
     record {
       pairs = insert has.pairs (string_bytes k) n;
       are = subst (λ m. ArePairs m (insert has.pairs (string_bytes k) n)) (sym made) (are_pairs-put (string_bytes k) d n is flat ms has.pairs has.are);
       new = are_new-insert has.pairs k n new.0 later new.1 new.2;
-      together = λ test. has.together test ∙ ap (λ r. list_any test has.pairs || list_any test (in_bytes r)) first ∙ moved (list_any test has.pairs) (test (string_bytes k, n)) (list_any test (in_bytes later)) ∙ ap (λ b. b || list_any test (in_bytes later)) (sym (any-insert test has.pairs (string_bytes k) n new.0));
+      together = λ test. grind (arith, has.together test, ap (λ r. list_any test (in_bytes r)) first, any-insert test has.pairs (string_bytes k) n new.0);
       count = omega (arith, has.count, ap length first, length-insert has.pairs (string_bytes k) n new.0);
     }
-  where
-    moved : (a b c : Bool) → (a || (b || c)) ≡ ((b || a) || c)
-    moved true true c = refl
-    moved true false c = refl
-    moved false true c = refl
-    moved false false c = refl
 
 -- lists that have the same items by any test
 same_items : (first second : List (Bytes × ℤ)) → ((test : Bytes × ℤ → Bool) → list_any test second ≡ list_any test first) → Same bytes_eq int_eq first second
@@ -149,7 +128,7 @@ written ms all text has reads_back M short =
     let is : read text ≡ Some (object ms) = reads_back (rw flat (omega arith)) in
     let whole_is : whole_members ms ≡ Some has.pairs = whole-are_pairs ms has.pairs has.are in
     let object_is : object_pairs text ≡ Ok has.pairs = ap (λ r. and_then (ok_or r BadText) (λ value. and_then (ok_or (as_object value) NotObject) (λ members. ok_or (whole_members members) NotWhole))) is ∙ ap (λ r. ok_or r NotWhole) whole_is in
-    (has.pairs, ap (λ r. and_then r (within M)) object_is ∙ few M has.pairs (omega (arith, has.count, short)), same_items has.pairs (in_bytes all) (λ test. has.together test ∙ or-false (list_any test has.pairs)))
+    (has.pairs, ap (λ r. and_then r (items_for M)) object_is ∙ few M has.pairs (omega (arith, has.count, short)), same_items has.pairs (in_bytes all) (λ test. has.together test ∙ or-false (list_any test has.pairs)))
 
 -- a set's items as the elements of an array
 abbrev pub as_data : List (String Global) → List Data
@@ -157,11 +136,9 @@ as_data items = map (λ s. string (string_bytes s)) items
 
 -- one more element
 pub pushes_one : (vs new : List Value) (v : Value) (x : String Global) (rest later all : List (String Global)) → map view vs ++ as_data rest ≡ as_data all → rest ≡ x ∷ later → view v ≡ string (string_bytes x) → new ≡ vs ++ v ∷ [] → map view new ++ as_data later ≡ as_data all
-pushes_one vs new v x rest later all has first is made = ap (λ ws. map view ws ++ as_data later) made ∙ moved vs ∙ sym (ap (λ r. map view vs ++ as_data r) first) ∙ has
-  where
-    moved : (vs : List Value) → map view (vs ++ v ∷ []) ++ as_data later ≡ map view vs ++ string (string_bytes x) ∷ as_data later
-    moved [] = ap (λ d. d ∷ as_data later) is
-    moved (w ∷ vs) = ap (λ ds. view w ∷ ds) (moved vs)
+pushes_one vs new v x rest later all has first is made =
+    ap (λ ws. map view ws ++ as_data later) made ∙ ap (λ ds. ds ++ as_data later) (map_push view vs v) ∙ append_assoc (map view vs) (view v ∷ []) (as_data later)
+    ∙ (λ i. map view vs ++ is i ∷ as_data later) ∙ sym (ap (λ r. map view vs ++ as_data r) first) ∙ has
 
 texts-elements : (items : List (String Global)) → all_texts (elements items) ≡ Some (texts_of items)
 texts-elements [] = refl
@@ -174,15 +151,6 @@ depth-elements (x ∷ items) = rw (depth-elements items) refl
 float-elements : (items : List (String Global)) → items_have_float (elements items) ≡ false
 float-elements [] = refl
 float-elements (x ∷ items) = float-elements items
-
-distinct_texts : (items : List (String Global)) → IsDistinct string_eq items → IsDistinct bytes_eq (texts_of items)
-unfolding IsDistinct
-distinct_texts [] distinct = tt
-distinct_texts (x ∷ items) distinct = (apart items distinct.0, distinct_texts items distinct.1)
-  where
-    apart : (ys : List (String Global)) → AllByRecursion (λ y. string_eq x y ≡ false) ys → AllByRecursion (λ t. bytes_eq (string_bytes x) t ≡ false) (texts_of ys)
-    apart [] h = tt
-    apart (y ∷ ys) h = (h.0, apart ys h.1)
 
 module _ (vs : List Value) (items : List (String Global)) (text : Bytes) (all : map view vs ++ [] ≡ as_data items) where
   elements_are : items_view vs ≡ elements items
@@ -202,4 +170,5 @@ module _ (vs : List Value) (items : List (String Global)) (text : Bytes) (all : 
 
     -- and is read as the same items in any capacity that holds them
     pub elements_again : IsDistinct string_eq items → (M : ℕ) → length items ≤ M → texts_for M text ≡ Ok (texts_of items)
-    elements_again distinct_items M short = ap (λ r. and_then r (λ texts. within M (distinct bytes_eq texts))) elements_read ∙ ap (within M) (added_all nat_list_eq_equiv (texts_of items) (distinct_texts items distinct_items)) ∙ few M (texts_of items) (omega (arith, short, length-map items (λ s. string_bytes s)))
+    unfolding item_texts
+    elements_again distinct_items M short = ap (λ r. and_then r (λ texts. items_for M (distinct bytes_eq texts))) elements_read ∙ ap (items_for M) (added_all nat_list_eq_equiv (texts_of items) (unique_item_texts items distinct_items)) ∙ few M (texts_of items) (omega (arith, short, length-map items (λ s. string_bytes s)))

@@ -20,5 +20,6 @@ pub use Rattle.micromap_core.proofs.Equalities
 pub use Rattle.micromap_core.proofs.Laws
 pub use Rattle.micromap_core.proofs.MapLaws
 pub use Rattle.micromap_core.proofs.MisfitLemmas
+pub use Rattle.micromap_core.proofs.SumLaws
 pub use Rattle.micromap_core.proofs.TextLemmas
 pub use Rattle.micromap_core.proofs.TextViews

@@ -1,10 +1,10 @@
 -- The members of the operations on lists of items: that they are pairwise unequal, and what of them stays where the two
 -- lists change places.
-use Rattle.std.proofs.Common.{◌≡◌, ◌+◌, Bool, true, false, not, ◌&&◌, ◌||◌, ◌↔◌, List, [], ◌∷◌, length, filter, if◌then◌else◌, IsTrue, refl, ap, sym, subst, ◌∙◌, arith}
+use Rattle.std.proofs.Common.{◌≡◌, ◌+◌, Bool, true, not, ◌&&◌, ◌||◌, ◌↔◌, List, [], ◌∷◌, length, filter, if◌then◌else◌, IsTrue, refl, ap, sym, subst, ◌∙◌, arith}
 use Rattle.std.specs.Cmp.{IsEquivalence, both_ways, first_so, second_so}
 use Rattle.std.specs.Cmp.Derive.{both_true}
 use Rattle.std.specs.List.{IsDistinct, list_all}
-use Rattle.std.proofs.Math.Bool.{or-true}
+use Rattle.std.proofs.Math.Bool.{not-not, or-true}
 use Rattle.std.proofs.lemmas.Bool.{false≢true}
 use Rattle.std.proofs.lemmas.List.{length-append}
 use Rattle.std.proofs.lemmas.List.Folds.{list_any-append}
@@ -26,79 +26,33 @@ module _ {T : Type 0} {eq : T → T → Bool} (laws : IsEquivalence eq) (xs ys :
 
   pub contains-union : (q : T) → contains eq (union eq xs ys) q ≡ (contains eq xs q || contains eq ys q)
   unfolding union
-  contains-union q = list_any-append (eq q) ys (difference eq xs ys) ∙ ap (λ b. contains eq ys q || b) (contains-difference q) ∙ by (contains eq xs q) (contains eq ys q)
-    where
-      by : (a b : Bool) → (b || (a && not b)) ≡ (a || b)
-      by true true = refl
-      by true false = refl
-      by false true = refl
-      by false false = refl
+  contains-union q = grind (arith, list_any-append (eq q) ys (difference eq xs ys), contains-difference q)
 
 module _ {T : Type 0} {eq : T → T → Bool} (laws : IsEquivalence eq) (xs ys : List T) where
   pub contains-symmetric_difference : (q : T) → contains eq (symmetric_difference eq xs ys) q ≡ (if contains eq xs q then not (contains eq ys q) else contains eq ys q)
   unfolding symmetric_difference
-  contains-symmetric_difference q =
-      list_any-append (eq q) (difference eq xs ys) (difference eq ys xs)
-      ∙ (λ i. contains-difference laws xs ys q i || contains-difference laws ys xs q i)
-      ∙ by (contains eq xs q) (contains eq ys q)
-    where
-      by : (a b : Bool) → ((a && not b) || (b && not a)) ≡ (if a then not b else b)
-      by true true = refl
-      by true false = refl
-      by false true = refl
-      by false false = refl
+  contains-symmetric_difference q = grind (arith, list_any-append (eq q) (difference eq xs ys) (difference eq ys xs), contains-difference laws xs ys q, contains-difference laws ys xs q)
 
 module _ {T : Type 0} {eq : T → T → Bool} (laws : IsEquivalence eq) (xs ys : List T) where
   -- turned round, the operations have equal members
   pub intersection_turned : HaveEquals eq (intersection eq xs ys) (intersection eq ys xs)
-  intersection_turned q = contains-intersection laws xs ys q ∙ by (contains eq xs q) (contains eq ys q) ∙ sym (contains-intersection laws ys xs q)
-    where
-      by : (a b : Bool) → (a && b) ≡ (b && a)
-      by true true = refl
-      by true false = refl
-      by false true = refl
-      by false false = refl
+  intersection_turned q = grind (arith, contains-intersection laws xs ys q, contains-intersection laws ys xs q)
 
   pub union_turned : HaveEquals eq (union eq xs ys) (union eq ys xs)
-  union_turned q = contains-union laws xs ys q ∙ by (contains eq xs q) (contains eq ys q) ∙ sym (contains-union laws ys xs q)
-    where
-      by : (a b : Bool) → (a || b) ≡ (b || a)
-      by true true = refl
-      by true false = refl
-      by false true = refl
-      by false false = refl
+  union_turned q = grind (arith, contains-union laws xs ys q, contains-union laws ys xs q)
 
   pub symmetric_difference_turned : HaveEquals eq (symmetric_difference eq xs ys) (symmetric_difference eq ys xs)
-  symmetric_difference_turned q = contains-symmetric_difference laws xs ys q ∙ by (contains eq xs q) (contains eq ys q) ∙ sym (contains-symmetric_difference laws ys xs q)
-    where
-      by : (a b : Bool) → (if a then not b else b) ≡ (if b then not a else a)
-      by true true = refl
-      by true false = refl
-      by false true = refl
-      by false false = refl
-
-  -- an equal one of a member of the one list is no member of what the other has beyond it
-  lacks : (q : T) → contains eq ys q ≡ true → contains eq (difference eq xs ys) q ≡ false
-  lacks q found = contains-difference laws xs ys q ∙ ap (λ b. contains eq xs q && not b) found ∙ by (contains eq xs q)
-    where
-      by : (a : Bool) → (a && false) ≡ false
-      by true = refl
-      by false = refl
+  symmetric_difference_turned q = grind (arith, contains-symmetric_difference laws xs ys q, contains-symmetric_difference laws ys xs q)
 
   -- the members of both parts are pairwise unequal
   pub IsDistinct-union : IsDistinct eq ys → IsDistinct eq (difference eq xs ys) → IsDistinct eq (union eq xs ys)
   unfolding union
-  IsDistinct-union others beyond = IsDistinct-append laws ys (difference eq xs ys) others beyond lacks
+  IsDistinct-union others beyond = IsDistinct-append laws ys (difference eq xs ys) others beyond (λ q found. grind (arith, found, contains-difference laws xs ys q))
 
   pub IsDistinct-symmetric_difference : IsDistinct eq (difference eq xs ys) → IsDistinct eq (difference eq ys xs) → IsDistinct eq (symmetric_difference eq xs ys)
   unfolding symmetric_difference
   IsDistinct-symmetric_difference first second =
-      IsDistinct-append laws (difference eq xs ys) (difference eq ys xs) first second
-      (λ q found. contains-difference laws ys xs q ∙ by (contains eq ys q) (contains eq xs q) (first_so _ _ (sym (contains-difference laws xs ys q) ∙ found)))
-    where
-      by : (b a : Bool) → a ≡ true → (b && not a) ≡ false
-      by true a whole = ap not whole
-      by false a whole = refl
+      IsDistinct-append laws (difference eq xs ys) (difference eq ys xs) first second (λ q found. grind (arith, found, contains-difference laws xs ys q, contains-difference laws ys xs q))
 
 module _ {T : Type 0} (eq : T → T → Bool) where
   -- what is counted twice in the two lists is counted once in the intersection
@@ -106,52 +60,32 @@ module _ {T : Type 0} (eq : T → T → Bool) where
   unfolding union
   length-union xs ys = omega (arith, length-append ys (difference eq xs ys), length-parts eq xs ys)
 
-not-not : (b : Bool) → b ≡ not (not b)
-not-not true = refl
-not-not false = refl
-
 -- no item passes the test, exactly where each passes the opposite one
 module _ {T : Type 0} (test opposite : T → Bool) (turns : (x : T) → opposite x ≡ not (test x)) where
   none_pass : (xs : List T) → list_all opposite xs ≡ true → filter test xs ≡ []
   none_pass [] all = refl
-  none_pass (x ∷ xs) all = ap (λ b. if b then x ∷ filter test xs else filter test xs) (fails (test x) (sym (turns x) ∙ first_so _ _ all)) ∙ none_pass xs (second_so _ _ all)
-    where
-      fails : (b : Bool) → not b ≡ true → b ≡ false
-      fails true h = absurd (false≢true h)
-      fails false h = refl
+  none_pass (x ∷ xs) all = grind (arith, all, turns x, none_pass xs)
 
   all_pass : (xs : List T) → filter test xs ≡ [] → list_all opposite xs ≡ true
   all_pass [] none = refl
-  all_pass (x ∷ xs) none = ap (λ b. b && list_all opposite xs) (turns x) ∙ by (test x) (all_pass xs) none
-    where
-      by : (b : Bool) → (filter test xs ≡ [] → list_all opposite xs ≡ true) → (if b then x ∷ filter test xs else filter test xs) ≡ [] → (not b && list_all opposite xs) ≡ true
-      by true rest none = cc
-      by false rest none = rest none
+  all_pass (x ∷ xs) none = grind (arith, none, turns x, all_pass xs)
 
 module _ {T : Type 0} (eq : T → T → Bool) (xs ys : List T) where
-  -- a set is a subset exactly where the difference is empty, and disjoint exactly where the intersection is
-  pub subset-difference : IsTrue (list_all (contains eq ys) xs) ↔ (difference eq xs ys ≡ [])
-  subset-difference =
-      let turns : (x : T) → contains eq ys x ≡ not (not (contains eq ys x)) = λ x. not-not (contains eq ys x) in
-      (none_pass (λ x. not (contains eq ys x)) (contains eq ys) turns xs, all_pass (λ x. not (contains eq ys x)) (contains eq ys) turns xs)
+  -- a set is a subset exactly where the difference is empty, and disjoint exactly where the intersection is; the answer
+  -- of a call says the same
+  pub subset_answered : (answer : Bool) → answer ≡ list_all (contains eq ys) xs → IsTrue answer ↔ (difference eq xs ys ≡ [])
+  subset_answered answer is =
+      let turns : (x : T) → contains eq ys x ≡ not (not (contains eq ys x)) = λ x. sym (not-not (contains eq ys x)) in
+      (λ h. none_pass (λ x. not (contains eq ys x)) (contains eq ys) turns xs (sym is ∙ h), λ h. is ∙ all_pass (λ x. not (contains eq ys x)) (contains eq ys) turns xs h)
 
-  pub disjoint-intersection : IsTrue (list_all (λ x. not (contains eq ys x)) xs) ↔ (intersection eq xs ys ≡ [])
-  disjoint-intersection = (none_pass (contains eq ys) (λ x. not (contains eq ys x)) (λ x. refl) xs, all_pass (contains eq ys) (λ x. not (contains eq ys x)) (λ x. refl) xs)
+  pub disjoint_answered : (answer : Bool) → answer ≡ list_all (λ x. not (contains eq ys x)) xs → IsTrue answer ↔ (intersection eq xs ys ≡ [])
+  disjoint_answered answer is = (λ h. none_pass (contains eq ys) (λ x. not (contains eq ys x)) (λ x. refl) xs (sym is ∙ h), λ h. is ∙ all_pass (contains eq ys) (λ x. not (contains eq ys x)) (λ x. refl) xs h)
 
 -- that nothing is in both sets is said from either side
 module _ {T : Type 0} {eq : T → T → Bool} (laws : IsEquivalence eq) where
   none_equal : (x : T) (p : T → Bool) (ys : List T) → list_all (λ y. not (eq y x || p y)) ys ≡ (not (contains eq ys x) && list_all (λ y. not (p y)) ys)
   none_equal x p [] = refl
-  none_equal x p (y ∷ ys) =
-      (λ i. not (laws.symm y x i || p y) && none_equal x p ys i)
-      ∙ by (eq x y) (p y) (contains eq ys x) (list_all (λ y. not (p y)) ys)
-    where
-      by : (a b c d : Bool) → (not (a || b) && (not c && d)) ≡ (not (a || c) && (not b && d))
-      by true b c d = refl
-      by false true true d = refl
-      by false true false d = refl
-      by false false true d = refl
-      by false false false d = refl
+  none_equal x p (y ∷ ys) = grind (arith, laws.symm y x, none_equal x p ys)
 
   all_apart : (ys : List T) → list_all (λ y. true) ys ≡ true
   all_apart [] = refl
@@ -165,11 +99,7 @@ module _ {T : Type 0} {eq : T → T → Bool} (laws : IsEquivalence eq) where
 module _ {T : Type 0} {eq : T → T → Bool} (laws : IsEquivalence eq) where
   contains_within : (xs ys : List T) → list_all (contains eq ys) xs ≡ true → (q : T) → contains eq xs q ≡ true → contains eq ys q ≡ true
   contains_within [] ys all q there = absurd (false≢true there)
-  contains_within (x ∷ xs) ys all q there = by (eq q x) refl (contains_within xs ys (second_so _ _ all) q) there
-    where
-      by : (b : Bool) → eq q x ≡ b → (contains eq xs q ≡ true → contains eq ys q ≡ true) → (b || contains eq xs q) ≡ true → contains eq ys q ≡ true
-      by true same rest found = list_any_congr laws q x ys same ∙ first_so _ _ all
-      by false apart rest found = rest found
+  contains_within (x ∷ xs) ys all q there = grind (arith, all, there, list_any_congr laws q x ys, contains_within xs ys)
 
   pub within_contains : (xs ys : List T) → ((q : T) → contains eq xs q ≡ true → contains eq ys q ≡ true) → list_all (contains eq ys) xs ≡ true
   within_contains [] ys each = refl

@@ -10,7 +10,7 @@ use Rattle.std.proofs.iter.runs.Sources.{as_is, from_front}
 use Rattle.std.proofs.lemmas.List.Filters.{length-filter_both}
 use Rattle.micromap_core.proofs.DistinctLemmas.{length-filter_members}
 use Rattle.micromap.specs.Items.{contains}
-use Rattle.micromap.specs.Operations.{difference, difference_left, difference_on, intersection, intersection_left, intersection_on, sum_of, symmetric_left, symmetric_on, if_empty, GivesNext, TwoWalks, Walk}
+use Rattle.micromap.specs.Operations.{difference, difference_left, difference_on, intersection, sum_of, symmetric_left, symmetric_on, if_empty, GivesNext, TwoWalks, Walk}
 
 module _ {S A X : Type 0} (shows : A → X) (left : S → List X) (on : S → S) where
   -- each run of such an iterator gives what was left, in order
@@ -28,10 +28,10 @@ items_in_order left on p seen = as_is p (left p.from) (left_in_order (λ x. x) l
 -- the members of a list are the items that pass a test
 module _ {T : Type 0} (test : T → Bool) where
   -- what comes after the first member
-  pub after_first-passes : (x : T) (xs : List T) → test x ≡ true → after_first test (x ∷ xs) ≡ xs
+  after_first-passes : (x : T) (xs : List T) → test x ≡ true → after_first test (x ∷ xs) ≡ xs
   after_first-passes x xs passes = ap (λ b. drop ((if not b then 1 + position_or_len test xs else 0) + 1) (x ∷ xs)) passes
 
-  pub after_first-fails : (x : T) (xs : List T) → test x ≡ false → after_first test (x ∷ xs) ≡ after_first test xs
+  after_first-fails : (x : T) (xs : List T) → test x ≡ false → after_first test (x ∷ xs) ≡ after_first test xs
   after_first-fails x xs fails =
       let further : (1 + position_or_len test xs) + 1 ≡ suc (position_or_len test xs + 1) = omega arith in
       ap (λ b. drop ((if not b then 1 + position_or_len test xs else 0) + 1) (x ∷ xs)) fails ∙ ap (λ n. drop n (x ∷ xs)) further
@@ -48,55 +48,33 @@ module _ {T : Type 0} (test : T → Bool) where
   }
 
   -- a member is met, or the end
-  pub meets_first : (start now : List T) (x : T) (next : List T) → MeetsNone start now → now ≡ x ∷ next → test x ≡ true → (filter test start ≡ x ∷ filter test next) × (next ≡ after_first test start)
+  meets_first : (start now : List T) (x : T) (next : List T) → MeetsNone start now → now ≡ x ∷ next → test x ≡ true → (filter test start ≡ x ∷ filter test next) × (next ≡ after_first test start)
   meets_first start now x next walk first passes = (
     sym walk.members ∙ ap (filter test) first ∙ ap (λ b. if b then x ∷ filter test next else filter test next) passes,
     sym (sym walk.after ∙ ap (after_first test) first ∙ after_first-passes x next passes),
   )
 
-  pub meets_end : (start now next : List T) → MeetsNone start now → now ≡ [] → next ≡ [] → (filter test start ≡ []) × (next ≡ after_first test start)
+  meets_end : (start now next : List T) → MeetsNone start now → now ≡ [] → next ≡ [] → (filter test start ≡ []) × (next ≡ after_first test start)
   meets_end start now next walk none same = (sym walk.members ∙ ap (filter test) none, same ∙ sym (sym walk.after ∙ ap (after_first test) none))
 
-module _ {T : Type 0} (eq : T → T → Bool) (start : Walk T (List T)) (now next other : List T) (same : other ≡ start.other) where
-  -- a walk over a difference gives the member that it meets, or nothing at the end
-  module _ (walk : MeetsNone (λ x. not (contains eq other x)) start.rest now) where
-    pub difference_gives : (x : Bor T) → now ≡ x.now ∷ next → contains eq other x.now ≡ false → GivesNext deref (difference_left eq) (difference_on eq) start (Some x) (record { rest = next; other = other })
-    unfolding difference_left difference_on
-    difference_gives x first missing =
-        let met = meets_first (λ y. not (contains eq other y)) start.rest now x.now next walk first (ap not missing) in
-        record {
-          member = sym (ap (difference eq start.rest) same) ∙ met.0;
-          led = λ i. record { rest = (met.1 ∙ ap (λ ys. after_first (λ y. not (contains eq ys y)) start.rest) same) i; other = same i };
-        }
+-- a walk over a difference or an intersection, whose members pass a test that the other list decides, gives the member
+-- that it meets, or nothing at the end
+module _ {T : Type 0} (test : List T → T → Bool) (start : Walk T (List T)) (now next other : List T) (same : other ≡ start.other) (walk : MeetsNone (test other) start.rest now) where
+  pub walk_gives : (x : Bor T) → now ≡ x.now ∷ next → test other x.now ≡ true → GivesNext deref (λ w. filter (test w.other) w.rest) (λ w. record w { rest = after_first (test w.other) w.rest }) start (Some x) (record { rest = next; other = other })
+  walk_gives x first passes =
+      let met = meets_first (test other) start.rest now x.now next walk first passes in
+      record {
+        member = sym (ap (λ ys. filter (test ys) start.rest) same) ∙ met.0;
+        led = λ i. record { rest = (met.1 ∙ ap (λ ys. after_first (test ys) start.rest) same) i; other = same i };
+      }
 
-    pub difference_ends : now ≡ [] → next ≡ [] → GivesNext deref (difference_left eq) (difference_on eq) start None (record { rest = next; other = other })
-    unfolding difference_left difference_on
-    difference_ends none left =
-        let met = meets_end (λ y. not (contains eq other y)) start.rest now next walk none left in
-        record {
-          member = (sym (ap (difference eq start.rest) same) ∙ met.0, ap (λ xs. difference eq xs other) left);
-          led = λ i. record { rest = (met.1 ∙ ap (λ ys. after_first (λ y. not (contains eq ys y)) start.rest) same) i; other = same i };
-        }
-
-  -- the same over an intersection
-  module _ (walk : MeetsNone (contains eq other) start.rest now) where
-    pub intersection_gives : (x : Bor T) → now ≡ x.now ∷ next → contains eq other x.now ≡ true → GivesNext deref (intersection_left eq) (intersection_on eq) start (Some x) (record { rest = next; other = other })
-    unfolding intersection_left intersection_on
-    intersection_gives x first found =
-        let met = meets_first (contains eq other) start.rest now x.now next walk first found in
-        record {
-          member = sym (ap (intersection eq start.rest) same) ∙ met.0;
-          led = λ i. record { rest = (met.1 ∙ ap (λ ys. after_first (contains eq ys) start.rest) same) i; other = same i };
-        }
-
-    pub intersection_ends : now ≡ [] → next ≡ [] → GivesNext deref (intersection_left eq) (intersection_on eq) start None (record { rest = next; other = other })
-    unfolding intersection_left intersection_on
-    intersection_ends none left =
-        let met = meets_end (contains eq other) start.rest now next walk none left in
-        record {
-          member = (sym (ap (intersection eq start.rest) same) ∙ met.0, ap (λ xs. intersection eq xs other) left);
-          led = λ i. record { rest = (met.1 ∙ ap (λ ys. after_first (contains eq ys) start.rest) same) i; other = same i };
-        }
+  pub walk_ends : now ≡ [] → next ≡ [] → GivesNext deref (λ w. filter (test w.other) w.rest) (λ w. record w { rest = after_first (test w.other) w.rest }) start None (record { rest = next; other = other })
+  walk_ends none left =
+      let met = meets_end (test other) start.rest now next walk none left in
+      record {
+        member = (sym (ap (λ ys. filter (test ys) start.rest) same) ∙ met.0, ap (filter (test other)) left);
+        led = λ i. record { rest = (met.1 ∙ ap (λ ys. after_first (test ys) start.rest) same) i; other = same i };
+      }
 
 -- once the first of two walks has ended, a call at the second is a call at both
 pub second_gives : {T : Type 0} (eq : T → T → Bool) (s t : TwoWalks T (List T) (List T)) (r : Option (Bor T)) → GivesNext deref (difference_left eq) (difference_on eq) s.first None t.first → GivesNext deref (difference_left eq) (difference_on eq) s.second r t.second → GivesNext deref (symmetric_left eq) (symmetric_on eq) s r t

@@ -1,8 +1,7 @@
 -- A set that is given items, which are put one after the other by the rule of insertion.
-use Rattle.std.specs.Prelude.{ℕ, Bool, List, [], Option}
+use Rattle.std.specs.Prelude.{ℕ, Bool, List, []}
 use Rattle.std.specs.List.{fold}
-use Rattle.std.specs.Set.{distinct_count}
-use Rattle.micromap_core.specs.Build.{each_fits, StopsAt, BuildsAll, BuildsUpTo}
+use Rattle.micromap_core.specs.Build.{each_fits, StopsAt}
 use Rattle.micromap.specs.Items.{add, item_fits}
 
 module _ {T : Type 0} (eq : T → T → Bool) where
@@ -21,12 +20,3 @@ module _ {T : Type 0} (eq : T → T → Bool) where
   -- the first of the items that doesn't fit stands at the position
   abbrev pub ItemMisfitIn : ℕ → List T → List T → ℕ → Type 0
   ItemMisfitIn N = StopsAt (item_fits eq N) (add eq)
-
-  module _ {S : Type 0} (steps : S → Option T → S → Type 0) (N : ℕ) where
-    -- a new set has all that the iterator gave
-    abbrev pub ItemsBuiltFrom : S → List T → Type 0
-    ItemsBuiltFrom = BuildsAll (item_fits eq N) (add eq) steps (distinct_count eq) N []
-
-    -- the first item that doesn't fit a new set comes after this many that do
-    abbrev pub ItemMisfitAt : S → ℕ → Type 0
-    ItemMisfitAt = BuildsUpTo (item_fits eq N) (add eq) steps (distinct_count eq) N []

@@ -1,9 +1,8 @@
 -- A set's content as the list of its items, from front to end, and what one insertion or removal makes of it. Items
 -- are compared by eq, which need not be identity; N is the capacity.
-use Rattle.std.specs.Prelude.{ℕ, ◌≤◌, Bool, ◌||◌, List, [], ◌∷◌, ◌++◌, length, Option, None, if◌then◌else◌, nat_lt}
+use Rattle.std.specs.Prelude.{ℕ, ◌≤◌, Bool, ◌||◌, List, [], ◌∷◌, ◌++◌, length, Option, if◌then◌else◌, nat_lt}
 use Rattle.std.specs.Borrow.{Bor}
 use Rattle.std.specs.Fn.{Mut, CalledAt, TakesAt}
-use Rattle.std.specs.Option.{option_map_or}
 use Rattle.std.specs.List.{IsDistinct, find, list_any}
 use Rattle.std.specs.Set.{remove_key}
 use Rattle.micromap_core.specs.Closures.{AtEachTurn}
@@ -41,21 +40,6 @@ module _ {T : Type 0} where
     -- without the item that equals x; the others keep their order
     unfoldable pub take_item : List T → T → List T
     take_item items x = remove_key (eq x) items
-
-  -- what a call by probe finds, where a probe is seen as the test of the items that it matches: each call does what
-  -- the plain call does at the one stored item that matches
-  -- whether there is one
-  abbrev pub contains_matched : (T → Bool) → List T → Bool
-  contains_matched test items = list_any test items
-
-  module _ (eq : T → T → Bool) (test : T → Bool) where
-    -- the stored item
-    unfoldable pub item_matched : List T → Option T
-    item_matched items = option_map_or (item eq items) (find test items) None
-
-    -- without it
-    unfoldable pub take_item_matched : List T → List T
-    take_item_matched items = option_map_or (take_item eq items) (find test items) items
 
 -- f may be called at each item in turn
 abbrev pub MayRetainItems : {F T : Type 0} → Mut F (Bor T × Unit {0}) Bool → F → List T → Type 0

@@ -46,13 +46,13 @@ and_then (Ok x) step = step x
 and_then (Err fault) step = Err fault
 
 -- a value as a whole number that an `i64` holds
-abbrev pub whole : Data → Option ℤ
-whole value = option_and_then as_i64 (as_number value)
+abbrev pub whole_number : Data → Option ℤ
+whole_number value = option_and_then as_i64 (as_number value)
 
 -- the members' names with their values, where each is whole
 abbrev pub whole_members : Members → Option (List (Bytes × ℤ))
 whole_members no_members = Some []
-whole_members (member name value members) = option_and_then (λ n. option_map (λ pairs. (name, n) ∷ pairs) (whole_members members)) (whole value)
+whole_members (member name value members) = option_and_then (λ n. option_map (λ pairs. (name, n) ∷ pairs) (whole_members members)) (whole_number value)
 
 -- the elements, where each is a text
 abbrev pub all_texts : Items → Option (List Bytes)
@@ -60,8 +60,8 @@ all_texts no_items = Some []
 all_texts (item value items) = option_and_then (λ text. option_map (λ texts. text ∷ texts) (all_texts items)) (as_str value)
 
 -- no more than N of them
-abbrev pub within : {X : Type 0} → ℕ → List X → Result (List X) JsonFault
-within N xs = if nat_lt N (length xs) then Err TooMany else Ok xs
+abbrev pub items_for : {X : Type 0} → ℕ → List X → Result (List X) JsonFault
+items_for N xs = if nat_lt N (length xs) then Err TooMany else Ok xs
 
 -- the pairs of the object that a text is; its names are distinct
 abbrev pub object_pairs : Bytes → Result (List (Bytes × ℤ)) JsonFault
@@ -69,7 +69,7 @@ object_pairs text = and_then (ok_or (read text) BadText) (λ value. and_then (ok
 
 -- the same for a map of capacity N
 abbrev pub pairs_for : ℕ → Bytes → Result (List (Bytes × ℤ)) JsonFault
-pairs_for N text = and_then (object_pairs text) (within N)
+pairs_for N text = and_then (object_pairs text) (items_for N)
 
 -- the texts of the array that a text is
 abbrev pub array_texts : Bytes → Result (List Bytes) JsonFault
@@ -77,7 +77,7 @@ array_texts text = and_then (ok_or (read text) BadText) (λ value. and_then (ok_
 
 -- each distinct one as it came first, for a set of capacity N
 abbrev pub texts_for : ℕ → Bytes → Result (List Bytes) JsonFault
-texts_for N text = and_then (array_texts text) (λ texts. within N (distinct bytes_eq texts))
+texts_for N text = and_then (array_texts text) (λ texts. items_for N (distinct bytes_eq texts))
 
 -- the fault that a text has, or want of memory
 abbrev pub IsFault : {X : Type 0} → Result X JsonFault → JsonFault → Type 0

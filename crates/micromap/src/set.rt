@@ -1,6 +1,6 @@
 //! The set: a list of at most `N` items, stored as the keys of a map.
 ghost use Rattle.std.specs.Prelude.{◌≡◌, ◌==◌, [], length, Some, IsTrue};
-ghost use Rattle.std.specs.Option.{option_copied};
+ghost use Rattle.std.specs.Option.{option_copied, option_map};
 ghost use Rattle.micromap.specs.Items.{IsItems, item, contains, item_fits};
 
 mod capacity;
@@ -28,6 +28,15 @@ pub use walk::{Drain, IntoIter, Iter};
 #[derive(Drop)]
 pub struct Set<T: Eq, const N: usize> {
     map: Map<T, (), N>,
+}
+
+// Returns the item of an entry of a set's map.
+#[inline]
+fn item_of<T>(entry: Option<(T, ())>) -> Option<T>
+    ensures { result ≡ option_map (λ e. e.0) entry }
+{
+    let (item, _) = entry?;
+    Some(item)
 }
 
 impl<T: Eq, const N: usize> Model for Set<T, N> {

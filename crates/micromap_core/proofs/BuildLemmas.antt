@@ -1,17 +1,27 @@
--- Items that are put one after the other: one more, and all of them.
-use Rattle.std.proofs.Common.{◌≡◌, ℕ, zero, suc, ◌+◌, ◌<◌, ◌≤◌, nat_lt, Bool, true, false, ◌&&◌, ◌||◌, not, List, [], ◌∷◌, ◌++◌, length, get_or, take, Option, Some, if◌then◌else◌, IsTrue, refl, ap, sym, subst, ◌∙◌, arith}
-use Rattle.std.specs.Cmp.{first_so, second_so}
+-- Items that are put one after the other: one more, and all of them. A content that is built has one key for each
+-- distinct key of its items, so they all fit where there are few of those.
+use Rattle.std.proofs.Common.{◌≡◌, ℕ, zero, suc, ◌+◌, ◌<◌, ◌≤◌, nat_lt, Bool, true, false, ◌&&◌, ◌||◌, not, List, [], ◌∷◌, ◌++◌, length, get_or, take, Option, Some, if◌then◌else◌, IsTrue, refl, ap, sym, subst, ◌∙◌, arith, nat_le, ◌⊎◌, inl, inr, map}
+use Rattle.std.specs.Cmp.{first_so, second_so, IsEquivalence}
 use Rattle.std.specs.Cmp.Derive.{both_true}
 use Rattle.std.specs.Iterator.{Drains, YieldsThen}
 use Rattle.std.specs.Iterator.Runs.{SomeRun, WholeRun}
-use Rattle.std.specs.List.{fold}
-use Rattle.std.proofs.Math.Bool.{and-true, and_assoc}
+use Rattle.std.specs.List.{fold, list_any, IsDistinct}
+use Rattle.std.proofs.Math.Bool.{and-true, and_assoc, and-false, or-true, or-false, or_assoc}
 use Rattle.std.proofs.iter.runs.Consumers.{total_runs}
 use Rattle.std.proofs.iter.runs.Made.{run_of_turn}
-use Rattle.std.proofs.lemmas.Bool.{false≢true, ltb-false}
-use Rattle.std.proofs.lemmas.List.{length_push, take_all, take_at, take_more}
+use Rattle.std.proofs.lemmas.Bool.{ltb-false, lt-leb, le-leb, leb-true, leb-false, not-true}
+use Rattle.std.proofs.lemmas.List.{length_push, take_all, take_at, take_more, length-map, length-take}
 use Rattle.std.proofs.lemmas.List.Sums.{fold_push}
-use Rattle.micromap_core.specs.Build.{each_fits, PutsAll, PutsUpTo, StopsAt}
+use Rattle.micromap_core.specs.Build.{each_fits, StopsAt, pair_fits, put_pair}
+use Rattle.std.specs.Map.{keys_of}
+use Rattle.std.specs.Set.{distinct_count, is_member}
+use Rattle.std.proofs.lemmas.Bool.Decides.{leb_tells}
+use Rattle.std.proofs.lemmas.List.Folds.{list_any-append}
+use Rattle.std.proofs.lemmas.Map.Entries.{length-keys_of}
+use Rattle.std.proofs.lemmas.Map.Keys.{IsDistinct-push}
+use Rattle.std.proofs.lemmas.Map.Made.{is_some-lookup, distinct_count-le, length-from_keys, length-le_from_is_member}
+use Rattle.micromap_core.specs.Pairs.{has, has_room}
+use Rattle.micromap_core.proofs.PairsLemmas.{keys_of-put_stored, keys_of-put_new}
 
 not_both : (a b : Bool) → IsTrue (not b) → IsTrue (not (a && b))
 not_both false b not_b = refl
@@ -19,8 +29,7 @@ not_both true b not_b = not_b
 
 -- what has no room for one more, and has at most as many as there is room for, is full
 pub full_is : (stored : Bool) (n N : ℕ) → (stored || nat_lt n N) ≡ false → n ≤ N → n ≡ N
-full_is true n N misfit bounded = absurd (false≢true (sym misfit))
-full_is false n N misfit bounded = omega (arith, bounded, ltb-false n N misfit)
+full_is stored n N misfit bounded = grind (arith, misfit, bounded, ltb-false n N)
 
 module _ {C X : Type 0} (fits : C → X → Bool) (put : C → X → C) where
   fits_within : (old : C) (items : List X) (index : ℕ) (d : X) → index < length items → IsTrue (each_fits fits put old items) → fits (fold put old (take index items)) (get_or items index d) ≡ true
@@ -47,39 +56,22 @@ module _ {C X : Type 0} (fits : C → X → Bool) (put : C → X → C) where
       position_is = omega (arith, has.position_is, length_push items x);
     }
 
-    -- one that doesn't fit
-    pub puts_up_to : {S : Type 0} (steps : S → Option X → S → Type 0) (it rest : S) → fits now x ≡ false → YieldsThen steps it items (Some x) rest → PutsUpTo fits put steps old it position new
-    puts_up_to steps it rest misfit gave =
-        let same : new ≡ now = next ∙ ap (λ b. if b then put now x else now) misfit in
-        record {
-          before = items;
-          item = x;
-          rest = rest;
-          gave = gave;
-          fit = has.fit;
-          made = same ∙ has.made;
-          misfit = ap (λ c. not (fits c x)) same ∙ ap not misfit;
-          position_is = has.position_is;
-        }
+    -- one that doesn't fit: the iterator ran up to it, and what came before it is put
+    pub run_stops : {S : Type 0} (steps : S → Option X → S → Type 0) (it rest : S) → fits now x ≡ false → YieldsThen steps it items (Some x) rest → SomeRun steps it (λ p. (p.len ≡ position + 1) × StopsAt fits put old p.items position) × SomeRun steps it (λ p. (p.len ≡ position + 1) × (new ≡ fold put old (take position p.items)))
+    run_stops steps it rest misfit gave =
+        let turn = run_of_turn steps it items gave.0 gave.1 x rest gave.2 in
+        let long = turn.2.1 ∙ ap (λ n. n + 1) (sym has.position_is) in
+        let front : take position turn.0.items ≡ items = ap (take position) turn.2.0 ∙ take_at items (x ∷ []) position (sym has.position_is) in
+        let whole : take (position + 1) turn.0.items ≡ items ++ x ∷ [] = ap (take (position + 1)) turn.2.0 ∙ take_all (position + 1) (items ++ x ∷ []) (omega (arith, length_push items x, has.position_is)) in
+        let last : fits (fold put old items) x ≡ false = ap (λ c. fits c x) (sym has.made) ∙ misfit in
+        let stops : IsTrue (not (each_fits fits put old (items ++ x ∷ []))) = ap not (each_fits-push old items x) ∙ not_both (each_fits fits put old items) _ (ap not last) in (
+          (turn.0, turn.1, (long, (ap (each_fits fits put old) front ∙ has.fit, ap (λ l. not (each_fits fits put old l)) whole ∙ stops))),
+          (turn.0, turn.1, (long, next ∙ ap (λ b. if b then put now x else now) misfit ∙ has.made ∙ sym (ap (fold put old) front))),
+        )
 
-  module _ {S : Type 0} (steps : S → Option X → S → Type 0) (it : S) (old now : C) where
-    pub puts_all : (items : List X) (position : ℕ) → HasPut old items position now → Drains steps it items → PutsAll fits put steps old it now
-    puts_all items position has gave = record { items = items; gave = gave; fit = has.fit; made = has.made }
-
-    -- read as a run of the iterator
-    pub run_puts : PutsAll fits put steps old it now → WholeRun steps it (λ p. now ≡ fold put old p.items)
-    run_puts all = total_runs steps it _ (λ items. now ≡ fold put old items) (all.items, λ _. all.gave, all.made) (tt {0})
-
-    -- the same up to an item that doesn't fit
-    pub run_stops : (position : ℕ) → PutsUpTo fits put steps old it position now → SomeRun steps it (λ p. (p.len ≡ position + 1) × StopsAt fits put old p.items position)
-    run_stops position puts =
-        let turn = run_of_turn steps it puts.before puts.gave.0 puts.gave.1 puts.item puts.rest puts.gave.2 in
-        let all : List X = puts.before ++ puts.item ∷ [] in
-        let front : take position turn.0.items ≡ puts.before = ap (take position) turn.2.0 ∙ take_at puts.before (puts.item ∷ []) position (sym puts.position_is) in
-        let whole : take (position + 1) turn.0.items ≡ all = ap (take (position + 1)) turn.2.0 ∙ take_all (position + 1) all (omega (arith, length_push puts.before puts.item, puts.position_is)) in
-        let last : IsTrue (not (fits (fold put old puts.before) puts.item)) = ap (λ c. not (fits c puts.item)) (sym puts.made) ∙ puts.misfit in
-        let stops : IsTrue (not (each_fits fits put old all)) = ap not (each_fits-push old puts.before puts.item) ∙ not_both (each_fits fits put old puts.before) _ last in
-        (turn.0, turn.1, (turn.2.1 ∙ ap (λ n. n + 1) (sym puts.position_is), (ap (each_fits fits put old) front ∙ puts.fit, ap (λ items. not (each_fits fits put old items)) whole ∙ stops)))
+  -- all of them
+  pub run_puts : {S : Type 0} (steps : S → Option X → S → Type 0) (it : S) (old now : C) (items : List X) (position : ℕ) → HasPut old items position now → Drains steps it items → WholeRun steps it (λ p. now ≡ fold put old p.items)
+  run_puts steps it old now items position has gave = total_runs steps it _ (λ items. now ≡ fold put old items) (items, λ _. gave, has.made) (tt {0})
 
   -- the item of a list at an index
   module _ (old : C) (items : List X) (index : ℕ) (d : X) (now : C) (within : index < length items) (made : now ≡ fold put old (take index items)) where
@@ -88,3 +80,96 @@ module _ {C X : Type 0} (fits : C → X → Bool) (put : C → X → C) where
 
     pub put_at : (new : C) → new ≡ put now (get_or items index d) → new ≡ fold put old (take (index + 1) items)
     put_at new next = next ∙ ap (λ c. put c (get_or items index d)) made ∙ sym (ap (fold put old) (take_more items index d within) ∙ fold_push put old (take index items) (get_or items index d))
+
+IsDistinct-nil : {K : Type 0} (eq : K → K → Bool) → IsDistinct eq []
+unfolding IsDistinct
+IsDistinct-nil eq = tt
+
+-- a content and its items have keys: an item whose key is there fits and adds none, and any other fits where there is
+-- room and adds its key at the end; count tells how many distinct keys items have
+pub record IsKeyed {C X K : Type 0} (eq : K → K → Bool) (N : ℕ) (fits : C → X → Bool) (put : C → X → C) (keys : C → List K) (key : X → K) (empty : C) (count : List X → ℕ) : Type 0 where
+  pub cases : (c : C) (x : X) → ((is_member eq (keys c) (key x) ≡ true) × (fits c x ≡ true) × (keys (put c x) ≡ keys c)) ⊎ ((is_member eq (keys c) (key x) ≡ false) × (fits c x ≡ nat_lt (length (keys c)) N) × (keys (put c x) ≡ keys c ++ key x ∷ []))
+  pub none : keys empty ≡ []
+  pub counts : (items : List X) → count items ≡ distinct_count eq (map key items)
+
+module _ {C X K : Type 0} {eq : K → K → Bool} (laws : IsEquivalence eq) {N : ℕ} {fits : C → X → Bool} {put : C → X → C} {keys : C → List K} {key : X → K} {empty : C} {count : List X → ℕ} (keyed : IsKeyed eq N fits put keys key empty count) where
+  -- the keys after a put are distinct, and are those before it and the item's
+  keys-put : (c : C) (x : X) → IsDistinct eq (keys c) → IsDistinct eq (keys (put c x)) × ((q : K) → is_member eq (keys (put c x)) q ≡ (is_member eq (keys c) q || eq q (key x)))
+  keys-put c x distinct = elim (keyed.cases c x) [
+    | inl h ↦ subst (λ ks. IsDistinct eq ks × ((q : K) → is_member eq ks q ≡ (is_member eq (keys c) q || eq q (key x)))) (sym h.2) (distinct, λ q. member q (eq q (key x)) refl h.0)
+    | inr h ↦ subst (λ ks. IsDistinct eq ks × ((q : K) → is_member eq ks q ≡ (is_member eq (keys c) q || eq q (key x)))) (sym h.2) (IsDistinct-push laws (keys c) (key x) distinct h.0, λ q. list_any-append (eq q) (keys c) (key x ∷ []) ∙ ap (λ b. is_member eq (keys c) q || b) (or-false (eq q (key x))))
+  ]
+    where
+      member : (q : K) (b : Bool) → eq q (key x) ≡ b → is_member eq (keys c) (key x) ≡ true → is_member eq (keys c) q ≡ (is_member eq (keys c) q || b)
+      member q true same there = ap (λ test. list_any test (keys c)) (λ i k. laws.congr q (key x) k same i) ∙ there ∙ sym (or-true _)
+      member q false other there = sym (or-false _)
+
+  pub keys-fold : (c : C) (items : List X) → IsDistinct eq (keys c) → IsDistinct eq (keys (fold put c items)) × ((q : K) → is_member eq (keys (fold put c items)) q ≡ (is_member eq (keys c) q || is_member eq (map key items) q))
+  keys-fold c [] distinct = (distinct, λ q. sym (or-false _))
+  keys-fold c (x ∷ items) distinct =
+      let one = keys-put c x distinct in
+      let all = keys-fold (put c x) items one.0 in
+      (all.0, λ q. all.1 q ∙ ap (λ b. b || is_member eq (map key items) q) (one.1 q) ∙ or_assoc (is_member eq (keys c) q) (eq q (key x)) (is_member eq (map key items) q))
+
+  -- an item fits, and items fit, exactly where the keys are few enough with them
+  fits-count : (c : C) (x : X) → length (keys c) ≤ N → fits c x ≡ nat_le (length (keys (put c x))) N
+  fits-count c x short = grind (arith, keyed.cases c x, le-leb (length (keys (put c x))) N, short, length_push (keys c) (key x))
+
+  pub each_fits-count : (c : C) (items : List X) → IsDistinct eq (keys c) → length (keys c) ≤ N → each_fits fits put c items ≡ nat_le (length (keys (fold put c items))) N
+  each_fits-count c [] distinct short = sym (le-leb (length (keys c)) N short)
+  each_fits-count c (x ∷ items) distinct short =
+      let after = (keys-put c x distinct).0 in
+      let longer : length (keys (put c x)) ≤ length (keys (fold put (put c x) items)) = length-le_from_is_member laws _ _ after (λ q member. (keys-fold (put c x) items after).1 q ∙ ap (λ b. b || is_member eq (map key items) q) member) in
+      ap (λ b. b && each_fits fits put (put c x) items) (fits-count c x short) ∙ elim (leb_tells (length (keys (put c x))) N) [
+        | inl few ↦ ap (λ b. b && each_fits fits put (put c x) items) few.0 ∙ each_fits-count (put c x) items after few.1
+        | inr many ↦ ap (λ b. b && each_fits fits put (put c x) items) many.0 ∙ sym (lt-leb _ N (omega (arith, many.1, longer)))
+      ]
+
+  -- what is built has the distinct keys of its items
+  pub keys-built : (items : List X) → IsDistinct eq (keys (fold put empty items)) × ((q : K) → is_member eq (keys (fold put empty items)) q ≡ is_member eq (map key items) q)
+  keys-built items =
+      let built = keys-fold empty items (subst (IsDistinct eq) (sym keyed.none) (IsDistinct-nil eq)) in
+      (built.0, λ q. built.1 q ∙ ap (λ ks. is_member eq ks q || is_member eq (map key items) q) keyed.none)
+
+  pub length-built : (items : List X) → length (keys (fold put empty items)) ≡ count items
+  length-built items = let built = keys-built items in length-from_keys laws _ (map key items) built.0 built.1 ∙ sym (keyed.counts items)
+
+  pub all_fit-count : (items : List X) → each_fits fits put empty items ≡ nat_le (count items) N
+  all_fit-count items =
+      each_fits-count empty items (subst (IsDistinct eq) (sym keyed.none) (IsDistinct-nil eq)) (rw (keyed.none) (omega arith))
+      ∙ ap (λ n. nat_le n N) (length-built items)
+
+  -- items that all fit have few distinct keys, and with one more that doesn't they have too many
+  pub few_distinct : (items : List X) → IsTrue (each_fits fits put empty items) → count items ≤ N
+  few_distinct items fit = leb-true _ N (sym (all_fit-count items) ∙ fit)
+
+  pub many_distinct : (items : List X) (x : X) → IsTrue (not (fits (fold put empty items) x)) → N < count (items ++ x ∷ [])
+  many_distinct items x misfit =
+      let many : each_fits fits put empty (items ++ x ∷ []) ≡ false = each_fits-push fits put empty items x ∙ ap (λ b. each_fits fits put empty items && b) (not-true _ misfit) ∙ and-false _ in
+      leb-false _ N (sym (all_fit-count (items ++ x ∷ [])) ∙ many)
+
+  -- where not even the first of the items all fit, there are too many distinct ones
+  pub many_prefix : (items : List X) → IsTrue (not (each_fits fits put empty items)) → N < count items
+  many_prefix items misfit = leb-false _ N (sym (all_fit-count items) ∙ not-true _ misfit)
+
+  -- which stand behind as many as there is room for
+  pub full_at : (items : List X) (position : ℕ) → IsTrue (not (each_fits fits put empty (take (position + 1) items))) → N ≤ position
+  full_at items position misfit =
+      let first = take (position + 1) items in
+      omega (arith, many_prefix first misfit, keyed.counts first, distinct_count-le eq (map key first), length-map first key, length-take (position + 1) items)
+
+  -- as many items as there is room for
+  module _ (items : List X) (long : length items ≡ N) where
+    pub array_fits : IsTrue (each_fits fits put empty items)
+    array_fits = all_fit-count items ∙ le-leb _ N (omega (arith, keyed.counts items, distinct_count-le eq (map key items), length-map items key, long))
+
+    pub array_fits_at : (index : ℕ) (d : X) (now : C) → index < N → now ≡ fold put empty (take index items) → fits now (get_or items index d) ≡ true
+    array_fits_at index d now within made = fits_at fits put empty items index d now (omega (arith, within, long)) made array_fits
+
+-- a map's pairs
+pub pairs_keyed : {K V : Type 0} (eq : K → K → Bool) (N : ℕ) → IsKeyed eq N (pair_fits {V = V} eq N) (put_pair eq) keys_of (λ p. p.0) [] (λ items. distinct_count eq (keys_of items))
+pairs_keyed {K} {V} eq N = record { cases = λ pairs p. by pairs p (has eq pairs p.0) refl; none = refl; counts = λ items. refl }
+  where
+    by : (pairs : List (K × V)) (p : K × V) (b : Bool) → has eq pairs p.0 ≡ b → ((is_member eq (keys_of pairs) p.0 ≡ true) × (pair_fits eq N pairs p ≡ true) × (keys_of (put_pair eq pairs p) ≡ keys_of pairs)) ⊎ ((is_member eq (keys_of pairs) p.0 ≡ false) × (pair_fits eq N pairs p ≡ nat_lt (length (keys_of pairs)) N) × (keys_of (put_pair eq pairs p) ≡ keys_of pairs ++ p.0 ∷ []))
+    by pairs p true stored = inl (sym (is_some-lookup (eq p.0) pairs) ∙ stored, ap (λ b. b || has_room N pairs) stored, keys_of-put_stored eq pairs p.0 p.1 stored)
+    by pairs p false new = inr (sym (is_some-lookup (eq p.0) pairs) ∙ new, ap (λ b. b || has_room N pairs) new ∙ ap (λ n. nat_lt n N) (sym (length-keys_of pairs)), keys_of-put_new eq pairs p.0 p.1 new)

@@ -1,21 +1,20 @@
 -- For callers: how many distinct keys a list has with one more, that a map has one key for each distinct key that was put,
 -- and what a counter has. The ruleset `count_laws` is for a counter.
-use Rattle.std.proofs.Common.{◌≡◌, ℕ, ◌+◌, ◌<◌, ◌≤◌, ◌||◌, Bool, true, false, List, [], ◌∷◌, ◌++◌, length, get_or, take, drop, unwrap_or, cond, if◌then◌else◌, refl, ap, sym, subst, ◌∙◌, append_assoc, arith}
-use Rattle.std.specs.List.{count_by, fold, list_any}
+use Rattle.std.proofs.Common.{◌≡◌, ℕ, ◌+◌, ◌<◌, ◌≤◌, ◌||◌, not, Bool, true, false, List, [], ◌∷◌, ◌++◌, length, get_or, take, drop, unwrap_or, cond, if◌then◌else◌, refl, ap, sym, subst, ◌∙◌, append_assoc, arith}
+use Rattle.std.specs.List.{AllByRecursion, IsDistinct, count_by, fold, list_any}
 use Rattle.std.specs.Map.{keys_of}
 use Rattle.std.specs.Set.{distinct_count, is_member}
 use Rattle.std.proofs.Math.Bool.{or-false}
 use Rattle.std.proofs.lemmas.Grind.{common_steps}
-use Rattle.std.proofs.lemmas.List.{append-nil, length-take, take_all, take_more, take-append-drop}
+use Rattle.std.proofs.lemmas.List.{append-nil, length-take, map-append, take_all, take_more, take-append-drop}
 use Rattle.std.proofs.lemmas.List.Folds.{list_any-append}
-use Rattle.std.proofs.lemmas.List.Sums.{count_by-le-length, fold_push}
+use Rattle.std.proofs.lemmas.List.Sums.{count_by-le-length, fold_more, fold_push, sum_by-cons}
 use Rattle.std.proofs.lemmas.Map.Entries.{length-keys_of}
 use Rattle.std.proofs.lemmas.Map.Made.{is_some-lookup, length-from_keys}
-use Rattle.micromap_core.specs.Build.{put_all}
-use Rattle.micromap_core.specs.Counts.{count_one, counts}
+use Rattle.micromap_core.specs.Build.{put_all, count_one, counts, put_pair}
 use Rattle.micromap_core.specs.Equalities.{Lawful}
 use Rattle.micromap_core.specs.Pairs.{at, has, put, IsUnique}
-use Rattle.micromap_core.proofs.CountLemmas.{keys-fold, pairs_keyed}
+use Rattle.micromap_core.proofs.BuildLemmas.{keys-fold, pairs_keyed}
 use Rattle.micromap_core.proofs.Equalities.{of_lawful}
 use Rattle.micromap_core.proofs.MapLaws.{at_alike, at_put, has_put, length_put, unique_empty, unique_put}
 
@@ -57,6 +56,41 @@ module _ {K V : Type 0} (eq : K → K → Bool) where
       let keys = keys-fold (of_lawful eq laws) (pairs_keyed eq 0) pairs items unique in
       sym (length-keys_of (put_all eq pairs items))
       ∙ length-from_keys (of_lawful eq laws) _ (keys_of pairs ++ keys_of items) keys.0 (λ q. keys.1 q ∙ sym (list_any-append (eq q) (keys_of pairs) (keys_of items)))
+
+  -- with more items there are no fewer
+  pub put_all_grows : (pairs items : List (K × V)) (i : ℕ) → Lawful eq → IsUnique eq pairs → length (put_all eq pairs (take i items)) ≤ length (put_all eq pairs items)
+  put_all_grows pairs items i laws unique =
+      let all : keys_of (take i items) ++ keys_of (drop i items) ≡ keys_of items = sym (map-append (λ (e : K × V). e.0) (take i items) (drop i items)) ∙ ap keys_of (take-append-drop i items) in
+      omega (arith, length_put_all pairs (take i items) laws unique, length_put_all pairs items laws unique, distinct_grows eq (keys_of pairs ++ keys_of (take i items)) (keys_of (drop i items)) laws, ap (distinct_count eq) (append_assoc (keys_of pairs) (keys_of (take i items)) (keys_of (drop i items)) ∙ ap (λ l. keys_of pairs ++ l) all))
+
+  -- a put at another key leaves how many of the items are new
+  count_apart : (pairs : List (K × V)) (k : K) (v : V) (items : List (K × V)) → Lawful eq → AllByRecursion (λ y. eq k y ≡ false) (keys_of items) → count_by (λ e. not (has eq (put eq pairs k v) e.0)) items ≡ count_by (λ e. not (has eq pairs e.0)) items
+  count_apart pairs k v [] laws apart = refl
+  count_apart pairs k v (e ∷ items) laws apart =
+      let a = apart.0 in
+      grind (arith, count_apart pairs k v items laws apart.1, has_put eq pairs k v e.0 laws, sum_by-cons (λ x. cond (not (has eq (put eq pairs k v) x.0)) 1 0) e items, sum_by-cons (λ x. cond (not (has eq pairs x.0)) 1 0) e items)
+
+  -- of items with unequal keys each new one is one more
+  pub length_put_all_unequal : (pairs items : List (K × V)) → Lawful eq → IsUnique eq items → length (put_all eq pairs items) ≡ length pairs + count_by (λ e. not (has eq pairs e.0)) items
+  unfolding IsDistinct
+  length_put_all_unequal pairs [] laws unequal = omega arith
+  length_put_all_unequal pairs (e ∷ items) laws unequal =
+      grind (arith, length_put_all_unequal (put eq pairs e.0 e.1) items laws unequal.1, length_put eq pairs e.0 e.1, count_apart pairs e.0 e.1 items laws unequal.0, sum_by-cons (λ x. cond (not (has eq pairs x.0)) 1 0) e items)
+
+  -- an item that is put when it is new is one more
+  pub put_all_beyond : (pairs items : List (K × V)) (i : ℕ) (d : K × V) → i < length items → Lawful eq → IsUnique eq pairs → has eq (put_all eq pairs (take i items)) (get_or items i d).0 ≡ false → length (put_all eq pairs (take i items)) < length (put_all eq pairs items)
+  put_all_beyond pairs items i d within laws unique new =
+      let more = ap length (fold_more (put_pair eq) pairs items i d within) ∙ length_put eq (put_all eq pairs (take i items)) (get_or items i d).0 (get_or items i d).1 in
+      let grown = put_all_grows pairs items (i + 1) laws unique in
+      grind (arith, new, more, grown)
+
+  pub each_put_all_take : (pairs items : List (K × V)) (i : ℕ) → Lawful eq → IsUnique eq pairs → (put_all eq pairs (take i items) ≡ put_all eq pairs (take i items)) × (length items ≤ i → put_all eq pairs (take i items) ≡ put_all eq pairs items) × ((d : K × V) → i < length items → put_all eq pairs (take (i + 1) items) ≡ put eq (put_all eq pairs (take i items)) (get_or items i d).0 (get_or items i d).1) × ((d : K × V) → i < length items → has eq (put_all eq pairs (take i items)) (get_or items i d).0 ≡ false → length (put_all eq pairs (take i items)) < length (put_all eq pairs items))
+  each_put_all_take pairs items i laws unique = (
+    refl,
+    λ over. ap (put_all eq pairs) (take_all i items over),
+    λ d within. fold_more (put_pair eq) pairs items i d within,
+    λ d within new. put_all_beyond pairs items i d within laws unique new,
+  )
 
 -- a counter
 module _ {K : Type 0} (eq : K → K → Bool) where
@@ -122,4 +156,4 @@ module _ {K : Type 0} (eq : K → K → Bool) where
     λ d within new. counts_beyond items i d within laws new,
   )
 
-pub ruleset count_laws = (counts_none, each_counts, each_counts_take)
+pub ruleset count_laws = (counts_none, each_counts, each_counts_take, each_put_all_take)

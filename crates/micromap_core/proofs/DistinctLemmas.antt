@@ -1,17 +1,16 @@
 -- Pairwise unequal items: parts of their list and lists put together, and how many of them another list has.
-use Rattle.std.proofs.Common.{◌≡◌, ◌≢◌, ◌<◌, ◌≤◌, Bool, true, false, ◌&&◌, ◌||◌, List, [], ◌∷◌, ◌++◌, filter, get_or, length, if◌then◌else◌, refl, ap, sym, subst, ◌∙◌, arith}
-use Rattle.std.specs.Cmp.{IsEquivalence, first_so, second_so}
+use Rattle.std.proofs.Common.{◌≡◌, ◌≢◌, ◌<◌, ◌≤◌, Bool, true, false, ◌&&◌, ◌||◌, List, [], ◌∷◌, ◌++◌, filter, get_or, length, refl, ap, sym, subst, ◌∙◌, arith}
+use Rattle.std.specs.Cmp.{IsEquivalence, second_so}
 use Rattle.std.specs.Cmp.Derive.{both_true}
 use Rattle.std.specs.List.{AllByRecursion, IsDistinct, items_where_true, list_all, list_any}
 use Rattle.std.specs.Set.{is_member}
 use Rattle.std.proofs.Math.Bool.{or-true}
-use Rattle.std.proofs.lemmas.Bool.{false≢true}
 use Rattle.std.proofs.lemmas.List.Elements.{All-append, All-from_recursion, recursion_from_All}
 use Rattle.std.proofs.lemmas.List.Sums.{AllPass-from_list_all, count_by-le-length, length-filter, list_all-from_AllPass}
 use Rattle.std.proofs.lemmas.Map.Keys.{IsDistinct-cons, IsDistinct-head, IsDistinct-tail}
 use Rattle.std.proofs.lemmas.Map.Made.{All-is_member, is_member-filter, length-le_from_is_member}
 use Rattle.std.proofs.lemmas.Map.Steps.{list_any_congr}
-use Rattle.micromap_core.specs.Sublist.{IsSublist}
+use Rattle.micromap_core.specs.Closures.{IsSublist}
 
 -- what holds of each item holds of those that are picked
 All-picked : {T : Type 0} (P : T → Type 0) (picks : List Bool) (xs : List T) → AllByRecursion P xs → AllByRecursion P (items_where_true picks xs)
@@ -41,13 +40,7 @@ IsDistinct-filter eq test xs = IsDistinct-sublist eq (filter test xs) xs (IsSubl
 -- a test that finds nothing fails at each item
 fails_everywhere : {T : Type 0} (test : T → Bool) (xs : List T) → list_any test xs ≡ false → AllByRecursion (λ x. test x ≡ false) xs
 fails_everywhere test [] none = tt
-fails_everywhere test (x ∷ xs) none =
-    let both : (test x ≡ false) × (list_any test xs ≡ false) = neither (test x) (list_any test xs) none in
-    (both.0, fails_everywhere test xs both.1)
-  where
-    neither : (a b : Bool) → (a || b) ≡ false → (a ≡ false) × (b ≡ false)
-    neither true b none = absurd (false≢true (sym none))
-    neither false b none = (refl, none)
+fails_everywhere test (x ∷ xs) none = (grind (arith, none), fails_everywhere test xs (grind (arith, none)))
 
 module _ {T : Type 0} {eq : T → T → Bool} (laws : IsEquivalence eq) where
   pub IsDistinct-append : (xs ys : List T) → IsDistinct eq xs → IsDistinct eq ys → ((q : T) → is_member eq xs q ≡ true → is_member eq ys q ≡ false) → IsDistinct eq (xs ++ ys)
@@ -67,17 +60,11 @@ module _ {T : Type 0} {eq : T → T → Bool} (laws : IsEquivalence eq) where
 -- a test that each item passes keeps them all, and one that keeps as many as there are is passed by each
 filter_all : {T : Type 0} (test : T → Bool) (xs : List T) → list_all test xs ≡ true → filter test xs ≡ xs
 filter_all test [] all = refl
-filter_all test (x ∷ xs) all =
-    let passes : test x ≡ true = first_so (test x) (list_all test xs) all in
-    rw passes (ap (λ l. x ∷ l) (filter_all test xs (second_so (test x) (list_all test xs) all)))
+filter_all test (x ∷ xs) all = grind (arith, all, filter_all test xs)
 
 all_kept : {T : Type 0} (test : T → Bool) (xs : List T) → length xs ≤ length (filter test xs) → list_all test xs ≡ true
 all_kept test [] many = refl
-all_kept test (x ∷ xs) many = by (test x) (all_kept test xs) many
-  where
-    by : (b : Bool) → (length xs ≤ length (filter test xs) → list_all test xs ≡ true) → length (x ∷ xs) ≤ length (if b then x ∷ filter test xs else filter test xs) → (b && list_all test xs) ≡ true
-    by true rest many = rest (omega (arith, many))
-    by false rest many = absurd (omega (arith, many, length-filter test xs, count_by-le-length test xs))
+all_kept test (x ∷ xs) many = grind (arith, many, all_kept test xs, length-filter test xs, count_by-le-length test xs)
 
 module _ {T : Type 0} {eq : T → T → Bool} (laws : IsEquivalence eq) (xs ys : List T) (distinct : IsDistinct eq xs) where
   module _ (all : list_all (is_member eq ys) xs ≡ true) where
@@ -97,28 +84,15 @@ module _ {T : Type 0} {eq : T → T → Bool} (laws : IsEquivalence eq) (xs ys :
 
   -- of more items than ys has, some has no equal one there
   pub missing_in_shorter : length ys < length xs → list_all (is_member eq ys) xs ≡ false
-  missing_in_shorter short = by (list_all (is_member eq ys) xs) refl
-    where
-      by : (b : Bool) → list_all (is_member eq ys) xs ≡ b → list_all (is_member eq ys) xs ≡ false
-      by true all = absurd (omega (arith, short, length-le_from_members all))
-      by false some = some
+  missing_in_shorter short = grind (arith, short, length-le_from_members)
 
 -- of two lists that are equally long, one side tells of both; of two that aren't, one side fails
 module _ {T : Type 0} {eq : T → T → Bool} (laws : IsEquivalence eq) (xs ys : List T) (first : IsDistinct eq xs) (second : IsDistinct eq ys) where
   pub both_sides : length xs ≡ length ys → list_all (is_member eq ys) xs ≡ (list_all (is_member eq ys) xs && list_all (is_member eq xs) ys)
-  both_sides long = by (list_all (is_member eq ys) xs) refl
-    where
-      by : (b : Bool) → list_all (is_member eq ys) xs ≡ b → b ≡ (b && list_all (is_member eq xs) ys)
-      by true all = sym (members_turned laws xs ys first all (omega (arith, long)))
-      by false some = refl
+  both_sides long = grind (arith, long, members_turned laws xs ys first)
 
   pub not_both_sides : length xs ≢ length ys → (list_all (is_member eq ys) xs && list_all (is_member eq xs) ys) ≡ false
-  not_both_sides apart = by (list_all (is_member eq ys) xs) (list_all (is_member eq xs) ys) refl refl
-    where
-      by : (a b : Bool) → list_all (is_member eq ys) xs ≡ a → list_all (is_member eq xs) ys ≡ b → (a && b) ≡ false
-      by true true one two = absurd (omega (arith, apart, length-le_from_members laws xs ys first one, length-le_from_members laws ys xs second two))
-      by true false one two = refl
-      by false b one two = refl
+  not_both_sides apart = grind (arith, apart, length-le_from_members laws xs ys first, length-le_from_members laws ys xs second)
 
 -- what holds of each element holds of the one behind the first ones
 pub at_seam : {T : Type 0} (P : T → Type 0) (ys : List T) (x : T) (xs : List T) → AllByRecursion P (ys ++ x ∷ xs) → P x

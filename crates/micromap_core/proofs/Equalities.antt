@@ -1,16 +1,21 @@
 -- For callers: the equalities that are known to be lawful, and the tests that are probes of them. An equality of one's
 -- own is one line: `lawful_mine : Lawful my_eq`, by `lawful`.
-use Rattle.std.proofs.Common.{ℕ, ℤ, Bool, List, String, nat_eq, string_bytes}
+use Rattle.std.proofs.Common.{◌≡◌, Bool, true, sym, ◌∙◌, ℕ, ℤ, List, String, nat_eq, string_bytes}
+use Rattle.std.specs.Cmp.{both_ways, IsEquivalence, bool_eq_equiv}
 use Rattle.std.specs.Bool.{beq}
 use Rattle.std.specs.Borrow.{Bor}
-use Rattle.std.specs.Cmp.{IsEquivalence, bool_eq_equiv}
 use Rattle.std.specs.Cmp.Lexicographic.{pointwise}
 use Rattle.std.specs.Ordering.{int_eq, on}
 use Rattle.std.specs.String.{string_eq, string_eq_equiv}
 use Rattle.std.proofs.lemmas.Cmp.{int_eq_equiv, nat_eq_equiv, nat_list_eq_equiv, on_equiv}
 use Rattle.micromap_core.specs.Equalities.{IsProbe, Lawful, Probes}
 use Rattle.micromap_core.specs.Probe.{is_str, is_text}
-use Rattle.micromap_core.specs.ProbeLaws.{alike, equal}
+use Rattle.micromap_core.specs.Probe.{alike, equal}
+
+-- a lawful probe tests the keys as the one that it matches does
+pub same_test : {K : Type 0} (eq : K → K → Bool) (test : K → Bool) (alike : (x y : K) → eq x y ≡ true → test x ≡ test y) (single : (x y : K) → test x ≡ true → test y ≡ true → eq x y ≡ true) (k : K) → test k ≡ true → test ≡ eq k
+same_test eq test alike single k passes =
+    λ i y. both_ways (test y) (eq k y) (single k y passes) (λ e. sym (alike k y e) ∙ passes) i
 
 module _ {K : Type 0} (eq : K → K → Bool) where
   -- the words are what they stand for
@@ -96,10 +101,5 @@ probes_str bytes =
 -- what compares by a part
 pub lawful_on : {K J : Type 0} (f : K → J) (eq : J → J → Bool) → Lawful eq → Lawful (on f eq)
 lawful_on f eq laws = lawful (on f eq) (on_equiv f (of_lawful eq laws))
-
-pub probes_on : {K J : Type 0} (f : K → J) (eq : J → J → Bool) (k : J) → Lawful eq → Probes (on f eq) (λ x. eq k (f x))
-probes_on f eq k laws =
-    let l = of_lawful eq laws in
-    probes (on f eq) (λ x. eq k (f x)) (record { laws = on_equiv f l; alike_keys = λ x y. alike l k (f x) (f y); equal_keys = λ x y. equal l k (f x) (f y) })
 
 pub ruleset equalities = (lawful_nat, probes_nat, lawful_int, probes_int, lawful_bool, probes_bool, lawful_string, probes_string, probes_text, lawful_bytes, probes_bytes, lawful_str, probes_str, lawful_on)

@@ -1,10 +1,10 @@
 -- From two lists that are the same, whose keys are pairwise unequal, every fair list of calls gets answers that agree and
 -- leaves the two the same; two that differ are told apart by one look-up. Only what the calls do to look-ups is used.
-use Rattle.std.proofs.Common.{◌≡◌, ℕ, Bool, true, false, ◌||◌, List, [], ◌∷◌, length, Option, Some, None, is_some, if◌then◌else◌, nat_eq, eq-eqb, IsTrue, IsFalse, refl, ap, sym, subst, ◌∙◌, ◌↔◌}
+use Rattle.std.proofs.Common.{◌≡◌, ◌≢◌, ℕ, Bool, true, false, ◌||◌, List, [], ◌∷◌, length, Option, Some, None, is_some, if◌then◌else◌, nat_eq, eq-eqb, IsTrue, IsFalse, refl, ap, sym, subst, ◌∙◌, ◌↔◌, arith}
 use Rattle.std.specs.Bool.{beq, OnTrue}
 use Rattle.std.specs.Cmp.{IsEquivalence, bool_eq_equiv, both_ways, first_so}
 use Rattle.std.specs.Cmp.Derive.{both_true}
-use Rattle.std.specs.List.{IsDistinct}
+use Rattle.std.specs.List.{IsDistinct, list_all}
 use Rattle.std.specs.Map.{keys_of}
 use Rattle.std.specs.Option.{MatchOption, option_eq}
 use Rattle.std.proofs.lemmas.Bool.{false≢true, false_from_ne_true, OnTrue_from}
@@ -13,11 +13,11 @@ use Rattle.std.proofs.lemmas.Map.Made.{is_some-lookup, length-from_same_keys}
 use Rattle.micromap_core.specs.Calls.{Call, Answer, insert, insert_key_value, get, get_key_value, contains, remove, remove_entry, len, is_empty, clear, value, entry, refused, agree, answer, after, run}
 use Rattle.micromap_core.specs.Equalities.{Lawful}
 use Rattle.micromap_core.specs.Fair.{IsFairCall, IsFair, AnswersAgree, ToldApart, SameForGood}
-use Rattle.micromap_core.specs.Pairs.{at, pair, has, has_room, fits, put, put_key, take_out, IsUnique}
-use Rattle.micromap_core.specs.Same.{pair_eq, is_same, Same, DiffersAt}
+use Rattle.micromap_core.specs.Pairs.{at, pair, has, has_room, fits, put, put_key, take_out, IsContent, IsUnique}
+use Rattle.micromap_core.specs.Same.{has_value, pair_eq, is_same, Same, DiffersAt}
 use Rattle.micromap_core.proofs.Equalities.{equalities, lawful, of_lawful}
+use Rattle.micromap_core.proofs.SameLemmas.{answered_long, answered_short, FindAlike, alike_from_same, same_from_alike, differs_where_unlike}
 use Rattle.micromap_core.proofs.MapLaws.{at_put, at_put_key, at_take_out, unique_put, unique_put_key, unique_take_out}
-use Rattle.micromap_core.proofs.SameLemmas.{FindAlike, alike_from_same, same_from_alike, differs_where_unlike}
 
 -- the insertion of a key that fits both lists, or neither, is fair
 pub fair_where_fits : {K V : Type 0} (eq : K → K → Bool) (N M : ℕ) (first second : List (K × V)) (k : K) → fits eq N first k ≡ fits eq M second k → IsFalse (has eq first k) → IsFalse (has eq second k) → has_room N first ≡ has_room M second
@@ -31,10 +31,7 @@ module _ {K V : Type 0} (eq : K → K → Bool) (same : V → V → Bool) (keys 
     alike : FindAlike eq same keys values first second
 
   some_alike : (o r : Option V) → option_eq same o r ≡ true → is_some o ≡ is_some r
-  some_alike None None alike = refl
-  some_alike None (Some w) alike = alike
-  some_alike (Some v) None alike = sym alike
-  some_alike (Some v) (Some w) alike = refl
+  some_alike o r alike = grind (arith, alike)
 
   -- the pair that a key finds has an equal key, and the value that the key finds
   pair_at : (pairs : List (K × V)) (k : K) → MatchOption (pair eq pairs k) (at eq pairs k ≡ None) (λ p. (eq k p.0 ≡ true) × (at eq pairs k ≡ Some p.1))
@@ -46,12 +43,10 @@ module _ {K V : Type 0} (eq : K → K → Bool) (same : V → V → Bool) (keys 
       by false other rest = rest
 
   if_agree : (b : Bool) (x y : Answer K V) → agree eq same x y ≡ true → agree eq same (if b then x else refused) (if b then y else refused) ≡ true
-  if_agree true x y agrees = agrees
-  if_agree false x y agrees = refl
+  if_agree b x y agrees = grind (arith, agrees)
 
   if_alike : (b : Bool) (x o r : Option V) → option_eq same x x ≡ true → option_eq same o r ≡ true → option_eq same (if b then x else o) (if b then x else r) ≡ true
-  if_alike true x o r itself alike = itself
-  if_alike false x o r itself alike = alike
+  if_alike b x o r itself alike = grind (arith, itself, alike)
 
   if_same : (b : Bool) (first second one other : List (K × V)) → AreSame first second → AreSame one other → AreSame (if b then first else one) (if b then second else other)
   if_same true first second one other chosen left = chosen
@@ -105,13 +100,7 @@ module _ {K V : Type 0} (eq : K → K → Bool) (same : V → V → Bool) (keys 
     module _ (N M : ℕ) where
       -- a key fits both or neither, where the insertion is fair
       fits_alike : (k : K) → (IsFalse (has eq first k) → IsFalse (has eq second k) → has_room N first ≡ has_room M second) → fits eq N first k ≡ fits eq M second k
-      fits_alike k fair = by (has eq first k) refl
-        where
-          by : (b : Bool) → has eq first k ≡ b → fits eq N first k ≡ fits eq M second k
-          by true stored = ap (λ b. b || has_room N first) stored ∙ sym (ap (λ b. b || has_room M second) (sym (has_alike k) ∙ stored))
-          by false missing =
-              let other = sym (has_alike k) ∙ missing in
-              ap (λ b. b || has_room N first) missing ∙ fair missing other ∙ sym (ap (λ b. b || has_room M second) other)
+      fits_alike k fair = grind (arith, fair, has_alike k)
 
       -- the answers of one fair call agree
       answer_agrees : (call : Call K V) → IsFairCall eq N M first second call → agree eq same (answer eq N first call) (answer eq M second call) ≡ true
@@ -183,6 +172,32 @@ module _ {K V : Type 0} (eq : K → K → Bool) (same : V → V → Bool) (keys 
 
       pub yes_answered : OnTrue answer (SameForGood eq same N M first second)
       yes_answered = OnTrue_from answer (SameForGood eq same N M first second) (λ yes. same_for_good (is.0 yes))
+
+-- all that a comparison of two maps answers, from their lengths m and n and their content
+module _ {K V : Type 0} {eq : K → K → Bool} {same : V → V → Bool} {N M : ℕ} {first second : List (K × V)} (values : IsEquivalence same) (content : IsContent eq N first) (other : IsContent eq M second) {m n : ℕ} (one : m ≡ length first) (two : n ≡ length second) where
+  -- the clauses of a comparison
+  abbrev Clauses : Bool → Type 0
+  Clauses answer = (IsTrue answer ↔ Same eq same first second) × (IsFalse answer ↔ ToldApart eq same N M first second) × OnTrue answer (SameForGood eq same N M first second) × (IsTrue answer ↔ ((k : K) → IsTrue (option_eq same (at eq first k) (at eq second k))))
+
+  whole : (answer : Bool) → IsTrue answer ↔ Same eq same first second → Clauses answer
+  whole answer is =
+      let keys = of_lawful eq content.lawful in
+      let unique = content.unique in
+      let also = other.unique in (
+        is,
+        no_answered eq same keys values N M first second unique also answer is,
+        yes_answered eq same keys values N M first second unique also answer is,
+        (
+          λ yes. (alike_from_same eq same keys values first second unique also (is.0 yes)).each,
+          λ each. is.1 (same_from_alike eq same keys values first second unique also (record { each = each })),
+        ),
+      )
+
+  pub compared_long : m ≡ n → (answer : Bool) → answer ≡ list_all (has_value eq same second) first → Clauses answer
+  compared_long long answer is = whole answer (answered_long eq same (of_lawful eq content.lawful) values first second content.unique other.unique m n one two long answer is)
+
+  pub compared_short : m ≢ n → Clauses (nat_eq m n)
+  compared_short apart = whole (nat_eq m n) (answered_short eq same (of_lawful eq content.lawful) values first second content.unique other.unique m n one two apart)
 
 -- For callers: two lists that are the same stay the same where both get the same put, or the same removal. Whether there
 -- is room is for the caller to know.

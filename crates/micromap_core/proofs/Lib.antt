@@ -1,32 +1,24 @@
 pub mod BuildLemmas
 pub mod CloneLemmas
-pub mod ColumnLemmas
+pub mod SlotsLemmas
 pub mod ClosureLemmas
 pub mod CountLaws
-pub mod CountLemmas
 pub mod DistinctLemmas
 pub mod EntryLemmas
 pub mod Equalities
-pub mod FoundLemmas
+pub mod ScanLemmas
 pub mod Laws
-pub mod Examples
 pub mod FairLemmas
 pub mod Lists
 pub mod MapLawLemmas
 pub mod MapLaws
 pub mod MisfitLemmas
-pub mod OneSideLemmas
+pub mod SameLemmas
 pub mod PairsLemmas
 pub mod PrintLemmas
 pub mod Sizes
-mod ScanLemmas
-pub mod SlotsLemmas
 pub mod StepsLemmas
 pub mod StreamLemmas
-pub mod ProbeLemmas
-mod RetainLemmas
-pub mod SameExamples
-pub mod SameLemmas
+pub mod SumLaws
 pub mod TextLemmas
 pub mod TextViews
-pub mod UpdateLemmas

@@ -1,8 +1,7 @@
 -- Facts about lists and options alone.
-use Rattle.std.proofs.Common.{Bool, true, false, if◌then◌else◌, Option, Some, None, is_some, slice_get, ◌++◌, ◌≡◌, ℕ, suc, zero, ◌<◌, ◌≤◌, List, [], ◌∷◌, length, get_or, set, take, drop, map, refl, ap, sym, ◌∙◌, arith}
+use Rattle.std.proofs.Common.{Bool, false, if◌then◌else◌, Option, Some, None, is_some, slice_get, ◌++◌, ◌≡◌, ℕ, suc, zero, ◌<◌, ◌≤◌, List, [], ◌∷◌, length, get_or, set, take, drop, map, refl, ap, sym, ◌∙◌, arith}
 use Rattle.std.specs.Option.{ForSome, IfSome, option_map}
 use Rattle.std.specs.List.{remove, swap, refill}
-use Rattle.std.proofs.lemmas.Bool.{false≢true}
 use Rattle.std.proofs.Math.ListN.{get_or-map}
 use Rattle.std.proofs.lemmas.List.{get_or-set_same, drop-map, drop-set-lt, map-set, map-append, take-map, take-set, length-set, take_at}
 use Rattle.std.proofs.lemmas.Option.{get_or_from_slice_get, slice_get-get_or, slice_get_within}
@@ -14,18 +13,11 @@ refill-same xs ws same = take_at ws _ (length xs) same
 
 -- a function of the value leaves whether there is one
 pub is_some-option_map : {X Y : Type 0} (f : X → Y) (o : Option X) → is_some (option_map f o) ≡ is_some o
-is_some-option_map f None = refl
-is_some-option_map f (Some x) = refl
+is_some-option_map f o = grind arith
 
 -- where there is no value
 pub none_is : {X : Type 0} (o : Option X) → is_some o ≡ false → o ≡ None
-none_is None so = refl
-none_is (Some x) so = absurd (false≢true (sym so))
-
--- a function after a function
-pub option_map-option_map : {X Y Z : Type 0} (f : Y → Z) (h : X → Y) (o : Option X) → option_map f (option_map h o) ≡ option_map (λ x. f (h x)) o
-option_map-option_map f h None = refl
-option_map-option_map f h (Some x) = refl
+none_is o so = grind (arith, so)
 
 module _ {X : Type 0} where
   -- without an element that stands after the first ones
@@ -70,8 +62,7 @@ slice_get-drop (x ∷ xs) (suc i) = slice_get-drop xs i
 
 -- where a value is given by a test, there is one exactly where the test is passed
 pub is_some-if : {X : Type 0} (b : Bool) (x : X) → is_some (if b then Some x else None) ≡ b
-is_some-if true x = refl
-is_some-if false x = refl
+is_some-if b x = grind arith
 
 -- a function of each element, and the list without one
 pub map-remove : {X Y : Type 0} (f : X → Y) (xs : List X) (i : ℕ) → map f (remove xs i) ≡ remove (map f xs) i

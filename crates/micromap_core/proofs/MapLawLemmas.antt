@@ -1,14 +1,16 @@
 -- The inductions behind `MapLaws`: what a probe finds in a list that a word on pairs makes.
-use Rattle.std.proofs.Common.{◌≡◌, ℕ, ◌+◌, ◌&&◌, ◌||◌, Bool, true, false, not, List, [], ◌∷◌, ◌++◌, filter, length, Option, Some, None, is_some, if◌then◌else◌, refl, arith}
+use Rattle.std.proofs.Common.{◌≡◌, ℕ, ◌+◌, ◌&&◌, ◌||◌, Bool, true, false, not, List, [], ◌∷◌, ◌++◌, filter, length, reverse, Option, Some, None, is_some, if◌then◌else◌, refl, arith}
 use Rattle.std.specs.List.{IsDistinct, AllByRecursion}
-use Rattle.std.specs.Map.{keys_of, lookup, lookup_entry, lookup_key, remove_entry, set_value, set_key}
-use Rattle.std.specs.Option.{option_map, option_map_or, option_or}
+use Rattle.std.specs.Map.{keys_of, lookup, lookup_entry, remove_entry, set_value, set_key}
+use Rattle.std.specs.Option.{option_map_or, option_or}
 use Rattle.std.proofs.lemmas.Bool.{false≢true}
+use Rattle.std.proofs.lemmas.List.{reverse-append}
 use Rattle.std.proofs.lemmas.Map.Entries.{option_filter}
 use Rattle.micromap_core.specs.Equalities.{IsProbe}
 use Rattle.micromap_core.specs.Found.{FoundAt, NotFound}
-use Rattle.micromap_core.specs.Pairs.{pair, first_index, index_of, has, put, take_out, IsUnique}
-use Rattle.micromap_core.proofs.FoundLemmas.{found_at, not_found}
+use Rattle.micromap_core.specs.Pairs.{pair, first_index, has, put, take_out, IsUnique}
+use Rattle.micromap_core.proofs.ScanLemmas.{found_at, not_found}
+use Rattle.micromap_core.proofs.PairsLemmas.{lookup-entry}
 
 -- where all keys are apart from one that passes, none of them passes
 others : {K : Type 0} (eq : K → K → Bool) (test : K → Bool) (p : IsProbe eq test) (x : K) → test x ≡ true → (ks : List K) → AllByRecursion (λ y. eq x y ≡ false) ks → filter (λ q. not (test q)) ks ≡ ks
@@ -28,11 +30,7 @@ module _ {K V : Type 0} (eq : K → K → Bool) (test : K → Bool) (p : IsProbe
 
     pub entry_put : (pairs : List (K × V)) → lookup_entry test (put eq pairs k v) ≡ (if test k then Some (option_map_or (λ e. e.0) (pair eq pairs k) k, v) else lookup_entry test pairs)
     unfolding put
-    entry_put pairs = by (has eq pairs k) refl
-      where
-        by : (b : Bool) → has eq pairs k ≡ b → lookup_entry test (if b then set_value (eq k) pairs v else pairs ++ (k, v) ∷ []) ≡ (if test k then Some (option_map_or (λ e. e.0) (pair eq pairs k) k, v) else lookup_entry test pairs)
-        by true stored = entry_set pairs stored
-        by false missing = entry_push pairs missing
+    entry_put pairs = grind (arith, entry_set pairs, entry_push pairs)
 
     -- a put that replaces the key
     pub entry_set_key : (pairs : List (K × V)) → has eq pairs k ≡ true → lookup_entry test (set_key (eq k) (set_value (eq k) pairs v) k) ≡ (if test k then Some (k, v) else lookup_entry test pairs)
@@ -61,30 +59,26 @@ module _ {K V : Type 0} (eq : K → K → Bool) (test : K → Bool) (p : IsProbe
   entry_filter keep [] unique = refl
   entry_filter keep (e ∷ es) unique = let apart = unique.0 in grind (arith, entry_filter keep es unique.1, none_apart e.0 es)
 
--- what a pair's value is once the pair is chosen
-pub value_if : {K V : Type 0} (b : Bool) (e : K × V) (o : Option (K × V)) → option_map (λ e. e.1) (if b then Some e else o) ≡ (if b then Some e.1 else option_map (λ e. e.1) o)
-value_if true e o = refl
-value_if false e o = refl
-
-pub value_unless : {K V : Type 0} (b : Bool) (o : Option (K × V)) → option_map (λ e. e.1) (if b then None else o) ≡ (if b then None else option_map (λ e. e.1) o)
-value_unless true o = refl
-value_unless false o = refl
-
-pub some_if : {X : Type 0} (b : Bool) (x : X) (o : Option X) → is_some (if b then Some x else o) ≡ (b || is_some o)
-some_if true x o = refl
-some_if false x o = refl
-
-pub some_unless : {X : Type 0} (b : Bool) (o : Option X) → is_some (if b then None else o) ≡ (not b && is_some o)
-some_unless true o = refl
-some_unless false o = refl
-
-pub or_none : {X : Type 0} (o : Option X) → option_or o None ≡ o
-or_none None = refl
-or_none (Some x) = refl
-
 pub lookup-append : {K V : Type 0} (test : K → Bool) (first second : List (K × V)) → lookup test (first ++ second) ≡ option_or (lookup test first) (lookup test second)
 lookup-append test [] second = refl
 lookup-append test (e ∷ es) second = grind (arith, lookup-append test es second)
+
+-- of pairs with unequal keys the last that passes is the first
+pub lookup-reverse : {K V : Type 0} (eq : K → K → Bool) (test : K → Bool) → IsProbe eq test → (pairs : List (K × V)) → IsUnique eq pairs → lookup test (reverse pairs) ≡ lookup test pairs
+unfolding IsDistinct
+lookup-reverse eq test p [] unique = refl
+lookup-reverse eq test p (e ∷ es) unique =
+    let apart = unique.0 in
+    grind (arith, lookup-reverse eq test p es unique.1, reverse-append (e ∷ []) es, lookup-append test (reverse es) (e ∷ []), none_apart eq test p e.0 es, lookup-entry test es)
+
+pub some_if : {X : Type 0} (b : Bool) (x : X) (o : Option X) → is_some (if b then Some x else o) ≡ (b || is_some o)
+some_if b x o = grind arith
+
+pub some_unless : {X : Type 0} (b : Bool) (o : Option X) → is_some (if b then None else o) ≡ (not b && is_some o)
+some_unless b o = grind arith
+
+pub or_none : {X : Type 0} (o : Option X) → option_or o None ≡ o
+or_none o = grind arith
 
 -- the key of a pair that a put adds
 pub entry_new : {K V : Type 0} (eq : K → K → Bool) (k : K) (pairs : List (K × V)) → has eq pairs k ≡ false → option_map_or (λ e. e.0) (pair eq pairs k) k ≡ k
@@ -98,14 +92,6 @@ length-remove_entry test (e ∷ es) = grind (arith, length-remove_entry test es)
 pub length-set_key : {K V : Type 0} (test : K → Bool) (pairs : List (K × V)) (k : K) → length (set_key test pairs k) ≡ length pairs
 length-set_key test [] k = refl
 length-set_key test (e ∷ es) k = grind (arith, length-set_key test es k)
-
--- a key is missing, or it stands at an index
-pub by_index : {K V : Type 0} (eq : K → K → Bool) (pairs : List (K × V)) (k : K) (P : Type 0) → (index_of eq pairs k ≡ None → NotFound (eq k) pairs → P) → ((i : ℕ) → FoundAt (eq k) pairs i → P) → P
-by_index eq pairs k P missing stored = by (index_of eq pairs k) refl
-  where
-    by : (o : Option ℕ) → index_of eq pairs k ≡ o → P
-    by None none = missing none (not_found (eq k) pairs none)
-    by (Some i) found = stored i (found_at (eq k) pairs i found)
 
 set_twice : {K V : Type 0} (test : K → Bool) (pairs : List (K × V)) (v w : V) → set_value test (set_value test pairs v) w ≡ set_value test pairs w
 set_twice test [] v w = refl
@@ -131,15 +117,7 @@ pub lookup-set : {K V : Type 0} (test : K → Bool) (pairs : List (K × V)) (v :
 lookup-set test [] v = refl
 lookup-set test (e ∷ es) v = grind (arith, lookup-set test es v)
 
-pub is_some-key : {K V : Type 0} (test : K → Bool) (pairs : List (K × V)) → is_some (lookup_key test pairs) ≡ is_some (lookup test pairs)
-is_some-key test [] = refl
-is_some-key test (e ∷ es) = grind (arith, is_some-key test es)
-
 -- a value written where one was put
 pub set_put : {K V : Type 0} (eq : K → K → Bool) (k : K) (v w : V) → eq k k ≡ true → (pairs : List (K × V)) → set_value (eq k) (put eq pairs k v) w ≡ put eq pairs k w
 unfolding put
-set_put eq k v w same pairs = by (has eq pairs k) refl
-  where
-    by : (b : Bool) → has eq pairs k ≡ b → set_value (eq k) (if b then set_value (eq k) pairs v else pairs ++ (k, v) ∷ []) w ≡ (if b then set_value (eq k) pairs w else pairs ++ (k, w) ∷ [])
-    by true stored = set_twice (eq k) pairs v w
-    by false missing = set_last (eq k) pairs k v w same missing
+set_put eq k v w same pairs = grind (arith, set_twice (eq k) pairs v w, set_last (eq k) pairs k v w same)

@@ -3,15 +3,18 @@
 use Rattle.std.proofs.Common.{◌≡◌, ℕ, ◌+◌, ◌<◌, ◌≤◌, Bool, List, [], length, take, slice_index_or, Option, Some, Result, Ok, Err, IfErr, sym, ap, subst, ◌∙◌, arith}
 use Rattle.std.specs.Option.{option_map}
 use Rattle.std.specs.Iterator.Runs.{EveryRun, ItemsAre, Run, SomeRun}
+use Rattle.std.proofs.lemmas.Bool.{leb-false, not-true}
 use Rattle.std.proofs.lemmas.Grind.{common_steps}
-use Rattle.std.proofs.lemmas.List.{same_lists}
+use Rattle.std.proofs.lemmas.List.{same_lists, take-map}
 use Rattle.std.specs.Map.{keys_of}
 use Rattle.std.specs.Set.{distinct_count}
-use Rattle.std.proofs.lemmas.List.{take-map}
-use Rattle.micromap_core.specs.Build.{pair_fits, put_pair, MisfitIn, StopsAt}
+use Rattle.micromap_core.specs.Build.{pair_fits, put_pair, MisfitIn, StopsAt, put_all}
 use Rattle.micromap_core.specs.Equalities.{Lawful}
-use Rattle.micromap_core.proofs.CountLaws.{distinct_prefix}
-use Rattle.micromap_core.proofs.CountLemmas.{many_prefix, pairs_keyed}
+use Rattle.micromap_core.proofs.CountLaws.{distinct_prefix, put_all_grows}
+use Rattle.micromap_core.proofs.BuildLemmas.{many_prefix, pairs_keyed, each_fits-count}
+use Rattle.std.proofs.lemmas.List.{take-map}
+use Rattle.std.proofs.lemmas.Map.Entries.{length-keys_of}
+use Rattle.micromap_core.specs.Pairs.{IsContent}
 use Rattle.micromap_core.proofs.Equalities.{of_lawful}
 
 -- what a run took of a list that it reads from the front
@@ -48,3 +51,17 @@ module _ {K V : Type 0} (eq : K → K → Bool) (N : ℕ) where
   pub many_in : {S E Y : Type 0} {steps : S → Option (K × V) → S → Type 0} (rest : S → List (K × V)) {s : S} {xs : List (K × V)} (at : E → ℕ) (r : Result Y E) → Lawful eq → EveryRun steps (λ q. ItemsAre q (rest q.from)) → rest s ≡ xs → IfErr r (λ e. SomeRun steps s (λ p. (p.len ≡ at e + 1) × MisfitIn eq N p.items (at e))) → IfErr r (λ e. N < distinct_count eq (keys_of xs))
   many_in rest at (Ok y) laws reads left stops = tt
   many_in rest {xs = xs} at (Err e) laws reads left stops = misfit_many xs (at e) laws (stops_in (pair_fits eq N) (put_pair eq) [] rest (at e) stops.0 stops.1 reads left stops.2.0 stops.2.1)
+
+-- where an iterator's items are known, and one of them is refused: what would be put is more than there is room for. The
+-- facts are those of `misfit_in`, and the content of the map that they are put into
+module _ {K V : Type 0} {eq : K → K → Bool} {N : ℕ} {pairs : List (K × V)} (content : IsContent eq N pairs) where
+  stopped_many : (items : List (K × V)) (at : ℕ) → StopsAt (pair_fits eq N) (put_pair eq) pairs items at → N < length (put_all eq pairs items)
+  stopped_many items at stops =
+      let first = take (at + 1) items in
+      let fit = each_fits-count (of_lawful eq content.lawful) (pairs_keyed eq N) pairs first content.unique (omega (arith, length-keys_of pairs, content.bounded)) in
+      let many = leb-false _ N (sym fit ∙ not-true _ stops.1) in
+      omega (arith, many, length-keys_of (put_all eq pairs first), put_all_grows eq pairs items (at + 1) content.lawful content.unique)
+
+  pub refused_is_many : {S E Y : Type 0} {steps : S → Option (K × V) → S → Type 0} (rest : S → List (K × V)) {s : S} {xs : List (K × V)} (at : E → ℕ) (r : Result Y E) → EveryRun steps (λ q. ItemsAre q (rest q.from)) → rest s ≡ xs → IfErr r (λ e. SomeRun steps s (λ p. (p.len ≡ at e + 1) × StopsAt (pair_fits eq N) (put_pair eq) pairs p.items (at e))) → IfErr r (λ e. N < length (put_all eq pairs xs))
+  refused_is_many rest at (Ok y) reads left stops = tt
+  refused_is_many rest {xs = xs} at (Err e) reads left stops = stopped_many xs (at e) (stops_in (pair_fits eq N) (put_pair eq) pairs rest (at e) stops.0 stops.1 reads left stops.2.0 stops.2.1)

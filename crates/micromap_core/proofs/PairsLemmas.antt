@@ -4,7 +4,7 @@ use Rattle.std.proofs.Common.{◌≡◌, ℕ, ◌<◌, Bool, true, false, List, 
 use Rattle.std.specs.List.{IsDistinct, remove}
 use Rattle.std.specs.Cmp.{IsEquivalence}
 use Rattle.std.specs.Option.{option_map, option_map_or}
-use Rattle.std.specs.Map.{keys_of, lookup, lookup_entry, lookup_key, set_value}
+use Rattle.std.specs.Map.{keys_of, lookup, lookup_entry, set_value}
 use Rattle.std.proofs.lemmas.List.{map_push, length-map, map-set, get_or-map, set-get_or, length-set, get_or-set_same, get_or-set_other, get_or_default}
 use Rattle.std.proofs.lemmas.Bool.{cases_eq}
 use Rattle.std.proofs.lemmas.List.Sorted.{IsPermutation-map, IsPermutation-remove}
@@ -12,18 +12,13 @@ use Rattle.std.proofs.lemmas.Map.{keys-set_value}
 use Rattle.std.proofs.lemmas.Map.Keys.{IsDistinct-push, IsDistinct-tail, IsDistinct-IsPermutation, IsDistinct-from_apart, apart_from_distinct}
 use Rattle.std.proofs.lemmas.Option.{get_or_from_slice_get, slice_get_within}
 use Rattle.micromap_core.specs.Found.{FoundAt, NotFound}
-use Rattle.micromap_core.specs.Pairs.{has, index_of, has_room, fits, put, put_key, IsUnique, with_value_at}
-use Rattle.micromap_core.proofs.FoundLemmas.{not_found}
+use Rattle.micromap_core.specs.Pairs.{has, has_room, fits, put, put_key, IsUnique, with_value_at}
 
 module _ {K V : Type 0} (test : K → Bool) where
-  -- the value and the key of the first pair whose key passes
+  -- the value of the first pair whose key passes
   pub lookup-entry : (pairs : List (K × V)) → lookup test pairs ≡ option_map (λ e. e.1) (lookup_entry test pairs)
   lookup-entry [] = refl
   lookup-entry (e ∷ es) = grind (arith, lookup-entry es)
-
-  pub lookup_key-entry : (pairs : List (K × V)) → lookup_key test pairs ≡ option_map (λ e. e.0) (lookup_entry test pairs)
-  lookup_key-entry [] = refl
-  lookup_key-entry (e ∷ es) = grind (arith, lookup_key-entry es)
 
   -- a write at the index at which a key passes
   pub written_at : (pairs : List (K × V)) (i : ℕ) → FoundAt test pairs i → (v : V) → with_value_at pairs i v ≡ set_value test pairs v
@@ -57,16 +52,6 @@ module _ {K V : Type 0} (eq : K → K → Bool) (k : K) (pairs : List (K × V)) 
     pub push-put_key : (v : V) → pairs ++ (k, v) ∷ [] ≡ put_key eq pairs k v
     unfolding put_key
     push-put_key v = rw n.value refl
-
-  -- a put at a stored key writes its value
-  pub put_stored : has eq pairs k ≡ true → (v : V) → put eq pairs k v ≡ set_value (eq k) pairs v
-  unfolding put
-  put_stored stored v = rw stored refl
-
-  -- and one of a new key appends the pair
-  pub put_new : has eq pairs k ≡ false → (v : V) → put eq pairs k v ≡ pairs ++ (k, v) ∷ []
-  unfolding put
-  put_new missing v = rw missing refl
 
 -- another value at the index of a pair leaves the keys
 pub keys_of-set : {K V : Type 0} (pairs : List (K × V)) (i : ℕ) (p : K × V) (v : V) → slice_get pairs i ≡ Some p → keys_of (set pairs i (p.0, v)) ≡ keys_of pairs
@@ -115,9 +100,8 @@ module _ {K V : Type 0} (eq : K → K → Bool) (laws : IsEquivalence eq) (pairs
       subst (IsDistinct eq) (sym (map-set key pairs i (k, v))) (IsDistinct-set_equal eq laws (keys_of pairs) i k p.0 unique (rw (length-map pairs key) within) read same)
 
   -- a pair whose key is new
-  pub IsUnique-push : (k : K) (v : V) → index_of eq pairs k ≡ None → IsUnique eq (pairs ++ (k, v) ∷ [])
-  IsUnique-push k v missing =
-      rw (map_push (λ (e : K × V). e.0) pairs (k, v)) (IsDistinct-push laws (keys_of pairs) k unique (not_found (eq k) pairs missing).none)
+  pub IsUnique-push : (k : K) (v : V) → NotFound (eq k) pairs → IsUnique eq (pairs ++ (k, v) ∷ [])
+  IsUnique-push k v missing = rw (map_push (λ (e : K × V). e.0) pairs (k, v)) (IsDistinct-push laws (keys_of pairs) k unique missing.none)
 
   -- without the pair at an index
   pub IsUnique-remove : (i : ℕ) (p : K × V) → slice_get pairs i ≡ Some p → IsUnique eq (remove pairs i)

@@ -1,5 +1,7 @@
--- Sameness of lists whose keys are pairwise unequal is that every key finds equal values in both, or none in either.
-use Rattle.std.proofs.Common.{◌≡◌, Bool, true, false, ◌&&◌, ◌||◌, List, [], ◌∷◌, Option, Some, None, is_some, not, cond, get_or, refl, ap, sym, subst, ◌∙◌, ◌↔◌, IfSome, IsNone, IsFalse, slice_get, arith}
+-- Sameness of lists whose keys are pairwise unequal is that every key finds equal values in both, or none in either. So
+-- equally long lists are the same where the one has an equal value at each key of the other: by a count of the keys,
+-- nothing is left to test on the other side.
+use Rattle.std.proofs.Common.{◌≡◌, Bool, true, false, List, [], ◌∷◌, Option, Some, None, is_some, not, cond, get_or, refl, ap, sym, subst, ◌∙◌, ◌↔◌, IfSome, IsNone, IsFalse, slice_get, arith, ◌≢◌, ◌≤◌, ◌&&◌, filter, nat_eq, ℕ, IsTrue, length}
 use Rattle.std.specs.Cmp.{IsEquivalence, first_so, second_so}
 use Rattle.std.specs.Cmp.Derive.{both_true}
 use Rattle.std.specs.List.{All, IsDistinct, find, list_all, list_any, position_or_len}
@@ -12,7 +14,7 @@ use Rattle.std.proofs.lemmas.Bool.{false≢true, not-true}
 use Rattle.std.proofs.lemmas.Map.{lookup-none}
 use Rattle.std.proofs.lemmas.Map.Entries.{lookup_from_place, none_past_head}
 use Rattle.std.proofs.lemmas.List.Folds.{find_at, list_all-map}
-use Rattle.std.proofs.lemmas.List.Sums.{list_all-from_AllPass, passes_at_first}
+use Rattle.std.proofs.lemmas.List.Sums.{list_all-from_AllPass, passes_at_first, AllPass-from_list_all}
 use Rattle.std.proofs.lemmas.Map.Made.{All-is_member, is_some-lookup}
 use Rattle.std.proofs.lemmas.Option.{get_or_from_slice_get, slice_get-get_or, slice_get_within}
 use Rattle.std.specs.Cmp.Lexicographic.{options_equiv}
@@ -21,6 +23,9 @@ use Rattle.micromap_core.specs.Same.{pair_eq, is_same, Same, DiffersAt, has_valu
 use Rattle.micromap_core.proofs.Lists.{is_some-option_map}
 use Rattle.micromap_core.proofs.Equalities.{lawful}
 use Rattle.micromap_core.proofs.MapLaws.{at_alike}
+use Rattle.std.proofs.lemmas.Bool.Decides.{nat_tests}
+use Rattle.std.proofs.lemmas.List.{length-map}
+use Rattle.micromap_core.proofs.DistinctLemmas.{length-le_from_members, members_turned}
 
 -- at the first pair of a list: what the other list has at its key is found
 module _ {K V : Type 0} (eq : K → K → Bool) (same : V → V → Bool) (k : K) (v : Bor V) (rest other : List (K × V)) where
@@ -52,13 +57,7 @@ module _ {K V : Type 0} (eq : K → K → Bool) (same : V → V → Bool) (keys 
   any_by_at : (pairs : List (K × V)) (p : K × V) → IsUnique eq pairs → list_any (pair_eq eq same p) pairs ≡ option_eq same (Some p.1) (at eq pairs p.0)
   unfolding IsDistinct
   any_by_at [] p unique = refl
-  any_by_at (e ∷ es) p unique = by (eq p.0 e.0) refl (any_by_at es p unique.1)
-    where
-      by : (b : Bool) → eq p.0 e.0 ≡ b → list_any (pair_eq eq same p) es ≡ option_eq same (Some p.1) (at eq es p.0) → ((b && same p.1 e.1) || list_any (pair_eq eq same p) es) ≡ option_eq same (Some p.1) (cond b (Some e.1) (at eq es p.0))
-      by true here rest =
-          let none : at eq es p.0 ≡ None = lookup-none (eq p.0) es (none_past_head keys p.0 e es unique here) in
-          ap (λ b. same p.1 e.1 || b) (rest ∙ ap (option_eq same (Some p.1)) none) ∙ or-false (same p.1 e.1)
-      by false other rest = rest
+  any_by_at (e ∷ es) p unique = grind (arith, any_by_at es p unique.1, lookup-none (eq p.0) es, none_past_head keys p.0 e es unique, or-false (same p.1 e.1))
 
   -- a test that all pairs pass, at the pair of a key
   test_at : (test : K × V → Bool) (pairs : List (K × V)) (k : K) (v : V) → list_all test pairs ≡ true → at eq pairs k ≡ Some v → (l : K) × (eq k l ≡ true) × (test (l, v) ≡ true)
@@ -153,6 +152,27 @@ module _ {K V : Type 0} (eq : K → K → Bool) (same : V → V → Bool) (keys 
       by k None (Some w) one two = absurd (false≢true (sym (ap is_some one) ∙ stored k w two))
       by k (Some v) r one two = (options_equiv values).symm (Some v) r ∙ ap (λ o. option_eq same o (Some v)) (sym two) ∙ equal k v one
 
+  -- what the second lacks, or has with an unequal value, is nothing where each pair has an equal one there
+  pub filters_empty : (pairs : List (K × V)) → list_all (λ p. list_any (pair_eq eq same p) second) pairs ≡ true → (filter (λ p. not (has eq second p.0)) pairs ≡ []) × (filter (λ p. has eq second p.0 && not (has_value eq same second p)) pairs ≡ [])
+  filters_empty [] all = (refl, refl)
+  filters_empty (e ∷ es) all =
+      let rest = filters_empty es (second_so _ _ all) in
+      let found = sym (any_by_at eq same keys values second e unique_second) ∙ first_so _ _ all in
+      let turned = (options_equiv values).symm (Some e.1) (at eq second e.0) in
+      (grind (arith, rest.0, found), grind (arith, rest.1, found, turned))
+
+  equal_from_filters : (pairs : List (K × V)) → filter (λ p. not (has eq second p.0)) pairs ≡ [] → filter (λ p. has eq second p.0 && not (has_value eq same second p)) pairs ≡ [] → list_all (has_value eq same second) pairs ≡ true
+  equal_from_filters [] missing unequal = refl
+  equal_from_filters (e ∷ es) missing unequal = grind (arith, equal_from_filters es, missing, unequal)
+
+  stored_from_filter : (pairs : List (K × V)) → filter (λ p. not (has eq first p.0)) pairs ≡ [] → list_all (has eq first) (keys_of pairs) ≡ true
+  stored_from_filter [] missing = refl
+  stored_from_filter (e ∷ es) missing = grind (arith, stored_from_filter es, missing)
+
+  pub same_from_filters : filter (λ p. not (has eq second p.0)) first ≡ [] → filter (λ p. not (has eq first p.0)) second ≡ [] → filter (λ p. has eq second p.0 && not (has_value eq same second p)) first ≡ [] → Same eq same first second
+  same_from_filters only_first only_second unequal =
+      same_from_alike eq same keys values first second unique_first unique_second (alike_within (equal_from_filters first only_first unequal) (stored_from_filter second only_second))
+
   -- the first difference is a key at which the two differ, and where there is none they are alike
   difference : MatchOption (first_difference eq same first second) (FindAlike eq same keys values first second) (DiffersAt eq same first second)
   difference = by (find (λ p. not (has_value eq same second p)) first) refl (first_missing eq same second first) refl
@@ -162,30 +182,16 @@ module _ {K V : Type 0} (eq : K → K → Bool) (same : V → V → Bool) (keys 
       by None unequal (Some k) missing = differs_missing k missing
       by None unequal None missing = alike_within (find_none (has_value eq same second) first unequal) (find_none (has eq first) (keys_of second) missing)
 
-  alike_from_none : (d : Option K) → MatchOption d (FindAlike eq same keys values first second) (DiffersAt eq same first second) → is_some d ≡ false → FindAlike eq same keys values first second
-  alike_from_none None alike none = alike
-  alike_from_none (Some k) differs none = absurd (false≢true (sym none))
-
-  none_from_alike : (d : Option K) → MatchOption d (FindAlike eq same keys values first second) (DiffersAt eq same first second) → FindAlike eq same keys values first second → is_some d ≡ false
-  none_from_alike None match alike = refl
-  none_from_alike (Some k) differs alike = absurd (false≢true (sym differs ∙ alike.each k))
-
   -- an answer that is the first difference is none exactly where the two are the same, and else they differ there
-  module _ (answer : Option (Bor K)) (is : option_copied answer ≡ first_difference eq same first second) where
-    pub none_answered : IsNone answer ↔ Same eq same first second
-    none_answered = (
-      λ none. same_from_alike eq same keys values first second unique_first unique_second (alike_from_none (first_difference eq same first second) difference (ap is_some (sym is) ∙ is_some-option_map (λ k. k.now) answer ∙ none)),
-      λ are.
-          sym (is_some-option_map (λ k. k.now) answer) ∙ ap is_some is
-          ∙ none_from_alike (first_difference eq same first second) difference (alike_from_same eq same keys values first second unique_first unique_second are),
-    )
-
-    pub difference_answered : IfSome answer (λ k. DiffersAt eq same first second k.now)
-    difference_answered = by answer (subst (λ d. MatchOption d (FindAlike eq same keys values first second) (DiffersAt eq same first second)) (sym is) difference)
-      where
-        by : (answer : Option (Bor K)) → MatchOption (option_copied answer) (FindAlike eq same keys values first second) (DiffersAt eq same first second) → IfSome answer (λ k. DiffersAt eq same first second k.now)
-        by None alike = tt
-        by (Some k) differs = differs
+  pub answered_difference : (answer : Option (Bor K)) → option_copied answer ≡ first_difference eq same first second → (IsNone answer ↔ Same eq same first second) × IfSome answer (λ k. DiffersAt eq same first second k.now)
+  answered_difference answer is = by answer (subst (λ d. MatchOption d (FindAlike eq same keys values first second) (DiffersAt eq same first second)) (sym is) difference)
+    where
+      by : (answer : Option (Bor K)) → MatchOption (option_copied answer) (FindAlike eq same keys values first second) (DiffersAt eq same first second) → (IsNone answer ↔ Same eq same first second) × IfSome answer (λ k. DiffersAt eq same first second k.now)
+      by None alike = ((λ none. same_from_alike eq same keys values first second unique_first unique_second alike, λ are. refl), tt)
+      by (Some k) differs = (
+        (λ none. absurd (false≢true (sym none)), λ are. absurd (false≢true (sym differs ∙ (alike_from_same eq same keys values first second unique_first unique_second are).each k.now))),
+        differs,
+      )
 
   -- two lists that aren't the same differ at some key
   pub differs_where_unlike : IsFalse (is_same eq same first second) → (k : K) × DiffersAt eq same first second k
@@ -194,3 +200,71 @@ module _ {K V : Type 0} (eq : K → K → Bool) (same : V → V → Bool) (keys 
       by : (d : Option K) → MatchOption d (FindAlike eq same keys values first second) (DiffersAt eq same first second) → (k : K) × DiffersAt eq same first second k
       by None alike = absurd (false≢true (sym unlike ∙ same_from_alike eq same keys values first second unique_first unique_second alike))
       by (Some k) differs = (k, differs)
+
+-- where each key of the one has an equal value in the other
+module _ {K V : Type 0} (eq : K → K → Bool) (same : V → V → Bool) (keys : IsEquivalence eq) (values : IsEquivalence same) where
+  stored : (o : Option V) (v : V) → option_eq same o (Some v) ≡ true → is_some o ≡ true
+  stored None v equal = equal
+  stored (Some w) v equal = refl
+
+  -- a list that has an equal value at each key has each key
+  keys_within : (first second : List (K × V)) → list_all (has_value eq same second) first ≡ true → list_all (is_member eq (keys_of second)) (keys_of first) ≡ true
+  keys_within first second all =
+      list_all-map (is_member eq (keys_of second)) (λ (p : K × V). p.0) first
+      ∙ list_all-from_AllPass (λ (p : K × V). is_member eq (keys_of second) p.0) first (λ i d within.
+      let p = get_or first i d in
+      sym (is_some-lookup (eq p.0) second) ∙ stored (at eq second p.0) p.1 (AllPass-from_list_all (has_value eq same second) first all i d within))
+
+  values_within : (first second : List (K × V)) → IsUnique eq first → FindAlike eq same keys values first second → list_all (has_value eq same second) first ≡ true
+  values_within first second unique alike =
+      list_all-from_AllPass (has_value eq same second) first (λ i d within.
+      let p = get_or first i d in
+      (options_equiv values).symm (at eq second p.0) (Some p.1)
+      ∙ ap (λ o. option_eq same o (at eq second p.0)) (sym (own_at eq same keys values first unique i d within)) ∙ alike.each p.0)
+
+  keys-le : (first second : List (K × V)) → IsUnique eq first → list_all (has_value eq same second) first ≡ true → length first ≤ length second
+  keys-le first second unique all =
+      let many = length-le_from_members keys (keys_of first) (keys_of second) unique (keys_within first second all) in
+      omega (arith, many, length-map first (λ (p : K × V). p.0), length-map second (λ (p : K × V). p.0))
+
+  module _ (first second : List (K × V)) (unique_first : IsUnique eq first) (unique_second : IsUnique eq second) where
+    pub same_from_long : length first ≡ length second → list_all (has_value eq same second) first ≡ true → Same eq same first second
+    same_from_long long all =
+        let few : length (keys_of second) ≤ length (keys_of first) = omega (arith, long, length-map first (λ (p : K × V). p.0), length-map second (λ (p : K × V). p.0)) in
+        let back = members_turned keys (keys_of first) (keys_of second) unique_first (keys_within first second all) few in
+        let there : list_all (has eq first) (keys_of second) ≡ true = list_all-from_AllPass (has eq first) (keys_of second) (λ i d within.
+        is_some-lookup (eq (get_or (keys_of second) i d)) first ∙ AllPass-from_list_all (is_member eq (keys_of first)) (keys_of second) back i d within) in
+        same_from_alike eq same keys values first second unique_first unique_second (alike_within eq same keys values first second unique_first unique_second all there)
+
+    all_from_same : Same eq same first second → list_all (has_value eq same second) first ≡ true
+    all_from_same are = values_within first second unique_first (alike_from_same eq same keys values first second unique_first unique_second are)
+
+    pub long_from_same : Same eq same first second → length first ≡ length second
+    long_from_same are =
+        let alike = alike_from_same eq same keys values first second unique_first unique_second are in
+        let back = values_within second first unique_second (FindAlike-symm eq same keys values first second alike) in
+        omega (arith, keys-le first second unique_first (all_from_same are), keys-le second first unique_second back)
+
+    -- what is answered where the lengths are equal, and where they aren't
+    module _ (m n : ℕ) (one : m ≡ length first) (two : n ≡ length second) where
+      pub answered_long : m ≡ n → (answer : Bool) → answer ≡ list_all (has_value eq same second) first → IsTrue answer ↔ Same eq same first second
+      answered_long long answer is = (λ holds. same_from_long (sym one ∙ long ∙ two) (sym is ∙ holds), λ are. is ∙ all_from_same are)
+
+      pub answered_short : m ≢ n → IsTrue (nat_eq m n) ↔ Same eq same first second
+      answered_short apart = (λ holds. absurd (apart (grind (arith, nat_tests))), λ are. absurd (apart (one ∙ long_from_same are ∙ sym two)))
+
+-- where no item fails the test, each passes
+find_none-all : {X : Type 0} (test : X → Bool) (xs : List X) → not (is_some (find (λ x. not (test x)) xs)) ≡ list_all test xs
+find_none-all test [] = refl
+find_none-all test (x ∷ xs) = grind (arith, find_none-all test xs)
+
+-- where no first unequal key is found, there is an equal value at each
+pub none_unequal : {K V : Type 0} (eq : K → K → Bool) (same : V → V → Bool) (first second : List (K × V)) (found : Option (Bor K)) → option_copied found ≡ first_unequal eq same first second → (answer : Bool) → is_some found ≡ not answer → answer ≡ list_all (has_value eq same second) first
+none_unequal eq same first second found is answer none =
+    not-not answer
+    ∙ ap not (sym none ∙ sym (is_some-option_map (λ k. k.now) found) ∙ ap is_some is ∙ is_some-option_map (λ p. p.0) (find (λ p. not (has_value eq same second p)) first))
+    ∙ find_none-all (has_value eq same second) first
+  where
+    not-not : (b : Bool) → b ≡ not (not b)
+    not-not true = refl
+    not-not false = refl

@@ -1,7 +1,9 @@
--- Room for the steps of a comparison.
-use Rattle.std.proofs.Common.{◌≡◌, ◌≢◌, ℕ, ◌+◌, ◌*◌, Bool, true, false, ◌&&◌, if◌then◌else◌, List, [], ◌∷◌, length, ap, sym, ◌∙◌, arith, eq-eqb}
+-- Room for the steps of a look-up and of a comparison.
+use Rattle.std.proofs.Common.{◌≡◌, ◌≢◌, ℕ, ◌+◌, ◌*◌, ◌≤◌, Bool, true, false, ◌&&◌, if◌then◌else◌, List, [], ◌∷◌, length, ap, sym, ◌∙◌, arith, eq-eqb}
 use Rattle.std.proofs.lemmas.Bool.{ne_eqb}
 use Rattle.std.specs.List.{list_all}
+use Rattle.std.proofs.lemmas.Bool.Decides.{nat_tests}
+use Rattle.std.proofs.lemmas.Map.Entries.{length-keys_of}
 use Rattle.micromap_core.specs.Same.{has_value}
 use Rattle.micromap_core.specs.Steps.{look_up_steps, walk_steps, comparison_steps}
 
@@ -13,6 +15,16 @@ most_steps (x ∷ left) n = n + most_steps left n
 pub most_steps-product : {X : Type 0} (left : List X) (n : ℕ) → most_steps left n ≡ length left * n
 most_steps-product [] n = omega arith
 most_steps-product (x ∷ left) n = omega (arith, most_steps-product left n)
+
+-- a look-up takes at most as many steps as there are pairs, and so does each of a walk
+module _ {K V : Type 0} (eq : K → K → Bool) where
+  pub look_up_steps-bound : (pairs : List (K × V)) (k : K) → look_up_steps eq pairs k ≤ length pairs
+  look_up_steps-bound pairs k = let long = length-keys_of pairs in grind (arith, nat_tests)
+
+  pub walk_steps-bound : (same : V → V → Bool) (other left : List (K × V)) → walk_steps eq same other left ≤ most_steps left (length other)
+  walk_steps-bound same other [] = omega arith
+  walk_steps-bound same other (p ∷ left) =
+      let here = look_up_steps-bound other p.0 in let rest = walk_steps-bound same other left in grind arith
 
 -- a comparison takes the steps of a walk where the lengths are equal, and else none
 module _ {K V : Type 0} (eq : K → K → Bool) (same : V → V → Bool) (first second : List (K × V)) (m n : ℕ) (one : m ≡ length first) (two : n ≡ length second) where

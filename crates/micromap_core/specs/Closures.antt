@@ -3,7 +3,7 @@
 use Rattle.std.specs.Prelude.{◌≡◌, ℕ, Bool, List, [], ◌∷◌, ◌++◌, Some, MatchOption, slice_get, slice_set}
 use Rattle.std.specs.Borrow.{Bor, MutBor}
 use Rattle.std.specs.Fn.{Mut, Called, Takes}
-use Rattle.std.specs.List.{FoldsTo, enumerate_from, fold}
+use Rattle.std.specs.List.{FoldsTo, enumerate_from, fold, items_where_true}
 use Rattle.std.specs.Option.{ForSome, option_map_or}
 use Rattle.micromap_core.specs.Pairs.{at, put}
 
@@ -27,6 +27,10 @@ pub record VisitsAt {F K V R : Type 0} (T : F → K → V → R → V → F → 
   pub value : V
   pub called : T f pair.0 pair.1 r value f'
   pub pairs : new ≡ slice_set old index (pair.0, value)
+
+-- part has some of the elements of whole, in the order that they have there
+abbrev pub IsSublist : {X : Type 0} → List X → List X → Type 0
+IsSublist part whole = (picks : List Bool) × (part ≡ items_where_true picks whole)
 
 -- Q holds of each item in turn, and of what R has taken p to by then
 pub record AtEachTurn {P A : Type 0} (R : P → A → P → Type 0) (p : P) (xs : List A) (Q : P → A → Type 0) : Type 0 where

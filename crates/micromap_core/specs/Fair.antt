@@ -6,15 +6,15 @@ use Rattle.micromap_core.specs.Pairs.{has, has_room}
 use Rattle.micromap_core.specs.Same.{Same}
 
 -- the key that a call inserts
-abbrev pub inserted : {K V : Type 0} → Call K V → Option K
-inserted (insert k v) = Some k
-inserted (insert_key_value k v) = Some k
-inserted call = None
+abbrev pub inserted_key : {K V : Type 0} → Call K V → Option K
+inserted_key (insert k v) = Some k
+inserted_key (insert_key_value k v) = Some k
+inserted_key call = None
 
 module _ {K V : Type 0} (eq : K → K → Bool) (N M : ℕ) where
   -- where the call inserts a key that neither list has, both have room or neither has
   abbrev pub IsFairCall : List (K × V) → List (K × V) → Call K V → Type 0
-  IsFairCall first second call = IfSome (inserted call) (λ k. IsFalse (has eq first k) → IsFalse (has eq second k) → has_room N first ≡ has_room M second)
+  IsFairCall first second call = IfSome (inserted_key call) (λ k. IsFalse (has eq first k) → IsFalse (has eq second k) → has_room N first ≡ has_room M second)
 
   -- each call is fair to the two lists at its moment
   abbrev pub IsFair : List (K × V) → List (K × V) → List (Call K V) → Type 0

@@ -2,7 +2,7 @@
 use Rattle.std.specs.Prelude.{ℕ, Bool, List, Option}
 use Rattle.std.specs.Borrow.{Lends, LendsIf, Fml, RattleType, MutBor}
 use Rattle.micromap_core.specs.Pairs.{put, with_value_at}
-use Rattle.micromap_core.specs.Probe.{put_matched}
+use Rattle.std.specs.Map.{set_value}
 use Rattle.micromap_core.specs.contracts.map.Map.{the_row}
 
 module _ (K V N : RattleType) (eq : K.Denot → K.Denot → Bool) (map : MutBor (List (K.Denot × V.Denot))) where
@@ -20,8 +20,8 @@ module _ (K V N : RattleType) (eq : K.Denot → K.Denot → Bool) (map : MutBor 
 
   -- once the borrow r ends, the map has the last value written through r at the key that matches
   abbrev pub lends_matched : (K.Denot → Bool) → MutBor V.Denot → Fml
-  lends_matched test r = Lends (the_row K V N (record { eq = eq })) V map r (put_matched eq test map.now)
+  lends_matched test r = Lends (the_row K V N (record { eq = eq })) V map r (set_value test map.now)
 
   -- the same where r is a reference, and at `None` the map stays as it is
   abbrev pub lends_matched_if : (K.Denot → Bool) → Option (MutBor V.Denot) → Fml
-  lends_matched_if test r = LendsIf (the_row K V N (record { eq = eq })) V map r (put_matched eq test map.now) map.now
+  lends_matched_if test r = LendsIf (the_row K V N (record { eq = eq })) V map r (set_value test map.now) map.now

@@ -1,9 +1,11 @@
 -- Streams of entries: what a call makes of the number of faults and the last one, and of the entries taken or left.
-use Rattle.std.specs.Prelude.{◌≡◌, ℕ, suc, ◌-◌, ◌^◌, ◌<◌, ◌≤◌, Bool, not, List, [], ◌∷◌, ◌++◌, Option, Some, IsTrue}
-use Rattle.std.specs.List.{fold}
+use Rattle.std.specs.Prelude.{◌≡◌, ℕ, suc, ◌-◌, ◌^◌, ◌<◌, ◌≤◌, Bool, not, List, [], ◌∷◌, ◌++◌, Option, Some, Result, Ok, Err, IsTrue}
 use Rattle.std.specs.Map.{keys_of}
 use Rattle.std.specs.Set.{distinct_count}
-use Rattle.micromap_core.specs.Build.{each_fits, pair_fits, put_pair}
+use Rattle.micromap_core.specs.Build.{all_fit, build}
+use Rattle.micromap_core.specs.Pairs.{fits, IsContent}
+use Rattle.micromap_core.specs.declared.stream.ReadFault.{ReadFault}
+use Rattle.micromap_core.specs.declared.stream.ReadFault.TheVariants.{Source, TooMany}
 
 -- a sink or source that counts its faults has room for one more below this
 abbrev pub most_faults : ℕ
@@ -35,41 +37,36 @@ pub record TakesBeginning {X : Type 0} (old entries new : List X) : Type 0 where
   pub split : entries ≡ part ++ next ∷ rest
   pub taken : new ≡ old ++ part
 
--- reading entries into an empty content
-module _ {C X : Type 0} (fits : C → X → Bool) (put : C → X → C) (empty : C) (entries : List X) where
-  -- all but these were taken, and they fit
-  pub record ReadsUpTo (left : List X) : Type 0 where
-    pub before : List X
-    pub split : entries ≡ before ++ left
-    pub fit : IsTrue (each_fits fits put empty before)
+-- a reading of a map of capacity N from a source, old before it and new after it
+module _ {K V S E : Type 0} (eq : K → K → Bool) (N : ℕ) (left : S → List (K × V)) (faults : S → ℕ) (last_fault : S → Option E) (old new : S) where
+  -- to the end: all entries fit a new map, and the map has them
+  pub record ReadsWhole (map : List (K × V)) : Type 0 where
+    pub fit : IsTrue (all_fit eq N (left old))
+    pub few : distinct_count eq (keys_of (left old)) ≤ N
+    pub made : map ≡ build eq (left old)
+    pub emptied : left new ≡ []
+    pub content : IsContent eq N map
+    pub faultless : Faultless faults last_fault old new
 
-  -- with room for N distinct ones, of which count tells how many a list has
-  module _ (count : List X → ℕ) (N : ℕ) where
-    -- all of them fit, and new has them
-    pub record ReadsAll (new : C) : Type 0 where
-      pub fit : IsTrue (each_fits fits put empty entries)
-      pub few : count entries ≤ N
-      pub made : new ≡ fold put empty entries
+  -- up to this error of the source: the entries taken before it fit a new map
+  pub record ReadsToFault (fault : E) : Type 0 where
+    pub before : List (K × V)
+    pub split : left old ≡ before ++ left new
+    pub fit : IsTrue (all_fit eq N before)
+    pub fault_is : Faults faults last_fault old new fault
 
-    -- all but these were taken, and the last of them is the first that doesn't fit
-    pub record ReadsToMisfit (left : List X) : Type 0 where
-      pub before : List X
-      pub item : X
-      pub split : entries ≡ before ++ item ∷ left
-      pub fit : IsTrue (each_fits fits put empty before)
-      pub misfit : IsTrue (not (fits (fold put empty before) item))
-      pub many : N < count (before ++ item ∷ [])
+  -- up to the first entry that doesn't fit, which was taken last
+  pub record ReadsTooMany : Type 0 where
+    pub before : List (K × V)
+    pub item : K × V
+    pub split : left old ≡ before ++ item ∷ left new
+    pub fit : IsTrue (all_fit eq N before)
+    pub misfit : IsTrue (not (fits eq N (build eq before) item.0))
+    pub many : N < distinct_count eq (keys_of (before ++ item ∷ []))
+    pub faultless : Faultless faults last_fault old new
 
--- a map's pairs
-module _ {K V : Type 0} (eq : K → K → Bool) (N : ℕ) (entries : List (K × V)) where
-  -- a new map has all these entries
-  abbrev pub MapReadsAll : List (K × V) → Type 0
-  MapReadsAll = ReadsAll (pair_fits eq N) (put_pair eq) [] entries (λ items. distinct_count eq (keys_of items)) N
-
-  -- those before these fit a new map
-  abbrev pub MapReadsUpTo : List (K × V) → Type 0
-  MapReadsUpTo = ReadsUpTo (pair_fits eq N) (put_pair eq) [] entries
-
-  -- the one before these is the first that doesn't fit a new map
-  abbrev pub MapReadsToMisfit : List (K × V) → Type 0
-  MapReadsToMisfit = ReadsToMisfit (pair_fits eq N) (put_pair eq) [] entries (λ items. distinct_count eq (keys_of items)) N
+  -- what it returns says how far it came
+  abbrev pub MapReads : Result (List (K × V)) (ReadFault E) → Type 0
+  MapReads (Ok map) = ReadsWhole map
+  MapReads (Err (Source fault)) = ReadsToFault fault
+  MapReads (Err TooMany) = ReadsTooMany

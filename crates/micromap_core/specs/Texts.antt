@@ -1,22 +1,17 @@
 -- A map with texts as keys, and a set of texts, seen by the bytes of the texts. A caller who makes a `String` of a `&str`
 -- knows its bytes alone.
-use Rattle.std.specs.Prelude.{ℕ, Bool, List, String, map, nat_eq, string_bytes}
-use Rattle.std.specs.Cmp.Lexicographic.{pointwise}
-
--- two texts are the same
-abbrev pub same_text : List ℕ → List ℕ → Bool
-same_text = pointwise nat_eq
+use Rattle.std.specs.Prelude.{ℕ, List, String, map, string_bytes}
 
 -- the pairs with each key as its bytes, and each value as `read` sees it
-abbrev pub texts_by : {Z V W : Type 0} → (V → W) → List (String Z × V) → List (List ℕ × W)
+unfoldable pub texts_by : {Z V W : Type 0} → (V → W) → List (String Z × V) → List (List ℕ × W)
 texts_by read pairs = map (λ p. (string_bytes p.0, read p.1)) pairs
 
 -- the keys by their bytes, and the values as they are
-unfoldable pub key_texts : {Z V : Type 0} → List (String Z × V) → List (List ℕ × V)
+abbrev pub key_texts : {Z V : Type 0} → List (String Z × V) → List (List ℕ × V)
 key_texts pairs = texts_by (λ v. v) pairs
 
 -- keys and values by their bytes
-unfoldable pub texts : {Y Z : Type 0} → List (String Y × String Z) → List (List ℕ × List ℕ)
+abbrev pub texts : {Y Z : Type 0} → List (String Y × String Z) → List (List ℕ × List ℕ)
 texts pairs = texts_by string_bytes pairs
 
 -- a set's items by their bytes

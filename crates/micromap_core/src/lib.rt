@@ -3,9 +3,9 @@
 
 pub mod entry;
 pub mod map;
-pub mod probe;
+mod probe;
 mod slots;
-pub mod steps;
+mod steps;
 pub mod stream;
 
 pub use map::Map;

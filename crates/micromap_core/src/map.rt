@@ -94,10 +94,8 @@ impl<K: Eq, V, const N: usize> Map<K, V, N> {
 impl<K: Eq + Drop, V: Drop, const N: usize> Map<K, V, N> {
     /// Removes and drops every pair.
     pub fn clear(&mut self)
-        ensures emptied { self.new ≡ [] }
-        ensures content { IsContent K.eq N self.old }
+        ensures { self.new ≡ [] }
     {
-        let _content = self.len();
         self.pairs.clear();
     }
 }

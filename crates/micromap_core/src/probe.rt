@@ -2,8 +2,7 @@
 ghost use Rattle.std.specs.Prelude.{◌≡◌, Bool, true};
 ghost use Rattle.std.specs.String.{string_bytes};
 ghost use Rattle.std.proofs.lemmas.Cmp.{nat_list_eq_equiv};
-ghost use Rattle.micromap_core.specs.Probe.{is_str, is_text};
-ghost use Rattle.micromap_core.specs.ProbeLaws.{alike, equal};
+ghost use Rattle.micromap_core.specs.Probe.{alike, equal, is_str, is_text};
 
 /// A value by which a stored key can be found.
 ///

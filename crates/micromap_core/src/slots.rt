@@ -1,6 +1,6 @@
-//! The slots in which a map keeps its keys, and those in which it keeps its values. Only this module knows that a slot
-//! is an `Option`, and that each is filled.
-ghost use Rattle.std.specs.Prelude.{◌≡◌, ◌<◌, ◌≤◌, [], ◌∷◌, ◌++◌, length, take, Some, slice_get};
+//! The slots in which a map keeps its keys, and those in which it keeps its values. A slot is an `Option`, and each is
+//! filled: only this module, `columns`, `map::walk` and `micromap_walk` know that.
+ghost use Rattle.std.specs.Prelude.{◌≡◌, ◌<◌, ◌≤◌, [], ◌∷◌, ◌++◌, length, take, Some, slice_get, slice_index_or};
 ghost use Rattle.std.specs.Borrow.{sem};
 ghost use Rattle.std.specs.List.{remove, swap};
 ghost use Rattle.micromap_core.specs.Slots.{lends_item_at};
@@ -12,6 +12,7 @@ use arrayvec::ArrayVec;
 pub(crate) use columns::Columns;
 use micromap_walk::slot::{into_item, item_of, item_of_mut};
 use std::marker::Model;
+use std::mem;
 
 /// A list of at most `N` items. A contract sees it as that list, from front to end.
 #[derive(Drop)]
@@ -141,7 +142,7 @@ impl<T: Drop, const N: usize> Slots<T, N> {
         ensures answer { slice_get self.old index ≡ Some result }
         ensures items { self.new ≡ remove self.old index }
     {
-        into_item(self.slots.remove(index))
+        into_item(remove_slot(&mut self.slots, index))
     }
 
     /// Removes and drops every item.
@@ -151,4 +152,22 @@ impl<T: Drop, const N: usize> Slots<T, N> {
     {
         self.slots.clear();
     }
+}
+
+// Removes and returns the slot at `index`. Those behind it move up by one: the last is carried from the back to the gap.
+#[inline]
+fn remove_slot<T: Drop, const N: usize>(
+    slots: &mut ArrayVec<Option<T>, N>,
+    index: usize,
+) -> Option<T>
+    requires { index < length slots.old.items }
+    ensures value { result ≡ slice_index_or slots.old.items index result }
+    ensures items { slots.new.items ≡ remove slots.old.items index }
+{
+    let mut carried = into_item(slots.pop());
+    let rest = slots.as_mut_slice();
+    for at in (index..rest.len()).rev() {
+        mem::swap(&mut rest[at], &mut carried);
+    }
+    carried
 }

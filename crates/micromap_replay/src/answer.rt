@@ -1,4 +1,6 @@
 //! The answers to calls, the content after them, and their texts.
+ghost use Rattle.std.specs.Prelude.{◌≡◌};
+
 use micromap_testing::Marked;
 use std::fmt;
 use std::fmt::Write;
@@ -26,6 +28,8 @@ impl Listed for i32 {
 pub struct Pair(pub Marked, pub i32);
 
 impl From<(Marked, i32)> for Pair {
+    ghost from_gives = { λ p pair. pair ≡ record { 0 = p.0; 1 = p.1 } };
+
     fn from((key, value): (Marked, i32)) -> Pair {
         Pair(key, value)
     }

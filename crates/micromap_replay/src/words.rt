@@ -24,7 +24,7 @@ pub trait Word: Drop {
     fn of(word: &str) -> Option<Self>;
 }
 
-/// A number has one spelling: without a `+`, and without a 0 before its digits.
+/// A number is written without a `+`, and without a 0 before its digits.
 fn number<T: FromStr>(word: &str) -> Option<T>
 where
     T::Err: Drop,

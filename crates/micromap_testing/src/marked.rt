@@ -4,7 +4,7 @@ ghost use Rattle.std.specs.Ordering.{on};
 ghost use Rattle.std.specs.Cmp.Rules.{comparing};
 ghost use Rattle.std.proofs.Common.{rules};
 ghost use Rattle.std.proofs.lemmas.Cmp.{nat_eq_equiv};
-ghost use Rattle.micromap.specs.ProbeLaws.{alike, equal};
+ghost use Rattle.micromap.specs.Probe.{alike, equal};
 
 use micromap::Probe;
 use std::fmt;

@@ -1,1 +1,2 @@
 pub mod ReachLemmas
+pub mod ScopeLemmas

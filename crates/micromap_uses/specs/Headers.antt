@@ -3,9 +3,8 @@ use Rattle.std.specs.Prelude.{ℕ, ◌+◌, ◌==◌, Bool, List, [], ◌∷◌,
 use Rattle.std.specs.Fmt.{decimal}
 use Rattle.std.specs.List.{after_first, before_first, position}
 use Rattle.std.specs.Option.{option_map, option_map_or}
-use Rattle.std.specs.Str.{str_to_ascii_lowercase, trim}
+use Rattle.std.specs.Str.{str_to_ascii_lowercase, trim, bytes_eq}
 use Rattle.micromap.specs.Pairs.{at, fits, put}
-use Rattle.micromap.specs.Texts.{same_text}
 use Rattle.micromap_uses.specs.declared.headers.HeaderFault.{HeaderFault}
 use Rattle.micromap_uses.specs.declared.headers.HeaderFault.TheVariants.{NoColon, TooMany, Memory}
 
@@ -30,27 +29,27 @@ joined (Some stored) value = stored ++ codes ", " ++ value
 
 -- the headers with one more, or with its value behind that of the same name
 abbrev pub added : List Header → Header → List Header
-added headers h = put same_text headers h.0 (joined (at same_text headers h.0) h.1)
+added headers h = put bytes_eq headers h.0 (joined (at bytes_eq headers h.0) h.1)
 
--- the headers with that of the line at a place, or the line's fault
+-- the headers with that of the line of a number, or the line's fault
 abbrev pub with_line : ℕ → List Header → ℕ → Text → Result (List Header) HeaderFault
-with_line N headers place line = option_map_or (λ h. if fits same_text N headers h.0 then Ok (added headers h) else Err (TooMany place)) (header line) (Err (NoColon place))
+with_line N headers number line = option_map_or (λ h. if fits bytes_eq N headers h.0 then Ok (added headers h) else Err (TooMany number)) (header line) (Err (NoColon number))
 
 -- the step after, unless there was a fault
 abbrev pub and_then : {X : Type 0} → Result X HeaderFault → (X → Result X HeaderFault) → Result X HeaderFault
 and_then (Ok x) step = step x
 and_then (Err fault) step = Err fault
 
--- the headers with those of lines, of which the first stands at the place, or the first fault
+-- the headers with those of lines, of which the first has the number, or the first fault
 abbrev pub headers_from : ℕ → List Header → ℕ → List Text → Result (List Header) HeaderFault
-headers_from N headers place [] = Ok headers
-headers_from N headers place (line ∷ lines) = and_then (with_line N headers place line) (λ more. headers_from N more (place + 1) lines)
+headers_from N headers number [] = Ok headers
+headers_from N headers number (line ∷ lines) = and_then (with_line N headers number line) (λ more. headers_from N more (number + 1) lines)
 
 abbrev pub headers_of : ℕ → List Text → Result (List Header) HeaderFault
-headers_of N = headers_from N [] 0
+headers_of N = headers_from N [] 1
 
 -- what a fault prints
 abbrev pub message : HeaderFault → Text
-message (NoColon place) = codes "line " ++ decimal place ++ codes " has no colon"
-message (TooMany place) = codes "there is no room for the name in line " ++ decimal place
+message (NoColon number) = codes "line " ++ decimal number ++ codes " has no colon"
+message (TooMany number) = codes "there is no room for the name in line " ++ decimal number
 message Memory = codes "a request for memory was refused"

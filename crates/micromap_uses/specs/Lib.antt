@@ -1,3 +1,4 @@
 pub mod Frame
 pub mod Graph
 pub mod Headers
+pub mod Scopes

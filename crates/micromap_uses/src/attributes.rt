@@ -6,7 +6,8 @@ ghost use Rattle.std.specs.Option.{option_map_or, unwrap_or};
 ghost use Rattle.std.specs.String.{string_bytes};
 ghost use Rattle.micromap.specs.Pairs.{at, fits, has, put, take_out};
 ghost use Rattle.micromap.specs.Print.{map_text};
-ghost use Rattle.micromap.specs.Texts.{same_text, texts};
+ghost use Rattle.std.specs.Str.{bytes_eq};
+ghost use Rattle.micromap.specs.Texts.{texts};
 
 use micromap::{Map, Text};
 use std::alloc::{AllocError, Global};
@@ -22,8 +23,8 @@ pub fn set<const N: usize>(
     name: &str,
     value: &str,
 ) -> Result<bool, AllocError>
-    ensures answer { IfOk result (λ fit. fit ≡ fits same_text N (texts list.old) name.now) }
-    ensures list { IfOk result (λ fit. texts list.new ≡ (if fit then put same_text (texts list.old) name.now value.now else texts list.old)) }
+    ensures answer { IfOk result (λ fit. fit ≡ fits bytes_eq N (texts list.old) name.now) }
+    ensures list { IfOk result (λ fit. texts list.new ≡ (if fit then put bytes_eq (texts list.old) name.now value.now else texts list.old)) }
     ensures unchanged { IfErr result (λ _. list.new ≡ list.old) }
 {
     let name = String::from_str(alloc, name)?;
@@ -38,7 +39,7 @@ pub fn value_or<'a, const N: usize>(
     name: &str,
     default: &'a str,
 ) -> &'a str
-    ensures { result.now ≡ unwrap_or (at same_text (texts list.now) name.now) default.now }
+    ensures { result.now ≡ unwrap_or (at bytes_eq (texts list.now) name.now) default.now }
 {
     match list.get_by(&Text(name)) {
         Some(value) => value.as_str(),
@@ -50,9 +51,10 @@ pub fn value_or<'a, const N: usize>(
 /// was such a value.
 #[tactic(auto, using(micromap_core::proofs::TextViews::text_views, micromap_core::proofs::MapLaws::map_laws))]
 pub fn rename<const N: usize>(list: &mut Attributes<N>, from: &str, to: String) -> bool
-    ensures answer { result ≡ has same_text (texts list.old) from.now }
-    ensures list { texts list.new ≡ option_map_or (put same_text (take_out same_text (texts list.old) from.now) (string_bytes to)) (at same_text (texts list.old) from.now) (texts list.old) }
+    ensures answer { result ≡ has bytes_eq (texts list.old) from.now }
+    ensures list { texts list.new ≡ option_map_or (put bytes_eq (take_out bytes_eq (texts list.old) from.now) (string_bytes to)) (at bytes_eq (texts list.old) from.now) (texts list.old) }
 {
+    let _content = list.len();
     match list.remove_by(&Text(from)) {
         Some(value) => {
             list.insert(to, value);
@@ -65,8 +67,8 @@ pub fn rename<const N: usize>(list: &mut Attributes<N>, from: &str, to: String) 
 /// Removes an attribute, and returns whether it was there.
 #[tactic(auto, using(micromap_core::proofs::TextViews::text_views))]
 pub fn remove<const N: usize>(list: &mut Attributes<N>, name: &str) -> bool
-    ensures answer { result ≡ has same_text (texts list.old) name.now }
-    ensures list { texts list.new ≡ take_out same_text (texts list.old) name.now }
+    ensures answer { result ≡ has bytes_eq (texts list.old) name.now }
+    ensures list { texts list.new ≡ take_out bytes_eq (texts list.old) name.now }
 {
     list.remove_by(&Text(name)).is_some()
 }

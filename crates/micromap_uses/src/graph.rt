@@ -102,7 +102,7 @@ impl Graph {
 
     /// Returns the nodes to which edges lead from a node, itself among them.
     ///
-    /// They are in the order of a depth-first search, which looks at each of their edges once from either end.
+    /// Looks at each of their edges once from either end.
     pub fn reached(&self, from: u8) -> Set<u8, NODES>
         requires { from < NODES }
         ensures { (x : ℕ) → IsTrue (contains nat_eq result x) ↔ Path self.now from x }
@@ -124,6 +124,7 @@ impl Graph {
         if met.contains(&node) {
             return;
         }
+        let _content = met.len();
         met.checked_insert(node);
         for next in &self.nodes[usize::from(node)] {
             self.search(*next, met);
@@ -150,5 +151,6 @@ fn part(nodes: &mut [Set<u8, DEGREE>; NODES], a: u8, b: u8) -> bool
     ensures halves { (x y : ℕ) → leads nodes.new x y ≡ (leads nodes.old x y && not (nat_eq a x && nat_eq b y)) }
 {
     let node = &mut nodes[usize::from(a)];
+    let _content = node.len();
     node.remove(&b)
 }

@@ -4,12 +4,11 @@
 //! A contract sees a name, in small letters, and a value as their bytes.
 ghost use Rattle.std.specs.Prelude.{◌≡◌, ◌⊎◌, [], ◌++◌, codes, if◌then◌else◌, map, IfErr, IfOk, Ok, Err, Some};
 ghost use Rattle.std.specs.Option.{option_map};
-ghost use Rattle.std.specs.Str.{str_to_ascii_lowercase};
+ghost use Rattle.std.specs.Str.{str_to_ascii_lowercase, bytes_eq};
 ghost use Rattle.std.specs.Str.Lines.{lines};
 ghost use Rattle.std.specs.Cmp.{partial_equiv_from_equiv};
 ghost use Rattle.std.specs.Cmp.Lexicographic.{nat_list_eq_equiv};
 ghost use Rattle.micromap.specs.Pairs.{at, fits};
-ghost use Rattle.micromap.specs.Texts.{same_text};
 ghost use Rattle.micromap_uses.specs.Headers.{added, headers_of, message, with_line};
 ghost use Rattle.micromap_uses.specs.declared.headers.HeaderFault.TheVariants.{Memory};
 
@@ -55,7 +54,7 @@ impl Name {
 }
 
 impl PartialEq for Name {
-    ghost eq = { same_text };
+    ghost eq = { bytes_eq };
 
     ghost laws = { partial_equiv_from_equiv nat_list_eq_equiv };
 
@@ -109,12 +108,12 @@ impl Value {
     }
 }
 
-/// Why a text is no list of headers. A place counts the lines from 0.
+/// Why a text is no list of headers. Lines are counted from 1.
 #[derive(Debug, Clone, Copy, PartialEq, Eq)]
 pub enum HeaderFault {
-    /// The line at this place has no colon.
+    /// The line of this number has no colon.
     NoColon(usize),
-    /// The line at this place has a new name, and there is no room for it.
+    /// The line of this number has a new name, and there is no room for it.
     TooMany(usize),
     /// A request for memory was refused.
     Memory,
@@ -125,10 +124,10 @@ impl fmt::Display for HeaderFault {
 
     fn fmt<W: fmt::Write>(&self, f: &mut fmt::Formatter<W>) -> fmt::Result {
         match self {
-            HeaderFault::NoColon(place) => write!(f, "line {place} has no colon"),
-            HeaderFault::TooMany(place) => write!(
+            HeaderFault::NoColon(number) => write!(f, "line {number} has no colon"),
+            HeaderFault::TooMany(number) => write!(
                 f,
-                "there is no room for the name in line {place}"
+                "there is no room for the name in line {number}"
             ),
             HeaderFault::Memory => f.write_str("a request for memory was refused"),
         }
@@ -163,37 +162,37 @@ fn lines_of(alloc: Global, text: &str) -> Result<Vec<&str>, AllocError>
     text.lines().collect(alloc)
 }
 
-/// Returns the headers in these lines, as `parse` does. A fault's place is that in the list of lines.
+/// Returns the headers in these lines, as `parse` does.
 pub fn parse_lines<const N: usize>(alloc: Global, lines: &[&str]) -> Result<Headers<N>, HeaderFault>
     ensures headers { IfOk result (λ headers. headers_of N (map (λ line. line.now) lines.now) ≡ Ok headers) }
     ensures fault { IfErr result (λ fault. (fault ≡ Memory) ⊎ (headers_of N (map (λ line. line.now) lines.now) ≡ Err fault)) }
 {
     let mut headers = Map::new();
-    let mut place = 0;
+    let mut number = 1;
     for line in lines {
-        add_line(alloc, &mut headers, place, line)?;
-        place += 1;
+        add_line(alloc, &mut headers, number, line)?;
+        number += 1;
     }
     Ok(headers)
 }
 
-// Adds the header in the line at a place.
+// Adds the header in the line of a number.
 fn add_line<const N: usize>(
     alloc: Global,
     headers: &mut Headers<N>,
-    place: usize,
+    number: usize,
     line: &str,
 ) -> Result<(), HeaderFault>
-    ensures headers { IfOk result (λ _. with_line N headers.old place line.now ≡ Ok headers.new) }
-    ensures fault { IfErr result (λ fault. (fault ≡ Memory) ⊎ (with_line N headers.old place line.now ≡ Err fault)) }
+    ensures headers { IfOk result (λ _. with_line N headers.old number line.now ≡ Ok headers.new) }
+    ensures fault { IfErr result (λ fault. (fault ≡ Memory) ⊎ (with_line N headers.old number line.now ≡ Err fault)) }
 {
     let Some((name, value)) = line.split_once(':') else {
-        return Err(HeaderFault::NoColon(place));
+        return Err(HeaderFault::NoColon(number));
     };
     if add(alloc, headers, name, value.trim())? {
         Ok(())
     } else {
-        Err(HeaderFault::TooMany(place))
+        Err(HeaderFault::TooMany(number))
     }
 }
 
@@ -206,7 +205,7 @@ pub fn add<const N: usize>(
     name: &str,
     value: &str,
 ) -> Result<bool, AllocError>
-    ensures answer { IfOk result (λ fit. fit ≡ fits same_text N headers.old (str_to_ascii_lowercase name.now)) }
+    ensures answer { IfOk result (λ fit. fit ≡ fits bytes_eq N headers.old (str_to_ascii_lowercase name.now)) }
     ensures headers { IfOk result (λ fit. headers.new ≡ (if fit then added headers.old (str_to_ascii_lowercase name.now, value.now) else headers.old)) }
     ensures unchanged { IfErr result (λ _. headers.new ≡ headers.old) }
 {
@@ -220,7 +219,7 @@ pub fn add<const N: usize>(
 
 /// Returns the value of a name.
 pub fn value_of<'a, const N: usize>(headers: &'a Headers<N>, name: &Name) -> Option<&'a str>
-    ensures { option_map (λ value. value.now) result ≡ at same_text headers.now name.now }
+    ensures { option_map (λ value. value.now) result ≡ at bytes_eq headers.now name.now }
 {
     Some(headers.get(name)?.as_str())
 }

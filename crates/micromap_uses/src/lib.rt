@@ -8,4 +8,6 @@ pub mod frame;
 pub mod graph;
 pub mod headers;
 pub mod permissions;
+pub mod scopes;
+pub mod stock;
 pub mod votes;

@@ -1,10 +1,10 @@
 //! What a role may do: a set of permissions, which are an enum with a derived `==`.
 //!
 //! A contract names that equality as `⟦<Permission as PartialEq>⟧.eq`.
-ghost use Rattle.std.specs.Prelude.{◌≡◌, ◌↔◌, ◌||◌, ◌&&◌, IfOk, IsFalse, IsTrue, Ok, not};
-ghost use Rattle.std.specs.Bool.{OnFalse, OnTrue};
-ghost use Rattle.micromap.specs.Items.{contains, item_fits};
-ghost use Rattle.micromap.specs.Operations.{intersection};
+ghost use Rattle.std.specs.Prelude.{◌≡◌, ◌↔◌, ◌||◌, ◌&&◌, ◌<◌, IfOk, IsErr, IsFalse, IsTrue, Ok, if◌then◌else◌, length, not};
+ghost use Rattle.std.specs.Bool.{OnTrue};
+ghost use Rattle.micromap.specs.Items.{add, contains, item_fits};
+ghost use Rattle.micromap.specs.Operations.{difference, intersection, union};
 
 use micromap::{Overfull, Set};
 use std::alloc::AllocError;
@@ -25,42 +25,47 @@ pub enum Permission {
 /// The permissions of one role.
 pub type Role<const N: usize> = Set<Permission, N>;
 
-/// Grants a permission, and returns whether there was room for it. If not, the role is unchanged.
-#[tactic(auto, using(micromap::proofs::SetLaws::bound_laws))]
+/// Grants a permission, and returns whether there was room for it. A new one goes last, and one that is granted already
+/// stays in its place.
+#[tactic(auto, using(micromap::proofs::SetLaws::set_bound_laws))]
 pub fn grant<const N: usize>(role: &mut Role<N>, permission: Permission) -> bool
     ensures answer { result ≡ item_fits ⟦<Permission as PartialEq>⟧.eq N role.old permission }
+    ensures role { role.new ≡ (if item_fits ⟦<Permission as PartialEq>⟧.eq N role.old permission then add ⟦<Permission as PartialEq>⟧.eq role.old permission else role.old) }
     ensures granted { OnTrue result (IsTrue (contains ⟦<Permission as PartialEq>⟧.eq role.new permission)) }
     ensures others { OnTrue result ((p : _) → contains ⟦<Permission as PartialEq>⟧.eq role.new p ≡ (⟦<Permission as PartialEq>⟧.eq permission p || contains ⟦<Permission as PartialEq>⟧.eq role.old p)) }
-    ensures refused { OnFalse result (role.new ≡ role.old) }
 {
+    let _content = role.len();
     let fits = role.fits(&permission);
     role.checked_insert(permission);
     fits
 }
 
 /// Revokes a permission, and returns whether it was granted.
-#[tactic(auto, using(micromap::proofs::SetLaws::bound_laws))]
+#[tactic(auto, using(micromap::proofs::SetLaws::set_bound_laws))]
 pub fn revoke<const N: usize>(role: &mut Role<N>, permission: Permission) -> bool
     ensures answer { result ≡ contains ⟦<Permission as PartialEq>⟧.eq role.old permission }
     ensures revoked { IsFalse (contains ⟦<Permission as PartialEq>⟧.eq role.new permission) }
     ensures others { (p : _) → contains ⟦<Permission as PartialEq>⟧.eq role.new p ≡ (not (⟦<Permission as PartialEq>⟧.eq permission p) && contains ⟦<Permission as PartialEq>⟧.eq role.old p) }
 {
+    let _content = role.len();
     role.remove(&permission)
 }
 
-/// Returns a role with the permissions of both, in any capacity, or that it has no room for them.
-#[tactic(auto, using(micromap::proofs::SetLaws::bound_laws))]
+/// Returns a role with the permissions of both, in any capacity. Returns an error exactly if it has no room for them.
+#[tactic(auto, using(micromap::proofs::SetLaws::set_bound_laws))]
 pub fn merged<const N: usize, const M: usize, const L: usize>(
     first: &Role<N>,
     second: &Role<M>,
 ) -> Result<Role<L>, Overfull>
-    ensures { IfOk result (λ role. (p : _) → contains ⟦<Permission as PartialEq>⟧.eq role p ≡ (contains ⟦<Permission as PartialEq>⟧.eq first.now p || contains ⟦<Permission as PartialEq>⟧.eq second.now p)) }
+    ensures answer { IfOk result (λ role. role ≡ union ⟦<Permission as PartialEq>⟧.eq first.now second.now) }
+    ensures members { IfOk result (λ role. (p : _) → contains ⟦<Permission as PartialEq>⟧.eq role p ≡ (contains ⟦<Permission as PartialEq>⟧.eq first.now p || contains ⟦<Permission as PartialEq>⟧.eq second.now p)) }
+    ensures refused { IsErr result ↔ (L < length (union ⟦<Permission as PartialEq>⟧.eq first.now second.now)) }
 {
     Set::try_from_iter(first.union(second).copied())
 }
 
 /// Returns a role limited to what another one may do. It is always `Ok`.
-#[tactic(auto, using(micromap::proofs::SetLaws::bound_laws))]
+#[tactic(auto, using(micromap::proofs::SetLaws::set_bound_laws))]
 pub fn limited<const N: usize, const M: usize>(
     role: &Role<N>,
     most: &Role<M>,
@@ -71,13 +76,14 @@ pub fn limited<const N: usize, const M: usize>(
     role.bitand(most)
 }
 
-/// Returns what a role may do beyond another one.
-#[tactic(auto, using(micromap::proofs::SetLaws::bound_laws))]
+/// Returns what a role may do beyond another one. It is always `Ok`.
+#[tactic(auto, using(micromap::proofs::SetLaws::set_bound_laws))]
 pub fn beyond<const N: usize, const M: usize>(
     role: &Role<N>,
     other: &Role<M>,
 ) -> Result<Role<N>, AllocError>
-    ensures { IfOk result (λ new. (p : _) → contains ⟦<Permission as PartialEq>⟧.eq new p ≡ (contains ⟦<Permission as PartialEq>⟧.eq role.now p && not (contains ⟦<Permission as PartialEq>⟧.eq other.now p))) }
+    ensures answer { result ≡ Ok (difference ⟦<Permission as PartialEq>⟧.eq role.now other.now) }
+    ensures members { IfOk result (λ new. (p : _) → contains ⟦<Permission as PartialEq>⟧.eq new p ≡ (contains ⟦<Permission as PartialEq>⟧.eq role.now p && not (contains ⟦<Permission as PartialEq>⟧.eq other.now p))) }
 {
     role.sub(other)
 }

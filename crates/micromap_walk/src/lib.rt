@@ -5,11 +5,9 @@
 #![tactic(auto)]
 
 mod borrowing;
-mod drain;
 mod owning;
 mod print;
 pub mod slot;
 
 pub use borrowing::{Iter, Keys, Values};
-pub use drain::Drain;
-pub use owning::{IntoIter, IntoKeys, IntoValues};
+pub use owning::{Drain, IntoIter, IntoKeys, IntoValues};

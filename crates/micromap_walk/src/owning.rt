@@ -26,6 +26,9 @@ pub struct IntoIter<K, V, const N: usize> {
     given: usize,
 }
 
+/// An iterator over the pairs that a map had, as `Map::drain` returns it.
+pub type Drain<K, V, const N: usize> = IntoIter<K, V, N>;
+
 impl<K, V, const N: usize> Model for IntoIter<K, V, N> {
     ghost use Rattle.std.specs.Prelude.{List, drop};
     ghost use Rattle.std.specs.List.{zip};

@@ -1,5 +1,5 @@
 //! `Debug` of each iterator, as the list of the items left.
-use crate::{Drain, IntoIter, IntoKeys, IntoValues, Iter, Keys, Values};
+use crate::{IntoIter, IntoKeys, IntoValues, Iter, Keys, Values};
 use std::fmt;
 
 impl<'a, K: fmt::Debug, V: fmt::Debug> fmt::Debug for Iter<'a, K, V> {
@@ -39,11 +39,5 @@ impl<K, V: fmt::Debug, const N: usize> fmt::Debug for IntoValues<K, V, N> {
         f.debug_list()
             .entries(self.pairs.left().map(|(_, value)| value))
             .finish()
-    }
-}
-
-impl<K: fmt::Debug, V: fmt::Debug, const N: usize> fmt::Debug for Drain<K, V, N> {
-    fn fmt<W: fmt::Write>(&self, f: &mut fmt::Formatter<W>) -> fmt::Result {
-        f.debug_list().entries(self.pairs.left()).finish()
     }
 }

@@ -1,12 +1,13 @@
 //! Reading a map from an object, and a set from an array.
 ghost use Rattle.std.specs.Prelude.{◌≡◌, ◌≢◌, ◌<◌, length, IfOk, IfErr, MatchResult, Ok, Err, ok_or, option_map, string_bytes, bytes_eq, if◌then◌else◌};
 ghost use Rattle.std.specs.Ordering.{int_eq};
+ghost use Rattle.std.specs.Result.{result_map_both};
 ghost use Rattle.std.specs.String.{string_eq};
 ghost use Rattle.serde_json.specs.Find.{as_str};
 ghost use Rattle.serde_json.specs.Read.{read as value_of};
 ghost use Rattle.serde_json.specs.View.{view, items_view, members_view};
 ghost use Rattle.micromap.specs.Extend.{distinct};
-ghost use Rattle.micromap.specs.Json.{pairs_for, texts_for, and_then, within, whole, whole_members, all_texts, in_bytes, texts_of, Pairs, HasPairs, IsFault};
+ghost use Rattle.micromap.specs.Json.{pairs_for, texts_for, and_then, items_for, whole_number, whole_members, all_texts, in_bytes, texts_of, Pairs, HasPairs, IsFault};
 ghost use Rattle.micromap.specs.Items.{IsItems};
 ghost use Rattle.micromap.specs.Pairs.{IsContent, fits, put};
 ghost use Rattle.micromap.specs.Same.{Same};
@@ -69,8 +70,7 @@ fn read(alloc: Global, text: &str) -> Result<Value, JsonFault>
 fn map_of_members<const N: usize>(
     members: serde_json::Map<String, Value>,
 ) -> Result<Map<String, i64, N>, JsonFault>
-    ensures pairs { IfOk result (λ map. and_then (ok_or (whole_members (members_view members.entries)) NotWhole) (within N) ≡ Ok (in_bytes map)) }
-    ensures fault { IfErr result (λ fault. and_then (ok_or (whole_members (members_view members.entries)) NotWhole) (within N) ≡ Err fault) }
+    ensures answer { result_map_both in_bytes (λ fault. fault) result ≡ and_then (ok_or (whole_members (members_view members.entries)) NotWhole) (items_for N) }
     ensures no_memory { IfErr result (λ fault. fault ≢ Memory) }
     ensures content { IfOk result (IsContent string_eq N) }
 {
@@ -93,7 +93,7 @@ fn map_of_members<const N: usize>(
 }
 
 fn whole_of(value: Value) -> Option<i64>
-    ensures { result ≡ whole (view value) }
+    ensures { result ≡ whole_number (view value) }
 {
     value.as_i64()
 }
@@ -108,8 +108,8 @@ fn put<const N: usize>(map: &mut Map<String, i64, N>, name: String, whole: i64) 
 
 // Creates the set of these elements. All are looked at before any is inserted.
 fn set_of_elements<const N: usize>(elements: Vec<Value>) -> Result<Set<String, N>, JsonFault>
-    ensures texts { IfOk result (λ set. and_then (ok_or (all_texts (items_view elements.items)) NotText) (λ texts. within N (distinct bytes_eq texts)) ≡ Ok (texts_of set)) }
-    ensures fault { IfErr result (λ fault. and_then (ok_or (all_texts (items_view elements.items)) NotText) (λ texts. within N (distinct bytes_eq texts)) ≡ Err fault) }
+    ensures texts { IfOk result (λ set. and_then (ok_or (all_texts (items_view elements.items)) NotText) (λ texts. items_for N (distinct bytes_eq texts)) ≡ Ok (texts_of set)) }
+    ensures fault { IfErr result (λ fault. and_then (ok_or (all_texts (items_view elements.items)) NotText) (λ texts. items_for N (distinct bytes_eq texts)) ≡ Err fault) }
     ensures no_memory { IfErr result (λ fault. fault ≢ Memory) }
     ensures content { IfOk result (IsItems string_eq N) }
 {

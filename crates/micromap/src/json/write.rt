@@ -3,7 +3,7 @@ ghost use Rattle.std.specs.Prelude.{◌≡◌, ℕ, ◌≤◌, length, IfOk, IfE
 ghost use Rattle.serde_json.specs.Data.{array, depth};
 ghost use Rattle.serde_json.specs.View.{view};
 ghost use Rattle.serde_json.specs.Written.{compact_text};
-ghost use Rattle.micromap.specs.Json.{HasPairs, array_texts, elements, texts_for, texts_of, whole};
+ghost use Rattle.micromap.specs.Json.{HasPairs, array_texts, elements, texts_for, texts_of, whole_number};
 ghost use Rattle.micromap.specs.declared.json.JsonFault.TheVariants.{Memory};
 
 use super::JsonFault;
@@ -47,7 +47,7 @@ pub fn set_to_json<const N: usize>(alloc: Global, set: &Set<String, N>) -> Resul
 }
 
 fn value_of(n: i64) -> Value
-    ensures value { whole (view result) ≡ Some n }
+    ensures value { whole_number (view result) ≡ Some n }
     ensures flat { depth (view result) ≡ 0 }
 {
     Value::from(n)

@@ -1,14 +1,13 @@
 //! Inserting and removing items.
-ghost use Rattle.std.specs.Prelude.{◌≡◌, [], Some, None, IsTrue, not, if◌then◌else◌};
-ghost use Rattle.micromap.specs.Items.{IsItems, add, contains, exchange, item, item_fits, take_item};
+ghost use Rattle.std.specs.Prelude.{◌≡◌, [], Some, None, IsTrue, not, if◌then◌else◌, drop, slice_get};
+ghost use Rattle.micromap.specs.Items.{add, contains, exchange, item, item_fits, take_item};
 
-use super::Set;
+use super::{Set, item_of};
 
 impl<T: Eq + Drop, const N: usize> Set<T, N> {
     /// Removes and drops every item.
     pub fn clear(&mut self)
-        ensures emptied { self.new ≡ [] }
-        ensures content { IsItems T.eq N self.old }
+        ensures { self.new ≡ [] }
     {
         self.map.clear();
     }
@@ -22,7 +21,6 @@ impl<T: Eq + Drop, const N: usize> Set<T, N> {
         requires { IsTrue (item_fits T.eq N self.old x) }
         ensures answer { result ≡ not (contains T.eq self.old x) }
         ensures items { self.new ≡ add T.eq self.old x }
-        ensures content { IsItems T.eq N self.old }
     {
         self.map.insert(x, ()).is_none()
     }
@@ -33,7 +31,6 @@ impl<T: Eq + Drop, const N: usize> Set<T, N> {
         requires { IsTrue (item_fits T.eq N self.old x) }
         ensures answer { result ≡ not (contains T.eq self.old x) }
         ensures items { self.new ≡ add T.eq self.old x }
-        ensures content { IsItems T.eq N self.old }
     {
         self.insert(x)
     }
@@ -46,10 +43,8 @@ impl<T: Eq + Drop, const N: usize> Set<T, N> {
         requires { IsTrue (item_fits T.eq N self.old x) }
         ensures old { result ≡ item T.eq self.old x }
         ensures items { self.new ≡ exchange T.eq self.old x }
-        ensures content { IsItems T.eq N self.old }
     {
-        let (old, _) = self.map.insert_key_value(x, ())?;
-        Some(old)
+        item_of(self.map.insert_key_value(x, ()))
     }
 
     /// Inserts the item if it is new and fits, and returns it if an equal one is stored.
@@ -62,7 +57,6 @@ impl<T: Eq + Drop, const N: usize> Set<T, N> {
     pub fn checked_insert(&mut self, x: T) -> Option<T>
         ensures answer { result ≡ (if contains T.eq self.old x then Some x else None) }
         ensures items { self.new ≡ (if item_fits T.eq N self.old x then add T.eq self.old x else self.old) }
-        ensures content { IsItems T.eq N self.old }
     {
         if self.len() < N {
             // `x` stands where the equal item was. Now that item goes back, and `x` comes out.
@@ -79,10 +73,8 @@ impl<T: Eq + Drop, const N: usize> Set<T, N> {
     pub fn take(&mut self, x: &T) -> Option<T>
         ensures answer { result ≡ item T.eq self.old x.now }
         ensures items { self.new ≡ take_item T.eq self.old x.now }
-        ensures content { IsItems T.eq N self.old }
     {
-        let (stored, _) = self.map.remove_entry(x)?;
-        Some(stored)
+        item_of(self.map.remove_entry(x))
     }
 
     /// Removes the item that equals `x`, and returns `true` if there was one.
@@ -92,8 +84,18 @@ impl<T: Eq + Drop, const N: usize> Set<T, N> {
     pub fn remove(&mut self, x: &T) -> bool
         ensures answer { result ≡ contains T.eq self.old x.now }
         ensures items { self.new ≡ take_item T.eq self.old x.now }
-        ensures content { IsItems T.eq N self.old }
     {
         self.map.remove(x).is_some()
+    }
+
+    /// Removes the first item, and returns it, or `None` if the set is empty.
+    ///
+    /// The others keep their order: each moves up by one. Compares no items.
+    #[inline]
+    pub fn pop_first(&mut self) -> Option<T>
+        ensures answer { result ≡ slice_get self.old 0 }
+        ensures items { self.new ≡ drop 1 self.old }
+    {
+        item_of(self.map.pop_first())
     }
 }

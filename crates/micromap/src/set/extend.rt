@@ -1,10 +1,10 @@
 //! Inserting the items of an iterator, one after the other, as `insert` does. Each distinct item is stored as it first
 //! came, in that order.
-ghost use Rattle.std.specs.Prelude.{◌≡◌, ◌+◌, ◌≤◌, [], length, IfOk, IfErr, IsTrue, if◌then◌else◌};
+ghost use Rattle.std.specs.Prelude.{◌≡◌, ◌+◌, ◌≤◌, [], length, take, IfOk, IfErr, IsTrue, if◌then◌else◌};
 ghost use Rattle.std.specs.Iterator.{UpTo};
 ghost use Rattle.std.specs.Iterator.Runs.{SomeRun, WholeRun};
-ghost use Rattle.micromap.specs.Build.{most_items, PutsAll, PutsUpTo};
-ghost use Rattle.micromap.specs.Extend.{add_all, all_items_fit, distinct, ItemsBuiltFrom, ItemMisfitAt, ItemMisfitIn};
+ghost use Rattle.micromap.specs.Build.{most_items};
+ghost use Rattle.micromap.specs.Extend.{add_all, all_items_fit, distinct, ItemMisfitIn};
 ghost use Rattle.micromap.specs.Items.{IsItems, add, item_fits};
 
 use super::Set;
@@ -16,7 +16,6 @@ impl<T: Eq + Drop, const N: usize> Set<T, N> {
     pub(crate) fn put(&mut self, x: T) -> bool
         ensures answer { result ≡ item_fits T.eq N self.old x }
         ensures items { self.new ≡ (if item_fits T.eq N self.old x then add T.eq self.old x else self.old) }
-        ensures content { IsItems T.eq N self.old }
     {
         self.map.checked_insert(x, ()).is_some()
     }
@@ -28,17 +27,16 @@ impl<T: Eq + Drop, const N: usize> Set<T, N> {
     pub fn try_extend<I: Iterator<Item = T>>(&mut self, items: I) -> Result<(), Overfull>
         requires can { I.can_next items }
         requires ends { UpTo (I.remaining items) most_items }
-        ensures extends { IfOk result (λ _. PutsAll (item_fits T.eq N) (add T.eq) I.next_gives self.old items self.new) }
-        ensures misfit { IfErr result (λ e. PutsUpTo (item_fits T.eq N) (add T.eq) I.next_gives self.old items e.at self.new) }
         ensures runs { IfOk result (λ _. WholeRun I.next_gives items (λ p. self.new ≡ add_all T.eq self.old p.items)) }
         ensures stops { IfErr result (λ e. SomeRun I.next_gives items (λ p. (p.len ≡ e.at + 1) × ItemMisfitIn T.eq N self.old p.items e.at)) }
+        ensures before { IfErr result (λ e. SomeRun I.next_gives items (λ p. (p.len ≡ e.at + 1) × (self.new ≡ add_all T.eq self.old (take e.at p.items)))) }
         ensures full { IfErr result (λ _. length self.new ≡ N) }
-        ensures content { IsItems T.eq N self.old }
     {
-        let _content = self.len();
         let mut at = 0;
         for x in items {
             if !self.put(x) {
+                // `len` ensures that it is at most `N`, so the set is full.
+                let _len = self.len();
                 return Err(Overfull { at });
             }
             at += 1;
@@ -55,8 +53,6 @@ impl<T: Eq + Drop, const N: usize> Set<T, N> {
     pub fn try_from_iter<I: Iterator<Item = T>>(items: I) -> Result<Self, Overfull>
         requires can { I.can_next items }
         requires ends { UpTo (I.remaining items) most_items }
-        ensures built { IfOk result (ItemsBuiltFrom T.eq I.next_gives N items) }
-        ensures misfit { IfErr result (λ e. ItemMisfitAt T.eq I.next_gives N items e.at) }
         ensures runs { IfOk result (λ new. WholeRun I.next_gives items (λ p. new ≡ distinct T.eq p.items)) }
         ensures stops { IfErr result (λ e. SomeRun I.next_gives items (λ p. (p.len ≡ e.at + 1) × ItemMisfitIn T.eq N [] p.items e.at)) }
         ensures full { IfErr result (λ e. N ≤ e.at) }

@@ -1,17 +1,18 @@
 //! The set's calls by probe. Each does what its plain form does at the one stored item that matches, or at a missing
 //! item if none matches.
 ghost use Rattle.std.specs.Prelude.{◌≡◌, is_some};
+ghost use Rattle.std.specs.List.{find, list_any};
 ghost use Rattle.std.specs.Option.{option_copied};
-ghost use Rattle.micromap.specs.Items.{IsItems, contains_matched, item_matched, take_item_matched};
+ghost use Rattle.std.specs.Set.{remove_key};
 
-use super::Set;
+use super::{Set, item_of};
 use crate::Probe;
 
 impl<T: Eq, const N: usize> Set<T, N> {
     /// Returns a reference to the item that matches, or `None` if none does. Makes one scan.
     #[inline]
     pub fn get_by<P: Probe<T>>(&self, probe: &P) -> Option<&T>
-        ensures { option_copied result ≡ item_matched T.eq (P.matches probe.now) self.now }
+        ensures { option_copied result ≡ find (P.matches probe.now) self.now }
     {
         match self.map.get_key_value_by(probe) {
             Some((stored, _)) => Some(stored),
@@ -22,7 +23,7 @@ impl<T: Eq, const N: usize> Set<T, N> {
     /// Returns `true` if a stored item matches. Makes one scan.
     #[inline]
     pub fn contains_by<P: Probe<T>>(&self, probe: &P) -> bool
-        ensures { result ≡ contains_matched (P.matches probe.now) self.now }
+        ensures { result ≡ list_any (P.matches probe.now) self.now }
     {
         self.map.contains_key_by(probe)
     }
@@ -34,12 +35,10 @@ impl<T: Eq + Drop, const N: usize> Set<T, N> {
     /// The others keep their order: those behind it move up by one. After `None` the set is unchanged. Makes one scan.
     #[inline]
     pub fn take_by<P: Probe<T>>(&mut self, probe: &P) -> Option<T>
-        ensures answer { result ≡ item_matched T.eq (P.matches probe.now) self.old }
-        ensures items { self.new ≡ take_item_matched T.eq (P.matches probe.now) self.old }
-        ensures content { IsItems T.eq N self.old }
+        ensures answer { result ≡ find (P.matches probe.now) self.old }
+        ensures items { self.new ≡ remove_key (P.matches probe.now) self.old }
     {
-        let (stored, _) = self.map.remove_entry_by(probe)?;
-        Some(stored)
+        item_of(self.map.remove_entry_by(probe))
     }
 
     /// Removes the item that matches, and returns `true` if there was one.
@@ -47,9 +46,8 @@ impl<T: Eq + Drop, const N: usize> Set<T, N> {
     /// The others keep their order: those behind it move up by one. After `false` the set is unchanged. Makes one scan.
     #[inline]
     pub fn remove_by<P: Probe<T>>(&mut self, probe: &P) -> bool
-        ensures answer { result ≡ is_some (item_matched T.eq (P.matches probe.now) self.old) }
-        ensures items { self.new ≡ take_item_matched T.eq (P.matches probe.now) self.old }
-        ensures content { IsItems T.eq N self.old }
+        ensures answer { result ≡ is_some (find (P.matches probe.now) self.old) }
+        ensures items { self.new ≡ remove_key (P.matches probe.now) self.old }
     {
         self.take_by(probe).is_some()
     }

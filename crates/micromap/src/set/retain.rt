@@ -1,8 +1,8 @@
 //! Keeping the items that pass a test.
 ghost use Rattle.std.specs.Fn.{CalledAt};
 ghost use Rattle.std.specs.List.Retain.{IsFiltered};
-ghost use Rattle.micromap_core.specs.Sublist.{IsSublist};
-ghost use Rattle.micromap.specs.Items.{IsItems, MayRetainItems};
+ghost use Rattle.micromap_core.specs.Closures.{IsSublist};
+ghost use Rattle.micromap.specs.Items.{MayRetainItems};
 
 use super::Set;
 
@@ -15,7 +15,6 @@ impl<T: Eq + Drop, const N: usize> Set<T, N> {
         requires { MayRetainItems F.FnMut keep self.old }
         ensures items { IsFiltered (CalledAt F.FnMut) keep self.old self.new }
         ensures order { IsSublist self.new self.old }
-        ensures content { IsItems T.eq N self.old }
     {
         self.map.retain(
             |x: &T, _: &mut ()|

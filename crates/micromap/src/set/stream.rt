@@ -1,8 +1,7 @@
 //! Writing a set's items to a sink, and reading a set from a source, as the keys of pairs with the value `()`.
-ghost use Rattle.std.specs.Prelude.{◌≡◌, ◌<◌, ◌++◌, [], Ok, OnOk, IfOk, IfErr, OnErr, IsErrOf};
+ghost use Rattle.std.specs.Prelude.{◌≡◌, ◌<◌, ◌++◌, Ok, OnOk, IfOk, IfErr, OnErr};
 ghost use Rattle.std.specs.Map.{keys_of};
-ghost use Rattle.micromap_core.specs.declared.stream.ReadFault.TheVariants.{Source, TooMany};
-ghost use Rattle.micromap.specs.ItemEntries.{entries_of, SetReadsAll, SetReadsUpTo, SetReadsToMisfit};
+ghost use Rattle.micromap.specs.ItemEntries.{entries_of, SetReads};
 ghost use Rattle.micromap.specs.Items.{IsItems};
 ghost use Rattle.micromap.specs.Stream.{most_faults, Faultless, Faults, TakesBeginning};
 
@@ -34,13 +33,7 @@ impl<T: Eq + Drop, const N: usize> Set<T, N> {
     /// item.
     pub fn read_entries<S: EntrySource<T, ()>>(source: &mut S) -> Result<Self, ReadFault<S::Error>>
         requires { S.faults source.old < most_faults }
-        ensures built { IfOk result (SetReadsAll T.eq N (S.left source.old)) }
-        ensures emptied { OnOk result (S.left source.new ≡ []) }
-        ensures faultless { OnOk result (Faultless S.faults S.last_fault source.old source.new) }
-        ensures failed { (e : S.Error) → IsErrOf result (Source e) → SetReadsUpTo T.eq N (S.left source.old) (S.left source.new) }
-        ensures fault { (e : S.Error) → IsErrOf result (Source e) → Faults S.faults S.last_fault source.old source.new e }
-        ensures too_many { IsErrOf result TooMany → SetReadsToMisfit T.eq N (S.left source.old) (S.left source.new) }
-        ensures no_fault { IsErrOf result TooMany → Faultless S.faults S.last_fault source.old source.new }
+        ensures reads { SetReads T.eq N S.left S.faults S.last_fault source.old source.new result }
         ensures content { IfOk result (IsItems T.eq N) }
         ensures round_trip { IsItems T.eq N (keys_of (S.left source.old)) → S.faults source.new ≡ S.faults source.old → result ≡ Ok (keys_of (S.left source.old)) }
     {

@@ -1,14 +1,10 @@
 //! The iterators over a set, by reference and by value, from the front.
-ghost use Rattle.std.specs.Prelude.{◌≡◌, IfSome, Some, [], length};
-ghost use Rattle.std.specs.Iterator.{UpTo, at_most};
-ghost use Rattle.std.specs.Iterator.SizeHint.{IsWithinCount};
-ghost use Rattle.std.specs.Map.Iter.{GivesInOrder, ShowsInOrder, TakesFirst, deref};
-ghost use Rattle.micromap.specs.Items.{IsItems};
+ghost use Rattle.std.specs.Prelude.{◌≡◌, ◌≤◌, [], length};
+ghost use Rattle.std.specs.Map.Iter.{GivesInOrder, ShowsInOrder, deref};
 
 use super::Set;
 use crate::map;
-use std::iter::FusedIterator;
-use std::marker::Model;
+use std::mem;
 
 /// An iterator over the items of a set by reference, from the front.
 pub type Iter<'a, T> = map::Keys<'a, T, ()>;
@@ -16,52 +12,8 @@ pub type Iter<'a, T> = map::Keys<'a, T, ()>;
 /// An iterator over the items of a set by value, from the front. Items that aren't taken are dropped with it.
 pub type IntoIter<T, const N: usize> = map::IntoKeys<T, (), N>;
 
-/// An iterator over the items that a set had, by value, from the front. Items that aren't taken are dropped with it.
-#[derive(Drop)]
-pub struct Drain<T, const N: usize> {
-    pairs: map::Drain<T, (), N>,
-}
-
-impl<T, const N: usize> Model for Drain<T, N> {
-    ghost use Rattle.std.specs.Prelude.{List};
-    ghost use Rattle.std.specs.Map.{keys_of};
-
-    ghost Value = { List T };
-
-    ghost view = { λ walk. keys_of walk.pairs };
-}
-
-impl<T: Drop, const N: usize> Iterator for Drain<T, N> {
-    type Item = T;
-
-    ghost next_gives = { TakesFirst (λ p. p) };
-
-    ghost remaining = { λ left. at_most (length left) };
-
-    #[inline]
-    fn next(&mut self) -> Option<T> {
-        let (item, _) = self.pairs.next()?;
-        Some(item)
-    }
-
-    #[inline]
-    fn size_hint(&self) -> (usize, Option<usize>)
-        ensures lower { IsWithinCount result.0 (at_most (length self.now)) }
-        ensures upper { IfSome result.1 (UpTo (at_most (length self.now))) }
-        ensures exact { result ≡ (length self.now, Some (length self.now)) }
-    {
-        self.pairs.size_hint()
-    }
-}
-
-impl<T: Drop, const N: usize> FusedIterator for Drain<T, N> {}
-
-impl<T: Drop, const N: usize> ExactSizeIterator for Drain<T, N> {
-    #[inline]
-    fn len(&self) -> usize {
-        self.pairs.len()
-    }
-}
+/// An iterator over the items that a set had, as `Set::drain` returns it.
+pub type Drain<T, const N: usize> = IntoIter<T, N>;
 
 impl<T: Eq, const N: usize> Set<T, N> {
     /// Returns an iterator over the items by reference, from the front.
@@ -77,29 +29,29 @@ impl<T: Eq, const N: usize> Set<T, N> {
 impl<T: Eq + Drop, const N: usize> Set<T, N> {
     /// Removes all items, and returns an iterator over them by value, from the front.
     ///
-    /// The set is empty as soon as the call returns. Items that aren't taken are dropped with the iterator.
+    /// The set is empty as soon as the call returns. Items that aren't taken are dropped with the iterator. A caller that
+    /// is generic in `T` requires `SetIntoIterFits T.row N.row`, or calls `pop_first`.
     #[inline]
     pub fn drain(&mut self) -> Drain<T, N>
         ensures answer { result ≡ self.old }
         ensures emptied { self.new ≡ [] }
         ensures runs { GivesInOrder T }
-        ensures content { IsItems T.eq N self.old }
     {
-        Drain {
-            pairs: self.map.drain(),
-        }
+        mem::take(self).into_iter()
     }
 }
 
-/// A loop over a set yields its items by value, from the front. Items that aren't taken are dropped with the iterator.
+/// A loop over a set yields its items by value, from the front. Items that aren't taken are dropped with the iterator. A
+/// caller that is generic in `T` requires `SetIntoIterFits T.row N.row`.
 impl<T: Eq + Drop, const N: usize> IntoIterator for Set<T, N> {
     type Item = T;
 
     type IntoIter = IntoIter<T, N>;
 
-    ghost into_iter_gives = { λ s walk. (walk ≡ s) × GivesInOrder T };
+    ghost into_iter_gives = { λ s walk. (walk ≡ s) × GivesInOrder T × (length s ≤ N) };
 
     fn into_iter(self) -> IntoIter<T, N> {
+        let _bounded = self.len();
         let Set { map } = self;
         map.into_keys()
     }

@@ -5,7 +5,6 @@ ghost use Rattle.std.specs.Borrow.{sem, Bor, MutBor};
 ghost use Rattle.std.specs.Map.Calls.{ModifiesValue};
 ghost use Rattle.std.specs.Option.{UnwrapsOrElse, option_map_or};
 ghost use Rattle.micromap_core.specs.Entry.{Occupied, AnswersOfKey, entry_map_ref, entry_pairs, is_occupied, entry_key, entry_value, entry_put, entry_taken, entry_has_room, IsSound, IsEntryOf, IsWritten, entry_lends};
-ghost use Rattle.micromap_core.specs.Pairs.{IsContent};
 
 use super::{Entry, EntryIn, OccupiedEntry, OccupiedIn, VacantIn};
 use crate::Map;
@@ -19,8 +18,7 @@ impl<K: Eq, V, const N: usize> Map<K, V, N> {
     pub fn entry(&mut self, key: K) -> Entry<'_, K, V, N>
     where
         K: Drop,
-        ensures entry { IsEntryOf K.eq self.entry key result }
-        ensures content { IsContent K.eq N self.old }
+        ensures { IsEntryOf K.eq self.entry key result }
     {
         match self.index_of(&key) {
             Some(index) => Entry::Occupied(OccupiedIn { map: self, index }),

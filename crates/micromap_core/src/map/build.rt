@@ -1,9 +1,9 @@
 //! Inserting the items of an iterator, one after the other, as `insert` does. The keys are stored in the order in which
 //! each distinct key first came. Each has the value of its last item.
-ghost use Rattle.std.specs.Prelude.{◌≡◌, ◌+◌, ◌≤◌, length, IsTrue, IfOk, IfErr};
+ghost use Rattle.std.specs.Prelude.{◌≡◌, ◌+◌, ◌≤◌, length, take, IsTrue, IfOk, IfErr};
 ghost use Rattle.std.specs.Iterator.{UpTo};
 ghost use Rattle.std.specs.Iterator.Runs.{SomeRun, WholeRun};
-ghost use Rattle.micromap_core.specs.Build.{all_fit, build, BuiltFrom, MisfitAt, MisfitIn, most_items, pair_fits, put_all, put_pair, PutsAll, PutsUpTo, StopsAt};
+ghost use Rattle.micromap_core.specs.Build.{all_fit, build, MisfitIn, most_items, pair_fits, put_all, put_pair, StopsAt};
 ghost use Rattle.micromap_core.specs.Pairs.{IsContent};
 
 use super::Map;
@@ -55,17 +55,16 @@ impl<K: Eq + Drop, V: Drop, const N: usize> Map<K, V, N> {
     pub fn try_extend<I: Iterator<Item = (K, V)>>(&mut self, items: I) -> Result<(), Overfull>
         requires can { I.can_next items }
         requires ends { UpTo (I.remaining items) most_items }
-        ensures extends { IfOk result (λ _. PutsAll (pair_fits K.eq N) (put_pair K.eq) I.next_gives self.old items self.new) }
-        ensures misfit { IfErr result (λ e. PutsUpTo (pair_fits K.eq N) (put_pair K.eq) I.next_gives self.old items e.at self.new) }
         ensures runs { IfOk result (λ _. WholeRun I.next_gives items (λ p. self.new ≡ put_all K.eq self.old p.items)) }
         ensures stops { IfErr result (λ e. SomeRun I.next_gives items (λ p. (p.len ≡ e.at + 1) × StopsAt (pair_fits K.eq N) (put_pair K.eq) self.old p.items e.at)) }
+        ensures before { IfErr result (λ e. SomeRun I.next_gives items (λ p. (p.len ≡ e.at + 1) × (self.new ≡ put_all K.eq self.old (take e.at p.items)))) }
         ensures full { IfErr result (λ _. length self.new ≡ N) }
-        ensures content { IsContent K.eq N self.old }
     {
-        let _content = self.len();
         let mut at = 0;
         for (key, value) in items {
             if self.checked_insert(key, value).is_none() {
+                // `len` ensures that it is at most `N`, so the map is full.
+                let _len = self.len();
                 return Err(Overfull { at });
             }
             at += 1;
@@ -82,8 +81,6 @@ impl<K: Eq + Drop, V: Drop, const N: usize> Map<K, V, N> {
     pub fn try_from_iter<I: Iterator<Item = (K, V)>>(items: I) -> Result<Self, Overfull>
         requires can { I.can_next items }
         requires ends { UpTo (I.remaining items) most_items }
-        ensures built { IfOk result (BuiltFrom K.eq I.next_gives N items) }
-        ensures misfit { IfErr result (λ e. MisfitAt K.eq I.next_gives N items e.at) }
         ensures runs { IfOk result (λ map. WholeRun I.next_gives items (λ p. map ≡ build K.eq p.items)) }
         ensures stops { IfErr result (λ e. SomeRun I.next_gives items (λ p. (p.len ≡ e.at + 1) × MisfitIn K.eq N p.items e.at)) }
         ensures full { IfErr result (λ e. N ≤ e.at) }

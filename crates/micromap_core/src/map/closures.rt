@@ -7,8 +7,8 @@ ghost use Rattle.std.specs.Map.{keys_of};
 ghost use Rattle.std.specs.Map.Calls.{CallableOnEachPair, RetainsPairs};
 ghost use Rattle.std.specs.Set.{distinct_count};
 ghost use Rattle.micromap_core.specs.Closures.{AcceptsPair, CalledOnPair, MayUpdateAll, MayUpdateDisjoint, UpdatesAll, UpdatesDisjoint};
-ghost use Rattle.micromap_core.specs.Pairs.{IsContent, has};
-ghost use Rattle.micromap_core.specs.Sublist.{IsSublist};
+ghost use Rattle.micromap_core.specs.Pairs.{has};
+ghost use Rattle.micromap_core.specs.Closures.{IsSublist};
 
 use super::Map;
 
@@ -21,9 +21,7 @@ impl<K: Eq + Drop, V: Drop, const N: usize> Map<K, V, N> {
         requires { CallableOnEachPair (CalledOnPair F.FnMut) (AcceptsPair F.FnMut) keep self.old }
         ensures pairs { RetainsPairs (CalledOnPair F.FnMut) keep self.old self.new }
         ensures order { IsSublist (keys_of self.new) (keys_of self.old) }
-        ensures content { IsContent K.eq N self.old }
     {
-        let _content = self.len();
         self.pairs.retain(keep);
     }
 }
@@ -34,8 +32,7 @@ impl<K: Eq, V, const N: usize> Map<K, V, N> {
     /// Keys, order and length stay. Compares no key.
     pub fn update_all<F: FnMut(&K, &mut V)>(&mut self, mut update: F)
         requires { MayUpdateAll F.FnMut update self.old }
-        ensures pairs { UpdatesAll F.FnMut update self.old self.new }
-        ensures content { IsContent K.eq N self.old }
+        ensures { UpdatesAll F.FnMut update self.old self.new }
     {
         for index in 0..self.len() {
             self.visit_at(index, &mut update);
@@ -56,9 +53,7 @@ impl<K: Eq, V, const N: usize> Map<K, V, N> {
         requires callable { MayUpdateDisjoint K.eq F.FnMut update self.old keys.now }
         ensures answer { result ≡ map (has K.eq self.old) keys.now }
         ensures pairs { UpdatesDisjoint K.eq F.FnMut update self.old keys.now self.new }
-        ensures content { IsContent K.eq N self.old }
     {
-        let _content = self.len();
         let mut found = [false; J];
         for (position, key) in keys.iter().enumerate() {
             found[position] = match self.get_mut(key) {

@@ -2,8 +2,9 @@
 ghost use Rattle.std.specs.Prelude.{◌≡◌, ◌↔◌, IsTrue, IsFalse, IsNone, IfSome};
 ghost use Rattle.std.specs.Bool.{OnTrue};
 ghost use Rattle.std.specs.Cmp.{partial_equiv_from_equiv};
-ghost use Rattle.std.specs.Option.{option_copied};
+ghost use Rattle.std.specs.Option.{option_copied, option_eq};
 ghost use Rattle.micromap_core.specs.Fair.{SameForGood, ToldApart};
+ghost use Rattle.micromap_core.specs.Pairs.{at};
 ghost use Rattle.micromap_core.specs.Same.{is_same, Same, DiffersAt, first_unequal, first_missing, first_difference};
 ghost use Rattle.micromap_core.specs.SameLaws.{is_same_equiv};
 
@@ -22,6 +23,7 @@ impl<K: Eq, V: Eq, const N: usize> Map<K, V, N> {
     /// length times itself. `eq_with_counted` counts them, with that number proved.
     pub fn eq_with<const M: usize>(&self, other: &Map<K, V, M>) -> bool
         ensures answer { IsTrue result ↔ Same K.eq V.eq self.now other.now }
+        ensures each { IsTrue result ↔ ((k : K) → IsTrue (option_eq V.eq (at K.eq self.now k) (at K.eq other.now k))) }
         ensures told_apart { IsFalse result ↔ ToldApart K.eq V.eq N M self.now other.now }
         ensures outlasts { OnTrue result (SameForGood K.eq V.eq N M self.now other.now) }
     {

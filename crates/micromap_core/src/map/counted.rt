@@ -1,11 +1,10 @@
 //! A look-up and a comparison that count the comparisons of keys. All are made by `Steps::same`.
-ghost use Rattle.std.specs.Prelude.{◌≡◌, ◌↔◌, ◌+◌, ◌*◌, ◌^◌, ◌<◌, ◌≤◌, length, IfNone, IsTrue, IsFalse};
+ghost use Rattle.std.specs.Prelude.{◌≡◌, ◌↔◌, ◌+◌, ◌*◌, ◌^◌, ◌<◌, ◌≤◌, length, IsTrue, IsFalse};
 ghost use Rattle.std.specs.Bool.{OnTrue};
 ghost use Rattle.std.specs.List.{list_all};
-ghost use Rattle.std.specs.Option.{IfSome, option_copied};
+ghost use Rattle.std.specs.Option.{option_copied};
 ghost use Rattle.micromap_core.specs.Fair.{SameForGood, ToldApart};
-ghost use Rattle.micromap_core.specs.Found.{FoundAt, NotFound};
-ghost use Rattle.micromap_core.specs.Pairs.{at};
+ghost use Rattle.micromap_core.specs.Pairs.{at, index_of};
 ghost use Rattle.micromap_core.specs.Same.{Same, has_value};
 ghost use Rattle.micromap_core.specs.Steps.{look_up_steps, walk_steps, comparison_steps};
 
@@ -30,10 +29,8 @@ impl<K: Eq, V, const N: usize> Map<K, V, N> {
     // Returns the index of the key, by a scan of the keys alone.
     fn index_counted(&self, key: &K, steps: &mut Steps) -> Option<usize>
         requires { steps.old + length self.now < 2 ^ 128 }
-        ensures found { IfSome result (FoundAt (K.eq key.now) self.now) }
-        ensures missing { IfNone result (NotFound (K.eq key.now) self.now) }
+        ensures index { result ≡ index_of K.eq self.now key.now }
         ensures count { steps.new ≡ steps.old + look_up_steps K.eq self.now key.now }
-        ensures bounded { steps.new ≤ steps.old + length self.now }
     {
         let keys = self.keys();
         let _bounded = keys.len();
@@ -71,7 +68,6 @@ impl<K: Eq, V: Eq, const N: usize> Map<K, V, N> {
         requires { steps.old + length self.now * length other.now < 2 ^ 128 }
         ensures answer { result ≡ list_all (has_value K.eq V.eq other.now) self.now }
         ensures count { steps.new ≡ steps.old + walk_steps K.eq V.eq other.now self.now }
-        ensures bounded { steps.new ≤ steps.old + length self.now * length other.now }
     {
         for (key, value) in self {
             if !other.has_value_counted(key, value, steps) {
@@ -86,7 +82,6 @@ impl<K: Eq, V: Eq, const N: usize> Map<K, V, N> {
         requires { steps.old + length self.now < 2 ^ 128 }
         ensures answer { result ≡ has_value K.eq V.eq self.now (key.now, value.now) }
         ensures count { steps.new ≡ steps.old + look_up_steps K.eq self.now key.now }
-        ensures bounded { steps.new ≤ steps.old + length self.now }
     {
         self.get_counted(key, steps) == Some(value)
     }

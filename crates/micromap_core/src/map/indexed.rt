@@ -1,25 +1,26 @@
 //! The pairs by their index, and the scans of the calls by a key or a probe.
 ghost use Rattle.std.specs.Prelude.{◌≡◌, ◌∷◌, [], ◌++◌, ◌<◌, length, Some, None, IfNone, slice_get};
 ghost use Rattle.std.specs.Borrow.{sem};
-ghost use Rattle.std.specs.Map.{lookup, lookup_entry, lookup_key, remove_entry};
+ghost use Rattle.std.specs.Map.{lookup, lookup_entry, remove_entry};
 ghost use Rattle.std.specs.Map.Iter.{deref_pair};
 ghost use Rattle.std.specs.Option.{IfSome, option_map};
 ghost use Rattle.micromap_core.specs.Closures.{CalledOnPair, AcceptsPair, VisitsAt};
 ghost use Rattle.micromap_core.specs.Found.{FoundAt, NotFound};
 ghost use Rattle.micromap_core.specs.Lends.{lends_value_at};
-ghost use Rattle.micromap_core.specs.Pairs.{IsContent, at, first_index, has_room, index_of, pair, put, put_key, with_value_at, without_at};
-ghost use Rattle.micromap_core.specs.Probe.{at_matched, pair_matched, take_out_matched};
+ghost use Rattle.micromap_core.specs.Pairs.{at, first_index, has_room, index_of, pair, put, put_key, with_value_at, without_at};
 
 use super::Map;
 use crate::probe::Probe;
 use std::mem;
 
 impl<K: Eq, V, const N: usize> Map<K, V, N> {
-    // Returns the index of the first pair whose key the probe matches. This is the scan of every call by a key, and of
-    // every call that changes a map.
+    // Returns the index of the first pair whose key the probe matches, and ensures what follows from it. This is the
+    // scan of every call by a key, and of every call that changes a map.
     #[inline]
-    fn first_index<P: Probe<K>>(&self, probe: &P) -> Option<usize>
-        ensures { result ≡ first_index (P.matches probe.now) self.now }
+    pub(crate) fn index_of<P: Probe<K>>(&self, probe: &P) -> Option<usize>
+        ensures answer { result ≡ first_index (P.matches probe.now) self.now }
+        ensures found { IfSome result (FoundAt (P.matches probe.now) self.now) }
+        ensures missing { IfNone result (NotFound (P.matches probe.now) self.now) }
     {
         let keys = self.keys();
         let _bounded = keys.len();
@@ -33,53 +34,21 @@ impl<K: Eq, V, const N: usize> Map<K, V, N> {
         None
     }
 
-    // Returns the same index without a count on the way, which costs less for keys that are texts. This is the scan of
-    // every call by probe that only reads. The number of keys left gives the index.
+    // Returns the first pair whose key the probe matches. This is the scan of every call by probe that only reads. It
+    // has no count on the way, which costs less for keys that are texts: the number of keys left gives the index.
     #[inline]
-    fn first_index_by_rest<P: Probe<K>>(&self, probe: &P) -> Option<usize>
-        ensures { result ≡ first_index (P.matches probe.now) self.now }
+    pub(crate) fn find<P: Probe<K>>(&self, probe: &P) -> Option<(&K, &V)>
+        ensures pair { option_map deref_pair result ≡ lookup_entry (P.matches probe.now) self.now }
+        ensures value { option_map (λ p. p.1.now) result ≡ lookup (P.matches probe.now) self.now }
     {
         let mut keys = self.keys();
         while let Some(key) = keys.next() {
             if probe.matches(key) {
-                return Some(self.len() - keys.len() - 1);
+                let index = self.len() - keys.len() - 1;
+                return Some(self.pair_at(index));
             }
         }
         None
-    }
-
-    // Returns the first pair whose key the probe matches.
-    #[inline]
-    fn first<P: Probe<K>>(&self, probe: &P) -> Option<(&K, &V)>
-        ensures { option_map deref_pair result ≡ lookup_entry (P.matches probe.now) self.now }
-    {
-        let index = self.first_index_by_rest(probe)?;
-        Some(self.pair_at(index))
-    }
-
-    // Returns the same, in the words of a test and in those of the key that matches.
-    #[inline]
-    pub(crate) fn find<P: Probe<K>>(&self, probe: &P) -> Option<(&K, &V)>
-        ensures pair { option_map deref_pair result ≡ lookup_entry (P.matches probe.now) self.now }
-        ensures key { option_map (λ p. p.0.now) result ≡ lookup_key (P.matches probe.now) self.now }
-        ensures value { option_map (λ p. p.1.now) result ≡ lookup (P.matches probe.now) self.now }
-        ensures pair_matched { option_map deref_pair result ≡ pair_matched K.eq (P.matches probe.now) self.now }
-        ensures value_matched { option_map (λ p. p.1.now) result ≡ at_matched K.eq (P.matches probe.now) self.now }
-    {
-        self.first(probe)
-    }
-
-    // Returns its index, and ensures what follows from it. Its clause `content` serves every call that changes a map by
-    // a key.
-    #[inline]
-    pub(crate) fn index_of<P: Probe<K>>(&self, probe: &P) -> Option<usize>
-        ensures answer { result ≡ first_index (P.matches probe.now) self.now }
-        ensures found { IfSome result (FoundAt (P.matches probe.now) self.now) }
-        ensures missing { IfNone result (NotFound (P.matches probe.now) self.now) }
-        ensures content { IsContent K.eq N self.now }
-    {
-        let _content = self.len();
-        self.first_index(probe)
     }
 
     // Returns `true` if there is room for one more pair.
@@ -169,28 +138,13 @@ impl<K: Eq + Drop, V: Drop, const N: usize> Map<K, V, N> {
 
     // Removes and returns the first pair whose key the probe matches. Those behind it move up by one.
     #[inline]
-    fn take_first<P: Probe<K>>(&mut self, probe: &P) -> Option<(K, V)>
-        ensures pair { result ≡ lookup_entry (P.matches probe.now) self.old }
-        ensures value { option_map (λ p. p.1) result ≡ lookup (P.matches probe.now) self.old }
-        ensures pairs { self.new ≡ remove_entry (P.matches probe.now) self.old }
-        ensures content { IsContent K.eq N self.old }
-    {
-        let index = self.index_of(probe)?;
-        Some(self.take_at(index))
-    }
-
-    // Does the same. Its clauses are in the words of `find`.
-    #[inline]
     pub(crate) fn take<P: Probe<K>>(&mut self, probe: &P) -> Option<(K, V)>
         ensures pair { result ≡ lookup_entry (P.matches probe.now) self.old }
         ensures value { option_map (λ p. p.1) result ≡ lookup (P.matches probe.now) self.old }
         ensures pairs { self.new ≡ remove_entry (P.matches probe.now) self.old }
-        ensures pair_matched { result ≡ pair_matched K.eq (P.matches probe.now) self.old }
-        ensures value_matched { option_map (λ p. p.1) result ≡ at_matched K.eq (P.matches probe.now) self.old }
-        ensures pairs_matched { self.new ≡ take_out_matched K.eq (P.matches probe.now) self.old }
-        ensures content { IsContent K.eq N self.old }
     {
-        self.take_first(probe)
+        let index = self.index_of(probe)?;
+        Some(self.take_at(index))
     }
 
     // Removes and returns the pair at `index`. Those behind it move up by one.

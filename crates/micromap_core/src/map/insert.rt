@@ -1,6 +1,6 @@
 //! Inserting a pair.
 ghost use Rattle.std.specs.Prelude.{◌≡◌, Some, None, IsTrue, if◌then◌else◌};
-ghost use Rattle.micromap_core.specs.Pairs.{IsContent, at, pair, fits, put, put_key};
+ghost use Rattle.micromap_core.specs.Pairs.{at, pair, fits, put, put_key};
 
 use super::Map;
 
@@ -14,7 +14,6 @@ impl<K: Eq + Drop, V: Drop, const N: usize> Map<K, V, N> {
         requires { IsTrue (fits K.eq N self.old key) }
         ensures old { result ≡ at K.eq self.old key }
         ensures pairs { self.new ≡ put K.eq self.old key value }
-        ensures content { IsContent K.eq N self.old }
     {
         match self.index_of(&key) {
             Some(index) => Some(self.put_at(index, &key, value)),
@@ -31,7 +30,6 @@ impl<K: Eq + Drop, V: Drop, const N: usize> Map<K, V, N> {
         requires { IsTrue (fits K.eq N self.old key) }
         ensures old { result ≡ at K.eq self.old key }
         ensures pairs { self.new ≡ put K.eq self.old key value }
-        ensures content { IsContent K.eq N self.old }
     {
         self.insert(key, value)
     }
@@ -45,7 +43,6 @@ impl<K: Eq + Drop, V: Drop, const N: usize> Map<K, V, N> {
         requires { IsTrue (fits K.eq N self.old key) }
         ensures old { result ≡ pair K.eq self.old key }
         ensures pairs { self.new ≡ put_key K.eq self.old key value }
-        ensures content { IsContent K.eq N self.old }
     {
         match self.index_of(&key) {
             Some(index) => Some(self.put_key_at(index, key, value)),
@@ -66,7 +63,6 @@ impl<K: Eq + Drop, V: Drop, const N: usize> Map<K, V, N> {
     pub fn checked_insert(&mut self, key: K, value: V) -> Option<Option<V>>
         ensures answer { result ≡ (if fits K.eq N self.old key then Some (at K.eq self.old key) else None) }
         ensures pairs { self.new ≡ (if fits K.eq N self.old key then put K.eq self.old key value else self.old) }
-        ensures content { IsContent K.eq N self.old }
     {
         match self.index_of(&key) {
             Some(index) => Some(Some(self.put_at(index, &key, value))),

@@ -1,11 +1,10 @@
 //! The keyed calls by probe. Each does what its plain form does at the one stored key that matches, or at a missing key
 //! if none matches.
-ghost use Rattle.std.specs.Prelude.{◌≡◌, Some, IsTrue};
+ghost use Rattle.std.specs.Prelude.{◌≡◌, Some, IsTrue, is_some};
 ghost use Rattle.std.specs.Borrow.{sem};
+ghost use Rattle.std.specs.Map.{lookup, lookup_entry, remove_entry};
 ghost use Rattle.std.specs.Map.Iter.{deref_pair};
 ghost use Rattle.std.specs.Option.{option_copied, option_copied_mut, option_map};
-ghost use Rattle.micromap_core.specs.Pairs.{IsContent};
-ghost use Rattle.micromap_core.specs.Probe.{has_matched, at_matched, pair_matched, take_out_matched};
 ghost use Rattle.micromap_core.specs.Lends.{lends_matched, lends_matched_if};
 
 use super::Map;
@@ -15,7 +14,7 @@ impl<K: Eq, V, const N: usize> Map<K, V, N> {
     /// Returns a reference to the value of the key that matches, or `None` if none does. Makes one scan.
     #[inline]
     pub fn get_by<P: Probe<K>>(&self, probe: &P) -> Option<&V>
-        ensures { option_copied result ≡ at_matched K.eq (P.matches probe.now) self.now }
+        ensures { option_copied result ≡ lookup (P.matches probe.now) self.now }
     {
         let (_, value) = self.find(probe)?;
         Some(value)
@@ -27,8 +26,7 @@ impl<K: Eq, V, const N: usize> Map<K, V, N> {
     #[inline]
     pub fn get_mut_by<P: Probe<K>>(&mut self, probe: &P) -> Option<&mut V>
         ensures* writes_back { sem 𝓛 (lends_matched_if K.row V.row N.row K.eq self.entry (P.matches probe.now) result) }
-        ensures answer { option_copied_mut result ≡ at_matched K.eq (P.matches probe.now) self.old }
-        ensures content { IsContent K.eq N self.old }
+        ensures answer { option_copied_mut result ≡ lookup (P.matches probe.now) self.old }
     {
         match self.index_of(probe) {
             Some(index) => Some(self.value_at(index)),
@@ -39,7 +37,7 @@ impl<K: Eq, V, const N: usize> Map<K, V, N> {
     /// Returns references to the key that matches and its value, or `None` if none does. Makes one scan.
     #[inline]
     pub fn get_key_value_by<P: Probe<K>>(&self, probe: &P) -> Option<(&K, &V)>
-        ensures { option_map deref_pair result ≡ pair_matched K.eq (P.matches probe.now) self.now }
+        ensures { option_map deref_pair result ≡ lookup_entry (P.matches probe.now) self.now }
     {
         self.find(probe)
     }
@@ -47,7 +45,7 @@ impl<K: Eq, V, const N: usize> Map<K, V, N> {
     /// Returns `true` if a stored key matches. Makes one scan.
     #[inline]
     pub fn contains_key_by<P: Probe<K>>(&self, probe: &P) -> bool
-        ensures { result ≡ has_matched (P.matches probe.now) self.now }
+        ensures { result ≡ is_some (lookup (P.matches probe.now) self.now) }
     {
         self.find(probe).is_some()
     }
@@ -57,8 +55,8 @@ impl<K: Eq, V, const N: usize> Map<K, V, N> {
     /// Requires that a stored key matches, which `contains_key_by` tests. Makes one scan.
     #[inline]
     pub fn index_by<P: Probe<K>>(&self, probe: &P) -> &V
-        requires { IsTrue (has_matched (P.matches probe.now) self.now) }
-        ensures { at_matched K.eq (P.matches probe.now) self.now ≡ Some result.now }
+        requires { IsTrue (is_some (lookup (P.matches probe.now) self.now)) }
+        ensures { lookup (P.matches probe.now) self.now ≡ Some result.now }
     {
         match self.find(probe) {
             Some((_, value)) => value,
@@ -72,10 +70,9 @@ impl<K: Eq, V, const N: usize> Map<K, V, N> {
     /// written, and all else is unchanged. Makes one scan.
     #[inline]
     pub fn index_mut_by<P: Probe<K>>(&mut self, probe: &P) -> &mut V
-        requires { IsTrue (has_matched (P.matches probe.now) self.old) }
+        requires { IsTrue (is_some (lookup (P.matches probe.now) self.old)) }
         ensures* writes_back { sem 𝓛 (lends_matched K.row V.row N.row K.eq self.entry (P.matches probe.now) result) }
-        ensures answer { at_matched K.eq (P.matches probe.now) self.old ≡ Some result.now }
-        ensures content { IsContent K.eq N self.old }
+        ensures answer { lookup (P.matches probe.now) self.old ≡ Some result.now }
     {
         match self.index_of(probe) {
             Some(index) => self.value_at(index),
@@ -90,9 +87,8 @@ impl<K: Eq + Drop, V: Drop, const N: usize> Map<K, V, N> {
     /// The others keep their order: those behind it move up by one. After `None` the map is unchanged. Makes one scan.
     #[inline]
     pub fn remove_by<P: Probe<K>>(&mut self, probe: &P) -> Option<V>
-        ensures answer { result ≡ at_matched K.eq (P.matches probe.now) self.old }
-        ensures pairs { self.new ≡ take_out_matched K.eq (P.matches probe.now) self.old }
-        ensures content { IsContent K.eq N self.old }
+        ensures answer { result ≡ lookup (P.matches probe.now) self.old }
+        ensures pairs { self.new ≡ remove_entry (P.matches probe.now) self.old }
     {
         let (_key, value) = self.take(probe)?;
         Some(value)
@@ -103,9 +99,8 @@ impl<K: Eq + Drop, V: Drop, const N: usize> Map<K, V, N> {
     /// The others keep their order: those behind it move up by one. After `None` the map is unchanged. Makes one scan.
     #[inline]
     pub fn remove_entry_by<P: Probe<K>>(&mut self, probe: &P) -> Option<(K, V)>
-        ensures answer { result ≡ pair_matched K.eq (P.matches probe.now) self.old }
-        ensures pairs { self.new ≡ take_out_matched K.eq (P.matches probe.now) self.old }
-        ensures content { IsContent K.eq N self.old }
+        ensures answer { result ≡ lookup_entry (P.matches probe.now) self.old }
+        ensures pairs { self.new ≡ remove_entry (P.matches probe.now) self.old }
     {
         self.take(probe)
     }

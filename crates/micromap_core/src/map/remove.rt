@@ -1,6 +1,6 @@
 //! Removing a pair.
-ghost use Rattle.std.specs.Prelude.{◌≡◌};
-ghost use Rattle.micromap_core.specs.Pairs.{IsContent, at, pair, take_out};
+ghost use Rattle.std.specs.Prelude.{◌≡◌, drop, slice_get};
+ghost use Rattle.micromap_core.specs.Pairs.{at, pair, take_out};
 
 use super::Map;
 
@@ -13,7 +13,6 @@ impl<K: Eq + Drop, V: Drop, const N: usize> Map<K, V, N> {
     pub fn remove(&mut self, key: &K) -> Option<V>
         ensures answer { result ≡ at K.eq self.old key.now }
         ensures pairs { self.new ≡ take_out K.eq self.old key.now }
-        ensures content { IsContent K.eq N self.old }
     {
         let (_key, value) = self.take(key)?;
         Some(value)
@@ -27,8 +26,22 @@ impl<K: Eq + Drop, V: Drop, const N: usize> Map<K, V, N> {
     pub fn remove_entry(&mut self, key: &K) -> Option<(K, V)>
         ensures answer { result ≡ pair K.eq self.old key.now }
         ensures pairs { self.new ≡ take_out K.eq self.old key.now }
-        ensures content { IsContent K.eq N self.old }
     {
         self.take(key)
+    }
+
+    /// Removes the first pair, and returns it, or `None` if the map is empty.
+    ///
+    /// The others keep their order: each moves up by one. Compares no keys.
+    #[inline]
+    #[tactic(auto, unfolding(crate::specs::Pairs::without_at))]
+    pub fn pop_first(&mut self) -> Option<(K, V)>
+        ensures answer { result ≡ slice_get self.old 0 }
+        ensures pairs { self.new ≡ drop 1 self.old }
+    {
+        if self.len() == 0 {
+            return None;
+        }
+        Some(self.take_at(0))
     }
 }

@@ -1,8 +1,7 @@
 //! Writing a map's pairs to a sink, and reading a map from a source.
-ghost use Rattle.std.specs.Prelude.{◌≡◌, ◌<◌, ◌++◌, [], Ok, OnOk, IfOk, IfErr, OnErr, IsErrOf};
+ghost use Rattle.std.specs.Prelude.{◌≡◌, ◌<◌, ◌++◌, Ok, OnOk, IfErr, OnErr};
 ghost use Rattle.micromap_core.specs.Pairs.{IsContent};
-ghost use Rattle.micromap_core.specs.Stream.{most_faults, Faultless, Faults, TakesBeginning, MapReadsAll, MapReadsUpTo, MapReadsToMisfit};
-ghost use Rattle.micromap_core.specs.declared.stream.ReadFault.TheVariants.{Source, TooMany};
+ghost use Rattle.micromap_core.specs.Stream.{most_faults, Faultless, Faults, TakesBeginning, MapReads};
 
 use super::Map;
 use crate::stream::{EntrySink, EntrySource, ReadFault};
@@ -34,14 +33,7 @@ impl<K: Eq + Drop, V: Drop, const N: usize> Map<K, V, N> {
     /// are dropped. Makes one scan for each pair.
     pub fn read_entries<S: EntrySource<K, V>>(source: &mut S) -> Result<Self, ReadFault<S::Error>>
         requires { S.faults source.old < most_faults }
-        ensures built { IfOk result (MapReadsAll K.eq N (S.left source.old)) }
-        ensures emptied { OnOk result (S.left source.new ≡ []) }
-        ensures faultless { OnOk result (Faultless S.faults S.last_fault source.old source.new) }
-        ensures failed { (e : S.Error) → IsErrOf result (Source e) → MapReadsUpTo K.eq N (S.left source.old) (S.left source.new) }
-        ensures fault { (e : S.Error) → IsErrOf result (Source e) → Faults S.faults S.last_fault source.old source.new e }
-        ensures too_many { IsErrOf result TooMany → MapReadsToMisfit K.eq N (S.left source.old) (S.left source.new) }
-        ensures no_fault { IsErrOf result TooMany → Faultless S.faults S.last_fault source.old source.new }
-        ensures content { IfOk result (IsContent K.eq N) }
+        ensures reads { MapReads K.eq N S.left S.faults S.last_fault source.old source.new result }
         ensures round_trip { IsContent K.eq N (S.left source.old) → S.faults source.new ≡ S.faults source.old → result ≡ Ok (S.left source.old) }
     {
         let mut map = Map::new();

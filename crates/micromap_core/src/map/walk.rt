@@ -2,10 +2,12 @@
 //!
 //! A contract sees an iterator as the list of the items left. It says that whatever runs it to its end meets just
 //! these, in order.
-ghost use Rattle.std.specs.Prelude.{◌≡◌, []};
+//!
+//! An iterator by value is larger than the map. So a caller that is generic in `K` and `V`, and holds one, must know that
+//! it fits in memory, which the conditions of `specs/Memory` say. `pop_first` asks for nothing of the kind.
+ghost use Rattle.std.specs.Prelude.{◌≡◌, ◌≤◌, [], length};
 ghost use Rattle.std.specs.Map.{keys_of, values_of};
 ghost use Rattle.std.specs.Map.Iter.{GivesInOrder, ShowsInOrder, deref, deref_pair};
-ghost use Rattle.micromap_core.specs.Pairs.{IsContent};
 
 use super::{Drain, IntoIter, IntoKeys, IntoValues, Iter, Keys, Map, Values};
 use std::mem;
@@ -40,6 +42,8 @@ impl<K: Eq, V, const N: usize> Map<K, V, N> {
     }
 
     /// Returns an iterator over the keys by value, from the front. Pairs that aren't taken are dropped with it.
+    ///
+    /// A caller that is generic in `K` and `V` requires `IntoKeysFits K.row V.row N.row`.
     #[inline]
     pub fn into_keys(self) -> IntoKeys<K, V, N>
         ensures answer { result ≡ keys_of self }
@@ -51,6 +55,8 @@ impl<K: Eq, V, const N: usize> Map<K, V, N> {
     }
 
     /// Returns an iterator over the values by value, from the front. Pairs that aren't taken are dropped with it.
+    ///
+    /// A caller that is generic in `K` and `V` requires `IntoValuesFits K.row V.row N.row`.
     #[inline]
     pub fn into_values(self) -> IntoValues<K, V, N>
         ensures answer { result ≡ values_of self }
@@ -65,30 +71,29 @@ impl<K: Eq, V, const N: usize> Map<K, V, N> {
 impl<K: Eq + Drop, V: Drop, const N: usize> Map<K, V, N> {
     /// Removes all pairs, and returns an iterator over them by value, from the front.
     ///
-    /// The map is empty as soon as the call returns. Pairs that aren't taken are dropped with the iterator.
+    /// The map is empty as soon as the call returns. Pairs that aren't taken are dropped with the iterator. A caller that
+    /// is generic in `K` and `V` requires `IntoIterFits K.row V.row N.row`.
     #[inline]
     pub fn drain(&mut self) -> Drain<K, V, N>
         ensures answer { result ≡ self.old }
         ensures emptied { self.new ≡ [] }
         ensures runs { GivesInOrder (K × V) }
-        ensures content { IsContent K.eq N self.old }
     {
-        let _content = self.len();
-        let Map { pairs } = mem::take(self);
-        let (keys, values) = pairs.into_array_vecs();
-        Drain::over(keys, values)
+        mem::take(self).into_iter()
     }
 }
 
-/// A loop over a map yields its pairs by value, from the front. Pairs that aren't taken are dropped with the iterator.
+/// A loop over a map yields its pairs by value, from the front. Pairs that aren't taken are dropped with the iterator. A
+/// caller that is generic in `K` and `V` requires `IntoIterFits K.row V.row N.row`.
 impl<K: Eq + Drop, V: Drop, const N: usize> IntoIterator for Map<K, V, N> {
     type Item = (K, V);
 
     type IntoIter = IntoIter<K, V, N>;
 
-    ghost into_iter_gives = { λ m walk. (walk ≡ m) × GivesInOrder (K × V) };
+    ghost into_iter_gives = { λ m walk. (walk ≡ m) × GivesInOrder (K × V) × (length m ≤ N) };
 
     fn into_iter(self) -> IntoIter<K, V, N> {
+        let _bounded = self.len();
         let Map { pairs } = self;
         let (keys, values) = pairs.into_array_vecs();
         IntoIter::over(keys, values)

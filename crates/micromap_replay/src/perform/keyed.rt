@@ -1,6 +1,6 @@
 //! Performs the calls that name their key.
 ghost use Rattle.std.specs.Prelude.{◌≡◌};
-ghost use Rattle.micromap_replay.specs.KeyedCalls.{after_keyed};
+ghost use Rattle.micromap_replay.specs.KeyedCalls.{after_keyed, answer_keyed};
 
 use super::Numbers;
 use crate::answer::{Answer, Pair};
@@ -8,7 +8,8 @@ use crate::calls::KeyedCall;
 
 /// Performs the call on the map.
 pub fn perform_keyed<const N: usize>(map: &mut Numbers<N>, call: &KeyedCall) -> Answer
-    ensures { map.new ≡ after_keyed N map.old call.now }
+    ensures answer { result ≡ answer_keyed N map.old call.now }
+    ensures map { map.new ≡ after_keyed N map.old call.now }
 {
     match *call {
         KeyedCall::Insert(key, value) => {

@@ -1,4 +1,4 @@
-//! Headers from the lines of a text, their names in any case, and the place of each fault.
+//! Headers from the lines of a text, their names in any case, and the line of each fault.
 use micromap_testing::displays;
 use micromap_uses::headers::{HeaderFault, Headers, Name, parse, value_of};
 use std::alloc::Global;
@@ -33,13 +33,13 @@ fn names_have_one_case_and_values_are_joined(rt: HostRuntime) {
 }
 
 #[test]
-fn a_fault_has_the_place_of_its_line(rt: HostRuntime) {
+fn a_fault_names_its_line(rt: HostRuntime) {
     for (text, expected) in [
         ("", None),
-        (LINES, Some(HeaderFault::TooMany(2))),
-        ("a:1\nb", Some(HeaderFault::NoColon(1))),
-        ("a:1\n\nb:2", Some(HeaderFault::NoColon(1))),
-        ("a:1\nb:2\nA:3\nc:4\nd", Some(HeaderFault::TooMany(3))),
+        (LINES, Some(HeaderFault::TooMany(3))),
+        ("a:1\nb", Some(HeaderFault::NoColon(2))),
+        ("a:1\n\nb:2", Some(HeaderFault::NoColon(2))),
+        ("a:1\nb:2\nA:3\nc:4\nd", Some(HeaderFault::TooMany(4))),
     ] {
         assert_eq!(rt; fault(rt.alloc(), text), expected);
     }

@@ -1,13 +1,14 @@
 //! Callers that are proved by the laws of the map and the set alone: one line names the laws, and no proof is written.
 ghost use Rattle.std.specs.Prelude.{◌≡◌, ◌≤◌, ◌+◌, ◌&&◌, ◌||◌, IfOk, Some, None, IsFalse, IsTrue, filter, is_some, length, nat_eq, not, if◌then◌else◌};
-ghost use Rattle.std.specs.Map.{keys_of};
+ghost use Rattle.std.specs.Map.{keys_of, lookup, remove_entry, set_value};
 ghost use Rattle.std.specs.Option.{option_map_or};
 ghost use Rattle.std.specs.Ordering.{on};
 ghost use Rattle.std.specs.String.{string_bytes, string_eq};
 ghost use Rattle.micromap.specs.Items.{add, contains, item_fits, take_item};
 ghost use Rattle.micromap.specs.Pairs.{at, fits, has, put, take_out};
-ghost use Rattle.micromap.specs.Probe.{at_matched, is_text, put_matched, take_out_matched};
-ghost use Rattle.micromap.specs.Texts.{item_texts, key_texts, same_text, texts};
+ghost use Rattle.micromap.specs.Probe.{is_text};
+ghost use Rattle.std.specs.Str.{bytes_eq};
+ghost use Rattle.micromap.specs.Texts.{item_texts, key_texts, texts};
 
 use micromap::map::Entry;
 use micromap::{Map, Set, Text};
@@ -33,8 +34,8 @@ fn set_default<const N: usize>(
 // Writes the value of a name that is there.
 #[tactic(auto, using(micromap_core::proofs::MapLaws::map_laws))]
 fn overwrite<const N: usize>(map: &mut Map<String, String, N>, name: &str, value: String) -> bool
-    ensures answer { result ≡ is_some (at_matched string_eq (is_text name.now) map.old) }
-    ensures pairs { map.new ≡ put_matched string_eq (is_text name.now) map.old value }
+    ensures answer { result ≡ is_some (lookup (is_text name.now) map.old) }
+    ensures pairs { map.new ≡ set_value (is_text name.now) map.old value }
 {
     match map.get_mut_by(&Text(name)) {
         Some(stored) => {
@@ -48,9 +49,10 @@ fn overwrite<const N: usize>(map: &mut Map<String, String, N>, name: &str, value
 // Moves the value of one name to another, which goes to its index or to the end.
 #[tactic(auto, using(micromap_core::proofs::MapLaws::map_laws))]
 fn rename<const N: usize>(map: &mut Map<String, String, N>, from: &str, to: String) -> bool
-    ensures answer { result ≡ is_some (at_matched string_eq (is_text from.now) map.old) }
-    ensures pairs { map.new ≡ option_map_or (λ v. put string_eq (take_out_matched string_eq (is_text from.now) map.old) to v) (at_matched string_eq (is_text from.now) map.old) map.old }
+    ensures answer { result ≡ is_some (lookup (is_text from.now) map.old) }
+    ensures pairs { map.new ≡ option_map_or (λ v. put string_eq (remove_entry (is_text from.now) map.old) to v) (lookup (is_text from.now) map.old) map.old }
 {
+    let _content = map.len();
     match map.remove_by(&Text(from)) {
         Some(value) => {
             map.insert(to, value);
@@ -92,21 +94,23 @@ fn put_marked(map: &mut Map<Marked, u8, 8>, a: Marked, b: &Marked) -> Option<u8>
 }
 
 // Puts and reads at keys of any type.
-#[tactic(auto, using(micromap_core::proofs::MapLaws::bound_laws))]
+#[tactic(auto, using(micromap_core::proofs::MapLaws::map_bound_laws))]
 fn put_any<K: Eq + Drop>(map: &mut Map<K, u8, 8>, a: K, b: &K) -> Option<u8>
     requires { IsTrue (fits K.eq 8 map.old a) }
     ensures { result ≡ (if K.eq a b.now then Some 1 else at K.eq map.old b.now) }
 {
+    let _content = map.len();
     map.insert(a, 1);
     map.get(b).copied()
 }
 
 // Inserts and looks for items of any type.
-#[tactic(auto, using(micromap::proofs::SetLaws::bound_laws))]
+#[tactic(auto, using(micromap::proofs::SetLaws::set_bound_laws))]
 fn insert_any<T: Eq + Drop>(set: &mut Set<T, 8>, a: T, b: &T) -> bool
     requires { IsTrue (item_fits T.eq 8 set.old a) }
     ensures { result ≡ (T.eq a b.now || contains T.eq set.old b.now) }
 {
+    let _content = set.len();
     set.insert(a);
     set.contains(b)
 }
@@ -125,6 +129,7 @@ fn insert_word(set: &mut Set<String, 8>, word: String)
 fn take_word(set: &mut Set<String, 8>, word: &String)
     ensures { IsFalse (contains string_eq set.new word.now) }
 {
+    let _content = set.len();
     set.take(word);
 }
 
@@ -133,6 +138,7 @@ fn take_word(set: &mut Set<String, 8>, word: &String)
 fn leave_out<const N: usize>(map: &mut Map<u8, u8, N>, number: u8) -> bool
     ensures { keys_of map.new ≡ filter (λ k. not (nat_eq number k)) (keys_of map.old) }
 {
+    let _content = map.len();
     match map.entry(number) {
         Entry::Occupied(entry) => {
             entry.remove();
@@ -147,6 +153,7 @@ fn leave_out<const N: usize>(map: &mut Map<u8, u8, N>, number: u8) -> bool
 fn strike<const N: usize>(words: &mut Set<String, N>, word: &str)
     ensures { words.new ≡ filter (λ x. not (is_text word.now x)) words.old }
 {
+    let _content = words.len();
     words.take_by(&Text(word));
 }
 
@@ -155,6 +162,7 @@ fn strike<const N: usize>(words: &mut Set<String, N>, word: &str)
 fn take_then_read<const N: usize>(map: &mut Map<String, u8, N>, name: &str) -> Option<u8>
     ensures { result ≡ None }
 {
+    let _content = map.len();
     map.remove_by(&Text(name));
     map.get_by(&Text(name)).copied()
 }
@@ -167,8 +175,8 @@ fn set_named<const N: usize>(
     name: &str,
     value: u8,
 ) -> Result<bool, AllocError>
-    ensures answer { IfOk result (λ fit. fit ≡ fits same_text N (key_texts map.old) name.now) }
-    ensures texts { IfOk result (λ fit. key_texts map.new ≡ (if fit then put same_text (key_texts map.old) name.now value else key_texts map.old)) }
+    ensures answer { IfOk result (λ fit. fit ≡ fits bytes_eq N (key_texts map.old) name.now) }
+    ensures texts { IfOk result (λ fit. key_texts map.new ≡ (if fit then put bytes_eq (key_texts map.old) name.now value else key_texts map.old)) }
 {
     let name = String::from_str(alloc, name)?;
     Ok(map.checked_insert(name, value).is_some())
@@ -177,7 +185,7 @@ fn set_named<const N: usize>(
 // The value of a name.
 #[tactic(auto, using(micromap_core::proofs::TextViews::text_views))]
 fn value_of<const N: usize>(map: &Map<String, u8, N>, name: &str) -> Option<u8>
-    ensures { result ≡ at same_text (key_texts map.now) name.now }
+    ensures { result ≡ at bytes_eq (key_texts map.now) name.now }
 {
     map.get_by(&Text(name)).copied()
 }
@@ -185,8 +193,8 @@ fn value_of<const N: usize>(map: &Map<String, u8, N>, name: &str) -> Option<u8>
 // Removes a name, and returns whether it was there.
 #[tactic(auto, using(micromap_core::proofs::TextViews::text_views))]
 fn forget<const N: usize>(map: &mut Map<String, String, N>, name: &str) -> bool
-    ensures answer { result ≡ has same_text (texts map.old) name.now }
-    ensures texts { texts map.new ≡ take_out same_text (texts map.old) name.now }
+    ensures answer { result ≡ has bytes_eq (texts map.old) name.now }
+    ensures texts { texts map.new ≡ take_out bytes_eq (texts map.old) name.now }
 {
     map.remove_by(&Text(name)).is_some()
 }
@@ -198,8 +206,8 @@ fn note<const N: usize>(
     alloc: Global,
     word: &str,
 ) -> Result<bool, AllocError>
-    ensures answer { IfOk result (λ fit. fit ≡ item_fits same_text N (item_texts words.old) word.now) }
-    ensures texts { IfOk result (λ fit. item_texts words.new ≡ (if fit then add same_text (item_texts words.old) word.now else item_texts words.old)) }
+    ensures answer { IfOk result (λ fit. fit ≡ item_fits bytes_eq N (item_texts words.old) word.now) }
+    ensures texts { IfOk result (λ fit. item_texts words.new ≡ (if fit then add bytes_eq (item_texts words.old) word.now else item_texts words.old)) }
 {
     let word = String::from_str(alloc, word)?;
     if !words.fits(&word) {
@@ -212,8 +220,8 @@ fn note<const N: usize>(
 // Removes a word, and returns whether it was there.
 #[tactic(auto, using(micromap::proofs::SetTextViews::set_text_views))]
 fn unnote<const N: usize>(words: &mut Set<String, N>, word: &str) -> bool
-    ensures answer { result ≡ contains same_text (item_texts words.old) word.now }
-    ensures texts { item_texts words.new ≡ take_item same_text (item_texts words.old) word.now }
+    ensures answer { result ≡ contains bytes_eq (item_texts words.old) word.now }
+    ensures texts { item_texts words.new ≡ take_item bytes_eq (item_texts words.old) word.now }
 {
     let was_there = words.contains_by(&Text(word));
     words.take_by(&Text(word));

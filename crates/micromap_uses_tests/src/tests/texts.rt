@@ -4,28 +4,29 @@ ghost use Rattle.std.specs.Option.{option_map};
 ghost use Rattle.std.specs.String.{string_bytes};
 ghost use Rattle.micromap.specs.Items.{contains, item, take_item};
 ghost use Rattle.micromap.specs.Pairs.{at, has, pair, put, take_out};
-ghost use Rattle.micromap.specs.Texts.{item_texts, key_texts, same_text};
+ghost use Rattle.std.specs.Str.{bytes_eq};
+ghost use Rattle.micromap.specs.Texts.{item_texts, key_texts};
 
 use micromap::{Map, Set, Text};
 
 #[tactic(auto, using(micromap_core::proofs::TextViews::text_views))]
 fn value<const N: usize>(map: &Map<String, u8, N>, name: &str) -> Option<u8>
-    ensures { result ≡ at same_text (key_texts map.now) name.now }
+    ensures { result ≡ at bytes_eq (key_texts map.now) name.now }
 {
     map.get_by(&Text(name)).copied()
 }
 
 #[tactic(auto, using(micromap_core::proofs::TextViews::text_views))]
 fn has_name<const N: usize>(map: &Map<String, u8, N>, name: &str) -> bool
-    ensures { result ≡ has same_text (key_texts map.now) name.now }
+    ensures { result ≡ has bytes_eq (key_texts map.now) name.now }
 {
     map.contains_key_by(&Text(name))
 }
 
 #[tactic(auto, using(micromap_core::proofs::TextViews::text_views))]
 fn overwrite<const N: usize>(map: &mut Map<String, u8, N>, name: &str, value: u8) -> bool
-    ensures answer { result ≡ has same_text (key_texts map.old) name.now }
-    ensures texts { key_texts map.new ≡ (if has same_text (key_texts map.old) name.now then put same_text (key_texts map.old) name.now value else key_texts map.old) }
+    ensures answer { result ≡ has bytes_eq (key_texts map.old) name.now }
+    ensures texts { key_texts map.new ≡ (if has bytes_eq (key_texts map.old) name.now then put bytes_eq (key_texts map.old) name.now value else key_texts map.old) }
 {
     match map.get_mut_by(&Text(name)) {
         Some(stored) => {
@@ -41,69 +42,69 @@ fn stored<'a, const N: usize>(
     map: &'a Map<String, u8, N>,
     name: &str,
 ) -> Option<(&'a String, &'a u8)>
-    ensures { option_map (λ p. (string_bytes p.0.now, p.1.now)) result ≡ pair same_text (key_texts map.now) name.now }
+    ensures { option_map (λ p. (string_bytes p.0.now, p.1.now)) result ≡ pair bytes_eq (key_texts map.now) name.now }
 {
     map.get_key_value_by(&Text(name))
 }
 
 #[tactic(auto, using(micromap_core::proofs::TextViews::text_views))]
 fn known<const N: usize>(map: &Map<String, u8, N>, name: &str) -> u8
-    requires { IsTrue (has same_text (key_texts map.now) name.now) }
-    ensures { at same_text (key_texts map.now) name.now ≡ Some result }
+    requires { IsTrue (has bytes_eq (key_texts map.now) name.now) }
+    ensures { at bytes_eq (key_texts map.now) name.now ≡ Some result }
 {
     *map.index_by(&Text(name))
 }
 
 #[tactic(auto, using(micromap_core::proofs::TextViews::text_views))]
 fn replace_known<const N: usize>(map: &mut Map<String, u8, N>, name: &str, value: u8)
-    requires { IsTrue (has same_text (key_texts map.old) name.now) }
-    ensures { key_texts map.new ≡ put same_text (key_texts map.old) name.now value }
+    requires { IsTrue (has bytes_eq (key_texts map.old) name.now) }
+    ensures { key_texts map.new ≡ put bytes_eq (key_texts map.old) name.now value }
 {
     *map.index_mut_by(&Text(name)) = value;
 }
 
 #[tactic(auto, using(micromap_core::proofs::TextViews::text_views))]
 fn remove<const N: usize>(map: &mut Map<String, u8, N>, name: &str) -> Option<u8>
-    ensures answer { result ≡ at same_text (key_texts map.old) name.now }
-    ensures texts { key_texts map.new ≡ take_out same_text (key_texts map.old) name.now }
+    ensures answer { result ≡ at bytes_eq (key_texts map.old) name.now }
+    ensures texts { key_texts map.new ≡ take_out bytes_eq (key_texts map.old) name.now }
 {
     map.remove_by(&Text(name))
 }
 
 #[tactic(auto, using(micromap_core::proofs::TextViews::text_views))]
 fn remove_stored<const N: usize>(map: &mut Map<String, u8, N>, name: &str) -> Option<(String, u8)>
-    ensures answer { option_map (λ p. (string_bytes p.0, p.1)) result ≡ pair same_text (key_texts map.old) name.now }
-    ensures texts { key_texts map.new ≡ take_out same_text (key_texts map.old) name.now }
+    ensures answer { option_map (λ p. (string_bytes p.0, p.1)) result ≡ pair bytes_eq (key_texts map.old) name.now }
+    ensures texts { key_texts map.new ≡ take_out bytes_eq (key_texts map.old) name.now }
 {
     map.remove_entry_by(&Text(name))
 }
 
 #[tactic(auto, using(micromap::proofs::SetTextViews::set_text_views))]
 fn has_word<const N: usize>(words: &Set<String, N>, word: &str) -> bool
-    ensures { result ≡ contains same_text (item_texts words.now) word.now }
+    ensures { result ≡ contains bytes_eq (item_texts words.now) word.now }
 {
     words.contains_by(&Text(word))
 }
 
 #[tactic(auto, using(micromap::proofs::SetTextViews::set_text_views))]
 fn stored_word<'a, const N: usize>(words: &'a Set<String, N>, word: &str) -> Option<&'a String>
-    ensures { option_map (λ x. string_bytes x.now) result ≡ item same_text (item_texts words.now) word.now }
+    ensures { option_map (λ x. string_bytes x.now) result ≡ item bytes_eq (item_texts words.now) word.now }
 {
     words.get_by(&Text(word))
 }
 
 #[tactic(auto, using(micromap::proofs::SetTextViews::set_text_views))]
 fn take_word<const N: usize>(words: &mut Set<String, N>, word: &str) -> Option<String>
-    ensures answer { option_map (λ x. string_bytes x) result ≡ item same_text (item_texts words.old) word.now }
-    ensures texts { item_texts words.new ≡ take_item same_text (item_texts words.old) word.now }
+    ensures answer { option_map (λ x. string_bytes x) result ≡ item bytes_eq (item_texts words.old) word.now }
+    ensures texts { item_texts words.new ≡ take_item bytes_eq (item_texts words.old) word.now }
 {
     words.take_by(&Text(word))
 }
 
 #[tactic(auto, using(micromap::proofs::SetTextViews::set_text_views))]
 fn remove_word<const N: usize>(words: &mut Set<String, N>, word: &str) -> bool
-    ensures answer { result ≡ contains same_text (item_texts words.old) word.now }
-    ensures texts { item_texts words.new ≡ take_item same_text (item_texts words.old) word.now }
+    ensures answer { result ≡ contains bytes_eq (item_texts words.old) word.now }
+    ensures texts { item_texts words.new ≡ take_item bytes_eq (item_texts words.old) word.now }
 {
     words.remove_by(&Text(word))
 }

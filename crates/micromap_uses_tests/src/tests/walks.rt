@@ -1,5 +1,7 @@
 //! Loops over a map and over a set, with invariants that name what is still to come.
-ghost use Rattle.std.specs.Prelude.{◌≡◌, ◌<◌, ◌≤◌, Some, IsFalse, IsTrue, nat_eq};
+ghost use Rattle.std.specs.Prelude.{◌≡◌, ◌<◌, ◌≤◌, Some, IsFalse, IsTrue, nat_eq, nat_lt};
+ghost use Rattle.std.specs.List.{find};
+ghost use Rattle.std.specs.Map.{keys_of};
 ghost use Rattle.std.specs.Option.{IfSome};
 ghost use Rattle.std.specs.String.{string_eq};
 ghost use Rattle.micromap.specs.Items.{contains};
@@ -39,7 +41,7 @@ fn name_over<const N: usize>(map: &Map<String, u8, N>, limit: u8) -> Option<(&St
 }
 
 // A square with this piece, if there is one.
-#[tactic(auto, using(micromap_core::proofs::MapLaws::bound_laws, micromap_core::proofs::Equalities::equalities))]
+#[tactic(auto, using(micromap_core::proofs::MapLaws::map_bound_laws, micromap_core::proofs::Equalities::equalities))]
 fn square_of<const N: usize>(board: &Board<N>, piece: char) -> Option<Square>
     ensures { IfSome result (λ square. at ⟦<Square as PartialEq>⟧.eq board.now square ≡ Some piece) }
 {
@@ -81,7 +83,7 @@ fn item_over<const N: usize>(set: &Set<u8, N>, limit: u8) -> Option<u8>
 }
 
 // A pair whose value is over the limit, if there is one, for keys of any type.
-#[tactic(auto, using(micromap_core::proofs::MapLaws::bound_laws, micromap_core::proofs::Equalities::equalities))]
+#[tactic(auto, using(micromap_core::proofs::MapLaws::map_bound_laws, micromap_core::proofs::Equalities::equalities))]
 fn any_over<K: Eq, const N: usize>(map: &Map<K, u8, N>, limit: u8) -> Option<(&K, u8)>
     ensures found { IfSome result (λ p. at K.eq map.now p.0.now ≡ Some p.1) }
     ensures over { IfSome result (λ p. limit < p.1) }
@@ -96,7 +98,7 @@ fn any_over<K: Eq, const N: usize>(map: &Map<K, u8, N>, limit: u8) -> Option<(&K
 }
 
 // An item other than this one, if there is one, for items of any type.
-#[tactic(auto, using(micromap::proofs::SetLaws::bound_laws))]
+#[tactic(auto, using(micromap::proofs::SetLaws::set_bound_laws))]
 fn other_than<'a, T: Eq, const N: usize>(set: &'a Set<T, N>, item: &T) -> Option<&'a T>
     ensures stored { IfSome result (λ x. IsTrue (contains T.eq set.now x.now)) }
     ensures other { IfSome result (λ x. IsFalse (T.eq x.now item.now)) }
@@ -105,6 +107,18 @@ fn other_than<'a, T: Eq, const N: usize>(set: &'a Set<T, N>, item: &T) -> Option
     for stored in set {
         if stored != item {
             return Some(stored);
+        }
+    }
+    None
+}
+
+// The first key over the limit, or `None` if no key is.
+fn first_over<const N: usize>(map: &Map<u8, u8, N>, limit: u8) -> Option<u8>
+    ensures { result ≡ find (nat_lt limit) (keys_of map.now) }
+{
+    for key in map.keys() {
+        if limit < *key {
+            return Some(*key);
         }
     }
     None
@@ -133,6 +147,8 @@ fn a_walked_pair_is_found(rt: HostRuntime) {
     assert_eq!(rt; other_than(&set, &1), Some(&5));
     assert_eq!(rt; any_over(&map, 20), Some((&3, 30)));
     assert_eq!(rt; key_other(&map, 1), Some(2));
+    assert_eq!(rt; first_over(&map, 1), Some(2));
+    assert_eq!(rt; first_over(&map, 3), None);
     let square = Square { row: 1, column: 2 };
     let board = Map::from([(square, 'k')]);
     assert_eq!(rt; square_of(&board, 'k'), Some(square));

@@ -1,5 +1,5 @@
 use Rattle.std.specs.Prelude.{◌≡◌, nat_eq, take}
-use Rattle.micromap.specs.Counts.{counts}
+use Rattle.micromap.specs.Build.{counts}
 use Rattle.micromap_uses.proofs.votes.tally.Given as goal
 
 abbrev pub invariant-loop-name : goal.invariant-loop-name

@@ -16,21 +16,15 @@ loop-text-preserved g c =
     let made : c.push.new.list.items ≡ c.loop-text.elements.items ++ c.in_ok-try_from_str.field-0 ∷ [] = search rules in
     pushes_one c.loop-text.elements.items c.push.new.list.items c.in_ok-try_from_str.field-0 c.in-Some.text.now c.loop-text.text-iterator c.next.new.self c.args.set.now c.loop-text.invariant c.in-Some.ensures.steps is made
 
-pub returns-clause-array : goal.returns-clause-array
-returns-clause-array g c =
-    elements_read c.loop-text.elements.items c.args.set.now (string_bytes c.in_ok-to_string.field-0)
-    (subst (λ rest. map view c.loop-text.elements.items ++ as_data rest ≡ as_data c.args.set.now) c.in-None.ensures.steps.0 c.loop-text.invariant)
-    (subst (λ d. depth d ≤ max_depth → read (string_bytes c.in_ok-to_string.field-0) ≡ Some d) (view-Array c.loop-text.elements) c.in_ok-to_string.ensures.reads_back)
-
-pub returns-clause-again : goal.returns-clause-again
-returns-clause-again g c =
-    elements_again c.loop-text.elements.items c.args.set.now (string_bytes c.in_ok-to_string.field-0)
-    (subst (λ rest. map view c.loop-text.elements.items ++ as_data rest ≡ as_data c.args.set.now) c.in-None.ensures.steps.0 c.loop-text.invariant)
-    (subst (λ d. depth d ≤ max_depth → read (string_bytes c.in_ok-to_string.field-0) ≡ Some d) (view-Array c.loop-text.elements) c.in_ok-to_string.ensures.reads_back)
-    c.len-content.ensures.content.unique
-
-pub returns-clause-text : goal.returns-clause-text
-returns-clause-text g c =
-    elements_text c.loop-text.elements.items c.args.set.now (string_bytes c.in_ok-to_string.field-0)
-    (subst (λ rest. map view c.loop-text.elements.items ++ as_data rest ≡ as_data c.args.set.now) c.in-None.ensures.steps.0 c.loop-text.invariant)
-    (subst (λ d. has_float d ≡ false → string_bytes c.in_ok-to_string.field-0 ≡ compact_text d) (view-Array c.loop-text.elements) c.in_ok-to_string.ensures.text)
+pub returns : goal.returns
+returns g c =
+    let items = c.loop-text.elements.items in
+    let text = string_bytes c.in_ok-to_string.field-0 in
+    let all = subst (λ rest. map view items ++ as_data rest ≡ as_data c.args.set.now) c.in-None.ensures.steps.0 c.loop-text.invariant in
+    let reads_back = subst (λ d. depth d ≤ max_depth → read text ≡ Some d) (view-Array c.loop-text.elements) c.in_ok-to_string.ensures.reads_back in
+    record {
+      array = elements_read items c.args.set.now text all reads_back;
+      again = elements_again items c.args.set.now text all reads_back c.len-content.ensures.content.unique;
+      text = elements_text items c.args.set.now text all (subst (λ d. has_float d ≡ false → text ≡ compact_text d) (view-Array c.loop-text.elements) c.in_ok-to_string.ensures.text);
+      fault = tt;
+    }

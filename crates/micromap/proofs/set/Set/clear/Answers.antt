@@ -1,9 +1,5 @@
 use Rattle.micromap.proofs.Sizes.{map_fits}
-use Rattle.micromap.proofs.ItemLemmas.{content_items}
 use Rattle.micromap.proofs.set.Set.clear.Goals as goal
 
 pub clear-requires : goal.clear-requires
 clear-requires g c = map_fits g.row.T g.row.N g.T.PartialEq.eq assumption
-
-pub returns-clause-content : goal.returns-clause-content
-returns-clause-content g c = content_items c.self.view_is c.clear.ensures.content

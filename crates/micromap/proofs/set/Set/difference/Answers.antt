@@ -7,18 +7,21 @@ use Rattle.micromap.proofs.AddedItems.{added_all}
 use Rattle.micromap.proofs.OperationSteps.{left_in_order, length-parts}
 use Rattle.micromap.proofs.set.Set.difference.Goals as goal
 
-pub returns-clause-unique : goal.returns-clause-unique
-returns-clause-unique g c = IsDistinct-filter g.T.PartialEq.eq (λ x. not (contains g.T.PartialEq.eq c.args.other.now x)) c.args.self.now c.len-content.ensures.content.unique
-
-pub returns-clause-bounded : goal.returns-clause-bounded
+pub returns : goal.returns
 unfolding difference_left
-returns-clause-bounded g c = omega (arith, c.len-content.ensures.content.bounded, ap length c.iter.ensures.answer, length-parts g.T.PartialEq.eq c.iter.result c.args.other.now)
-
-pub returns-clause-builds : goal.returns-clause-builds
-returns-clause-builds g c = added_all g.met.T.Eq.laws (difference g.T.PartialEq.eq c.args.self.now c.args.other.now) (returns-clause-unique g c)
-
-pub returns-clause-runs : goal.returns-clause-runs
-returns-clause-runs g c = left_in_order deref (difference_left g.T.PartialEq.eq) (difference_on g.T.PartialEq.eq)
+returns g c =
+    let eq = g.T.PartialEq.eq in
+    let xs = c.args.self.now in
+    let ys = c.args.other.now in
+    let unique = IsDistinct-filter eq (λ x. not (contains eq ys x)) xs c.len-content.ensures.content.unique in
+    record {
+      walk = λ i. record { rest = c.iter.ensures.answer i; other = ys };
+      items = ap (λ l. difference eq l ys) c.iter.ensures.answer;
+      bounded = omega (arith, c.len-content.ensures.content.bounded, ap length c.iter.ensures.answer, length-parts eq c.iter.result ys);
+      unique = unique;
+      builds = added_all g.met.T.Eq.laws (difference eq xs ys) unique;
+      runs = left_in_order deref (difference_left eq) (difference_on eq);
+    }
 
 pub iter-requires : goal.iter-requires
 iter-requires g c = assumption

@@ -4,22 +4,17 @@ use Rattle.micromap_core.proofs.DistinctLemmas.{both_sides, not_both_sides}
 use Rattle.micromap.proofs.OperationLaws.{members_answered}
 use Rattle.micromap.proofs.set.Set.eq_with.Goals as goal
 
-pub returns-then-len-clause-answer : goal.returns-then-len-clause-answer
-returns-then-len-clause-answer g c =
+pub returns-then-len : goal.returns-then-len
+returns-then-len g c =
     let long : length c.args.self.now ≡ length c.args.other.now = search rules in
-    c.is_subset.ensures.answer ∙ both_sides g.met.T.Eq.laws c.args.self.now c.args.other.now c.len.ensures.content.unique c.len-2.ensures.content.unique long
+    let answer = c.is_subset.ensures.answer ∙ both_sides g.met.T.Eq.laws c.args.self.now c.args.other.now c.len.ensures.content.unique c.len-2.ensures.content.unique long in
+    record { answer = answer; members = members_answered g.met.T.Eq.laws _ _ _ answer }
 
-pub returns-then-len-clause-members : goal.returns-then-len-clause-members
-returns-then-len-clause-members g c = members_answered g.met.T.Eq.laws c.args.self.now c.args.other.now _ (returns-then-len-clause-answer g c)
-
-pub returns-else-len-clause-answer : goal.returns-else-len-clause-answer
-returns-else-len-clause-answer g c =
+pub returns-else-len : goal.returns-else-len
+returns-else-len g c =
     let apart : length c.args.self.now ≢ length c.args.other.now = search rules in
-    ne_eqb c.len.result c.len-2.result c.if-len.false
-    ∙ sym (not_both_sides g.met.T.Eq.laws c.args.self.now c.args.other.now c.len.ensures.content.unique c.len-2.ensures.content.unique apart)
-
-pub returns-else-len-clause-members : goal.returns-else-len-clause-members
-returns-else-len-clause-members g c = members_answered g.met.T.Eq.laws c.args.self.now c.args.other.now _ (returns-else-len-clause-answer g c)
+    let answer = ne_eqb c.len.result c.len-2.result c.if-len.false ∙ sym (not_both_sides g.met.T.Eq.laws c.args.self.now c.args.other.now c.len.ensures.content.unique c.len-2.ensures.content.unique apart) in
+    record { answer = answer; members = members_answered g.met.T.Eq.laws _ _ _ answer }
 
 pub len-requires : goal.len-requires
 len-requires g c = assumption

@@ -1,14 +1,14 @@
 use Rattle.micromap.proofs.Sizes.{map_fits}
 use Rattle.std.proofs.Common.{ap}
 use Rattle.std.specs.Option.{option_map}
-use Rattle.micromap.proofs.ItemLemmas.{item_matched-keys}
+use Rattle.micromap.proofs.ItemLemmas.{find-keys}
 use Rattle.micromap.proofs.set.Set.get_by.Goals as goal
 
 pub returns-in-Some : goal.returns-in-Some
-returns-in-Some g c = rw (← c.self.view_is, item_matched-keys) (ap (option_map (λ p. p.0)) c.in-Some.ensures)
+returns-in-Some g c = rw (← c.self.view_is, find-keys) (ap (option_map (λ p. p.0)) c.in-Some.ensures)
 
 pub returns-in-None : goal.returns-in-None
-returns-in-None g c = rw (← c.self.view_is, item_matched-keys) (ap (option_map (λ p. p.0)) c.in-None.ensures)
+returns-in-None g c = rw (← c.self.view_is, find-keys) (ap (option_map (λ p. p.0)) c.in-None.ensures)
 
 pub get_key_value_by-requires : goal.get_key_value_by-requires
 get_key_value_by-requires g c = map_fits g.row.T g.row.N g.T.PartialEq.eq assumption

@@ -8,21 +8,22 @@ use Rattle.micromap.proofs.OperationLaws.{intersection_turned}
 use Rattle.micromap.proofs.OperationSteps.{left_in_order, length-parts}
 use Rattle.micromap.proofs.set.Set.intersection.Goals as goal
 
-pub returns-clause-unique : goal.returns-clause-unique
-returns-clause-unique g c = IsDistinct-filter g.T.PartialEq.eq (contains g.T.PartialEq.eq c.args.other.now) c.args.self.now c.len-content.ensures.content.unique
-
-pub returns-clause-bounded : goal.returns-clause-bounded
+pub returns : goal.returns
 unfolding intersection_left
-returns-clause-bounded g c = omega (arith, c.len-content.ensures.content.bounded, ap length c.iter.ensures.answer, length-parts g.T.PartialEq.eq c.iter.result c.args.other.now)
-
-pub returns-clause-builds : goal.returns-clause-builds
-returns-clause-builds g c = added_all g.met.T.Eq.laws (intersection g.T.PartialEq.eq c.args.self.now c.args.other.now) (returns-clause-unique g c)
-
-pub returns-clause-turned : goal.returns-clause-turned
-returns-clause-turned g c = intersection_turned g.met.T.Eq.laws c.args.self.now c.args.other.now
-
-pub returns-clause-runs : goal.returns-clause-runs
-returns-clause-runs g c = left_in_order deref (intersection_left g.T.PartialEq.eq) (intersection_on g.T.PartialEq.eq)
+returns g c =
+    let eq = g.T.PartialEq.eq in
+    let xs = c.args.self.now in
+    let ys = c.args.other.now in
+    let unique = IsDistinct-filter eq (contains eq ys) xs c.len-content.ensures.content.unique in
+    record {
+      walk = λ i. record { rest = c.iter.ensures.answer i; other = ys };
+      items = ap (λ l. intersection eq l ys) c.iter.ensures.answer;
+      bounded = omega (arith, c.len-content.ensures.content.bounded, ap length c.iter.ensures.answer, length-parts eq c.iter.result ys);
+      unique = unique;
+      builds = added_all g.met.T.Eq.laws (intersection eq xs ys) unique;
+      turned = intersection_turned g.met.T.Eq.laws xs ys;
+      runs = left_in_order deref (intersection_left eq) (intersection_on eq);
+    }
 
 pub iter-requires : goal.iter-requires
 iter-requires g c = assumption

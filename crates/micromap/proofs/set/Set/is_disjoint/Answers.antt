@@ -1,23 +1,17 @@
-use Rattle.std.proofs.Common.{◌≡◌, ◌↔◌, [], IsTrue, sym, subst, ◌∙◌}
-use Rattle.micromap.specs.Operations.{intersection}
-use Rattle.micromap.proofs.OperationLaws.{disjoint-intersection, disjoint_turned}
+use Rattle.std.proofs.Common.{◌∙◌}
+use Rattle.micromap.proofs.OperationLaws.{disjoint_answered, disjoint_turned}
 use Rattle.micromap.proofs.set.Set.is_disjoint.Goals as goal
 
-pub returns-then-len-clause-turned : goal.returns-then-len-clause-turned
-returns-then-len-clause-turned g c = c.is_apart_from.ensures ∙ disjoint_turned g.met.T.Eq.laws c.args.self.now c.args.other.now
+pub returns-then-len : goal.returns-then-len
+returns-then-len g c =
+    let answer = c.is_apart_from.ensures in
+    record { answer = answer; turned = answer ∙ disjoint_turned g.met.T.Eq.laws c.args.self.now c.args.other.now; nothing_common = disjoint_answered g.T.PartialEq.eq c.args.self.now c.args.other.now _ answer }
 
-pub returns-then-len-clause-nothing_common : goal.returns-then-len-clause-nothing_common
-returns-then-len-clause-nothing_common g c =
-    let eq = g.T.PartialEq.eq in
-    subst (λ b. IsTrue b ↔ (intersection eq c.args.self.now c.args.other.now ≡ [])) (sym c.is_apart_from.ensures) (disjoint-intersection eq c.args.self.now c.args.other.now)
-
-pub returns-else-len-clause-answer : goal.returns-else-len-clause-answer
-returns-else-len-clause-answer g c = c.is_apart_from-else-len.ensures ∙ disjoint_turned g.met.T.Eq.laws c.args.other.now c.args.self.now
-
-pub returns-else-len-clause-nothing_common : goal.returns-else-len-clause-nothing_common
-returns-else-len-clause-nothing_common g c =
-    let eq = g.T.PartialEq.eq in
-    subst (λ b. IsTrue b ↔ (intersection eq c.args.self.now c.args.other.now ≡ [])) (sym (returns-else-len-clause-answer g c)) (disjoint-intersection eq c.args.self.now c.args.other.now)
+pub returns-else-len : goal.returns-else-len
+returns-else-len g c =
+    let turned = c.is_apart_from-else-len.ensures in
+    let answer = turned ∙ disjoint_turned g.met.T.Eq.laws c.args.other.now c.args.self.now in
+    record { answer = answer; turned = turned; nothing_common = disjoint_answered g.T.PartialEq.eq c.args.self.now c.args.other.now _ answer }
 
 pub len-requires : goal.len-requires
 len-requires g c = assumption

@@ -3,21 +3,17 @@ use Rattle.std.proofs.Common.{is_some, ap, sym, ◌∙◌}
 use Rattle.std.specs.Map.{keys_of}
 use Rattle.micromap.specs.Pairs.{at, fits}
 use Rattle.micromap_core.proofs.Lists.{is_some-if}
-use Rattle.micromap.proofs.ItemLemmas.{fits-keys, checked-keys, content_items}
+use Rattle.micromap.proofs.ItemLemmas.{fits-keys, checked-keys}
 use Rattle.micromap.proofs.set.Set.put.Goals as goal
-
-pub returns-clause-answer : goal.returns-clause-answer
-returns-clause-answer g c =
-    let eq = g.T.PartialEq.eq in
-    let pairs = c.self.inside.map in
-    rw (← c.self.view_is)
-    (c.is_some.ensures ∙ ap is_some c.checked_insert.ensures.answer ∙ is_some-if (fits eq g.row.N pairs c.args.x) (at eq pairs c.args.x) ∙ sym (fits-keys eq g.row.N pairs c.args.x))
-
-pub returns-clause-items : goal.returns-clause-items
-returns-clause-items g c = rw (← c.self.view_is, checked-keys) (ap keys_of c.checked_insert.ensures.pairs)
 
 pub checked_insert-requires : goal.checked_insert-requires
 checked_insert-requires g c = map_fits g.row.T g.row.N g.T.PartialEq.eq assumption
 
-pub returns-clause-content : goal.returns-clause-content
-returns-clause-content g c = content_items c.self.view_is c.checked_insert.ensures.content
+pub returns : goal.returns
+returns g c =
+    let eq = g.T.PartialEq.eq in
+    let pairs = c.self.inside.map in
+    record {
+      answer = rw (← c.self.view_is) (c.is_some.ensures ∙ ap is_some c.checked_insert.ensures.answer ∙ is_some-if (fits eq g.row.N pairs c.args.x) (at eq pairs c.args.x) ∙ sym (fits-keys eq g.row.N pairs c.args.x));
+      items = rw (← c.self.view_is, checked-keys) (ap keys_of c.checked_insert.ensures.pairs);
+    }

@@ -2,7 +2,6 @@ use Rattle.std.proofs.Common.{rules}
 use Rattle.std.specs.Fn.{CalledAt, TakesAt}
 use Rattle.micromap_core.proofs.ClosureLemmas.{retained_keys}
 use Rattle.micromap.proofs.RetainItems.{callable_inner}
-use Rattle.micromap.proofs.ItemLemmas.{content_items}
 use Rattle.micromap.proofs.Sizes.{map_fits}
 use Rattle.micromap.proofs.set.Set.retain.Goals as goal
 
@@ -13,12 +12,8 @@ retain-requires g c = (
       record { at = λ before after s x v parts calls key shows value is. may.at before after s x v parts calls key shows },
 )
 
-pub returns-clause-items : goal.returns-clause-items
-returns-clause-items g c =
-    rw (← c.self.view_is) (retained_keys (CalledAt g.F.FnMut) (λ f. f.0.now) (λ f x v b w t said. search rules) _ _ _ c.retain.ensures.pairs)
-
-pub returns-clause-order : goal.returns-clause-order
-returns-clause-order g c = rw (← c.self.view_is) c.retain.ensures.order
-
-pub returns-clause-content : goal.returns-clause-content
-returns-clause-content g c = content_items c.self.view_is c.retain.ensures.content
+pub returns : goal.returns
+returns g c = record {
+  items = rw (← c.self.view_is) (retained_keys (CalledAt g.F.FnMut) (λ f. f.0.now) (λ f x v b w t said. search rules) _ _ _ c.retain.ensures.pairs);
+  order = rw (← c.self.view_is) c.retain.ensures.order;
+}

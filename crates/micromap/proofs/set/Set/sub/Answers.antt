@@ -19,11 +19,10 @@ insert-requires g c =
 pub loop-x-preserved : goal.loop-x-preserved
 loop-x-preserved g c = clones_next g.met.T.Eq.laws c.requires c.loop-x.invariant c.in-Some.x.now (difference_left g.T.PartialEq.eq c.next.new.self) c.in-Some.ensures.steps.member c.in_ok-clone.field-0 c.insert.new.self c.difference-x-items.ensures.unique c.in_ok-clone.ensures.cases c.insert.ensures.items
 
-pub returns-clause-succeeds : goal.returns-clause-succeeds
-returns-clause-succeeds g c = λ all. refl
-
-pub returns-clause-same : goal.returns-clause-same
-returns-clause-same g c = λ identical. same_from_all_zip g.T.Clone.is_clone _ _ (clones_end c.loop-x.invariant c.in-None.ensures.steps.member.0) identical
+pub returns : goal.returns
+returns g c =
+    let clones = clones_end c.loop-x.invariant c.in-None.ensures.steps.member.0 in
+    record { clones = clones; same = λ identical. same_from_all_zip g.T.Clone.is_clone _ _ clones identical; content = c.len-made.ensures.content; succeeds = λ all. refl }
 
 pub len-content-requires : goal.len-content-requires
 len-content-requires g c = assumption
@@ -42,6 +41,3 @@ difference-x-items-requires g c = assumption
 
 pub into_iter-x-iterator-requires-room-I-Iterator : goal.into_iter-x-iterator-requires-room-I-Iterator
 into_iter-x-iterator-requires-room-I-Iterator g c = assumption
-
-pub returns-clause-clones : goal.returns-clause-clones
-returns-clause-clones g c = clones_end c.loop-x.invariant c.in-None.ensures.steps.member.0

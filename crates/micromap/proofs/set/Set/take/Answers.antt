@@ -2,26 +2,14 @@ use Rattle.std.proofs.Common.{ap, ◌∙◌}
 use Rattle.std.specs.Map.{keys_of}
 use Rattle.std.specs.Option.{option_map}
 use Rattle.micromap.proofs.Sizes.{map_fits}
-use Rattle.micromap.proofs.ItemLemmas.{find-keys, take_item-keys, content_items}
+use Rattle.micromap.proofs.ItemLemmas.{find-keys, take_item-keys}
 use Rattle.micromap.proofs.set.Set.take.Goals as goal
 
-pub returns-in_err-stored-clause-answer : goal.returns-in_err-stored-clause-answer
-returns-in_err-stored-clause-answer g c = rw (← c.self.view_is, find-keys) (c.from_residual.ensures ∙ ap (option_map (λ p. p.0)) c.in_err-stored.ensures.answer)
-
-pub returns-in_err-stored-clause-items : goal.returns-in_err-stored-clause-items
-returns-in_err-stored-clause-items g c = rw (← c.self.view_is, take_item-keys) (ap keys_of c.in_err-stored.ensures.pairs)
-
-pub returns-clause-answer : goal.returns-clause-answer
-returns-clause-answer g c = rw (← c.self.view_is, find-keys) (ap (option_map (λ p. p.0)) c.in_ok-stored.ensures.answer)
-
-pub returns-clause-items : goal.returns-clause-items
-returns-clause-items g c = rw (← c.self.view_is, take_item-keys) (ap keys_of c.in_ok-stored.ensures.pairs)
+pub returns : goal.returns
+returns g c = record {
+  answer = rw (← c.self.view_is, find-keys) (c.item_of.ensures ∙ ap (option_map (λ e. e.0)) c.remove_entry.ensures.answer);
+  items = rw (← c.self.view_is, take_item-keys) (ap keys_of c.remove_entry.ensures.pairs);
+}
 
 pub remove_entry-requires : goal.remove_entry-requires
 remove_entry-requires g c = map_fits g.row.T g.row.N g.T.PartialEq.eq assumption
-
-pub returns-in_err-stored-clause-content : goal.returns-in_err-stored-clause-content
-returns-in_err-stored-clause-content g c = content_items c.self.view_is c.in_err-stored.ensures.content
-
-pub returns-clause-content : goal.returns-clause-content
-returns-clause-content g c = content_items c.self.view_is c.in_ok-stored.ensures.content

@@ -1,32 +1,17 @@
+use Rattle.std.proofs.Common.{arith}
 use Rattle.std.proofs.lemmas.Result.{err_from_is_err_and}
-use Rattle.micromap_core.proofs.CountLemmas.{builds_all, builds_up_to, full_at}
+use Rattle.micromap_core.proofs.BuildLemmas.{full_at}
 use Rattle.micromap.proofs.ExtendLemmas.{items_keyed}
 use Rattle.micromap.proofs.set.Set.try_from_iter.Goals as goal
-use Rattle.std.proofs.Common.{arith}
 
-pub returns-clause-built : goal.returns-clause-built
-returns-clause-built g c =
-    builds_all g.met.T.Eq.laws (items_keyed g.T.PartialEq.eq g.row.N) (rw (← c.new-set.ensures) c.in_ok-try_extend.ensures.extends)
+pub returns : goal.returns
+returns g c = record { runs = rw (← c.new-set.ensures) c.in_ok-try_extend.ensures.runs; stops = tt; full = tt; content = c.len-content.ensures.content }
 
-pub returns-in_err-try_extend-clause-misfit : goal.returns-in_err-try_extend-clause-misfit
-returns-in_err-try_extend-clause-misfit g c =
+pub returns-in_err-try_extend : goal.returns-in_err-try_extend
+returns-in_err-try_extend g c =
     let same = err_from_is_err_and c.from_residual.result c.from_residual.ensures.1 in
-    rw (same.1, same.2) (builds_up_to g.met.T.Eq.laws (items_keyed g.T.PartialEq.eq g.row.N) (rw c.new-set.ensures at c.in_err-try_extend.ensures.misfit))
-
-pub returns-in_err-try_extend-clause-full : goal.returns-in_err-try_extend-clause-full
-returns-in_err-try_extend-clause-full g c =
-    let laws = g.met.T.Eq.laws in
-    let keyed = items_keyed g.T.PartialEq.eq g.row.N in
-    let same = err_from_is_err_and c.from_residual.result c.from_residual.ensures.1 in
-    rw (same.1, same.2) (full_at laws keyed (builds_up_to laws keyed (rw c.new-set.ensures at c.in_err-try_extend.ensures.misfit)))
-
-pub returns-in_err-try_extend-clause-stops : goal.returns-in_err-try_extend-clause-stops
-returns-in_err-try_extend-clause-stops g c =
-    let same = err_from_is_err_and c.from_residual.result c.from_residual.ensures.1 in
-    rw (same.1, same.2) (rw c.new-set.ensures at c.in_err-try_extend.ensures.stops)
-
-pub returns-clause-runs : goal.returns-clause-runs
-returns-clause-runs g c = rw (← c.new-set.ensures) c.in_ok-try_extend.ensures.runs
+    let stops = rw c.new-set.ensures at c.in_err-try_extend.ensures.stops in
+    rw (same.1, same.2) (record { runs = tt; stops = stops; full = full_at g.met.T.Eq.laws (items_keyed g.T.PartialEq.eq g.row.N) stops.0.items _ stops.2.1.1; content = tt })
 
 pub len-content-requires : goal.len-content-requires
 len-content-requires g c = assumption

@@ -1,4 +1,4 @@
-use Rattle.std.proofs.Common.{length, ap, arith}
+use Rattle.std.proofs.Common.{◌++◌, length, ap, arith}
 use Rattle.std.specs.Map.Iter.{deref}
 use Rattle.std.proofs.lemmas.List.{length-append}
 use Rattle.micromap.specs.Operations.{difference_left, union, union_left, union_on}
@@ -7,24 +7,23 @@ use Rattle.micromap.proofs.OperationLaws.{IsDistinct-union, length-union, union_
 use Rattle.micromap.proofs.OperationSteps.{left_in_order}
 use Rattle.micromap.proofs.set.Set.union.Goals as goal
 
-pub returns-clause-unique : goal.returns-clause-unique
-returns-clause-unique g c = IsDistinct-union g.met.T.Eq.laws c.args.self.now c.args.other.now c.len-content.ensures.content.unique c.difference.ensures.unique
-
-pub returns-clause-bounded : goal.returns-clause-bounded
-unfolding union_left
-returns-clause-bounded g c = omega (arith, c.len-content.ensures.content.bounded, ap length c.iter.ensures.answer, c.difference.ensures.bounded, length-append c.iter.result (difference_left g.T.PartialEq.eq c.difference.result))
-
-pub returns-clause-builds : goal.returns-clause-builds
-returns-clause-builds g c = added_all g.met.T.Eq.laws (union g.T.PartialEq.eq c.args.self.now c.args.other.now) (returns-clause-unique g c)
-
-pub returns-clause-turned : goal.returns-clause-turned
-returns-clause-turned g c = union_turned g.met.T.Eq.laws c.args.self.now c.args.other.now
-
-pub returns-clause-lengths : goal.returns-clause-lengths
-returns-clause-lengths g c = length-union g.T.PartialEq.eq c.args.self.now c.args.other.now
-
-pub returns-clause-runs : goal.returns-clause-runs
-returns-clause-runs g c = left_in_order deref (union_left g.T.PartialEq.eq) (union_on g.T.PartialEq.eq)
+pub returns : goal.returns
+unfolding union union_left
+returns g c =
+    let eq = g.T.PartialEq.eq in
+    let xs = c.args.self.now in
+    let ys = c.args.other.now in
+    let unique = IsDistinct-union g.met.T.Eq.laws xs ys c.len-content.ensures.content.unique c.difference.ensures.unique in
+    record {
+      walk = λ i. record { others = c.iter.ensures.answer i; beyond = c.difference.ensures.walk i };
+      items = λ i. c.iter.ensures.answer i ++ c.difference.ensures.items i;
+      bounded = omega (arith, c.len-content.ensures.content.bounded, ap length c.iter.ensures.answer, c.difference.ensures.bounded, length-append c.iter.result (difference_left eq c.difference.result));
+      unique = unique;
+      builds = added_all g.met.T.Eq.laws (union eq xs ys) unique;
+      turned = union_turned g.met.T.Eq.laws xs ys;
+      lengths = length-union eq xs ys;
+      runs = left_in_order deref (union_left eq) (union_on eq);
+    }
 
 pub iter-requires : goal.iter-requires
 iter-requires g c = assumption

@@ -7,6 +7,3 @@ invariant_of-self g c = rw c.clear.ensures (unique_empty g.row.V.Denot g.K.Parti
 
 pub clear-requires : goal.clear-requires
 clear-requires g c = columns_fit g.row.K g.row.V g.row.N g.K.PartialEq.eq assumption
-
-pub len-content-requires : goal.len-content-requires
-len-content-requires g c = assumption

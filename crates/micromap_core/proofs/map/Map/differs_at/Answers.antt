@@ -1,31 +1,19 @@
 use Rattle.std.proofs.Common.{Some, ap}
 use Rattle.std.specs.Option.{option_or}
 use Rattle.micromap_core.specs.Same.{first_missing}
-use Rattle.micromap_core.proofs.SameLemmas.{none_answered, difference_answered}
+use Rattle.micromap_core.proofs.SameLemmas.{answered_difference}
 use Rattle.micromap_core.proofs.map.Map.differs_at.Goals as goal
 
-pub returns-in-Some-clause-answer : goal.returns-in-Some-clause-answer
-returns-in-Some-clause-answer g c =
-    ap (λ d. option_or d (first_missing g.K.PartialEq.eq g.V.PartialEq.eq c.args.other.now c.args.self.now)) c.in-Some.ensures
+pub returns-in-Some : goal.returns-in-Some
+returns-in-Some g c =
+    let is = ap (λ d. option_or d (first_missing g.K.PartialEq.eq g.V.PartialEq.eq c.args.other.now c.args.self.now)) c.in-Some.ensures in
+    let known = answered_difference g.K.PartialEq.eq g.V.PartialEq.eq g.met.K.Eq.laws g.met.V.Eq.laws c.args.self.now c.args.other.now c.len.ensures.content.unique c.len-2.ensures.content.unique (Some c.in-Some.key) is in
+    record { answer = is; none = known.0; differs = known.1 }
 
-pub returns-in-Some-clause-none : goal.returns-in-Some-clause-none
-returns-in-Some-clause-none g c =
-    none_answered g.K.PartialEq.eq g.V.PartialEq.eq g.met.K.Eq.laws g.met.V.Eq.laws c.args.self.now c.args.other.now c.len.ensures.content.unique c.len-2.ensures.content.unique (Some c.in-Some.key) (returns-in-Some-clause-answer g c)
-
-pub returns-in-Some-clause-differs : goal.returns-in-Some-clause-differs
-returns-in-Some-clause-differs g c =
-    difference_answered g.K.PartialEq.eq g.V.PartialEq.eq g.met.K.Eq.laws g.met.V.Eq.laws c.args.self.now c.args.other.now c.len.ensures.content.unique c.len-2.ensures.content.unique (Some c.in-Some.key) (returns-in-Some-clause-answer g c)
-
-pub returns-in-None-clause-answer : goal.returns-in-None-clause-answer
-returns-in-None-clause-answer g c = rw (← c.in-None.ensures) c.first_missing.ensures
-
-pub returns-in-None-clause-none : goal.returns-in-None-clause-none
-returns-in-None-clause-none g c =
-    none_answered g.K.PartialEq.eq g.V.PartialEq.eq g.met.K.Eq.laws g.met.V.Eq.laws c.args.self.now c.args.other.now c.len.ensures.content.unique c.len-2.ensures.content.unique c.first_missing.result (returns-in-None-clause-answer g c)
-
-pub returns-in-None-clause-differs : goal.returns-in-None-clause-differs
-returns-in-None-clause-differs g c =
-    difference_answered g.K.PartialEq.eq g.V.PartialEq.eq g.met.K.Eq.laws g.met.V.Eq.laws c.args.self.now c.args.other.now c.len.ensures.content.unique c.len-2.ensures.content.unique c.first_missing.result (returns-in-None-clause-answer g c)
+pub returns-in-None : goal.returns-in-None
+returns-in-None g c =
+    let known = answered_difference g.K.PartialEq.eq g.V.PartialEq.eq g.met.K.Eq.laws g.met.V.Eq.laws c.args.self.now c.args.other.now c.len.ensures.content.unique c.len-2.ensures.content.unique c.first_missing.result (rw (← c.in-None.ensures) c.first_missing.ensures) in
+    record { answer = rw (← c.in-None.ensures) c.first_missing.ensures; none = known.0; differs = known.1 }
 
 pub len-requires-2 : goal.len-requires-2
 len-requires-2 g c = assumption

@@ -1,28 +1,29 @@
-use Rattle.std.proofs.Common.{sym, ap, ◌∙◌}
-use Rattle.std.specs.Map.Iter.{deref_pair}
+use Rattle.std.proofs.Common.{◌≡◌, ◌+◌, ◌-◌, Some, length, ap, sym, ◌∙◌, arith}
+use Rattle.std.specs.Map.{keys_of}
 use Rattle.std.specs.Option.{option_map}
-use Rattle.micromap_core.proofs.Lists.{option_map-option_map}
-use Rattle.micromap_core.proofs.PairsLemmas.{lookup-entry, lookup_key-entry}
-use Rattle.micromap_core.proofs.ProbeLemmas.{at_matched_is, pair_matched_is}
+use Rattle.std.proofs.lemmas.Map.Entries.{length-keys_of}
+use Rattle.micromap_core.proofs.ScanLemmas.{found_at, not_found, not_yet-start, not_yet-on, not_yet-found, not_yet-missing}
 use Rattle.micromap_core.proofs.map.Map.find.Goals as goal
 
-pub returns-clause-key : goal.returns-clause-key
-returns-clause-key g c =
-    sym (option_map-option_map (λ p. p.0) deref_pair c.first.result) ∙ ap (option_map (λ p. p.0)) c.first.ensures
-    ∙ sym (lookup_key-entry (g.P.Probe.matches c.args.probe.now) c.args.self.now)
+pub loop-key-init : goal.loop-key-init
+loop-key-init g c =
+    let none : length (keys_of c.args.self.now) - length (keys_of c.args.self.now) ≡ 0 = omega arith in
+    rw (c.keys-keys.ensures.answer, none) (not_yet-start _ _)
 
-pub returns-clause-value : goal.returns-clause-value
-returns-clause-value g c =
-    sym (option_map-option_map (λ p. p.1) deref_pair c.first.result) ∙ ap (option_map (λ p. p.1)) c.first.ensures
-    ∙ sym (lookup-entry (g.P.Probe.matches c.args.probe.now) c.args.self.now)
+pub loop-key-preserved : goal.loop-key-preserved
+loop-key-preserved g c =
+    let more : length (keys_of c.args.self.now) - length c.next.new.self ≡ length (keys_of c.args.self.now) - length c.loop-key.keys + 1 = omega (arith, c.loop-key.invariant.counted, ap length c.in-Some.ensures.steps) in
+    rw more (not_yet-on c.loop-key.invariant c.in-Some.ensures.steps (sym c.if-matches.ensures))
 
-pub returns-clause-pair_matched : goal.returns-clause-pair_matched
-returns-clause-pair_matched g c =
-    c.first.ensures ∙ sym (pair_matched_is g.K.PartialEq.eq _ (g.met.P.Probe.equal_keys_match_alike c.args.probe.now) (g.met.P.Probe.matching_keys_are_equal c.args.probe.now) c.args.self.now)
+pub returns : goal.returns
+returns g c =
+    let none = not_found (g.P.Probe.matches c.args.probe.now) c.args.self.now (not_yet-missing c.loop-key.invariant c.in_default.ensures.steps.0) in
+    record { pair = sym none.entry; value = sym none.value }
 
-pub returns-clause-value_matched : goal.returns-clause-value_matched
-returns-clause-value_matched g c =
-    returns-clause-value g c ∙ sym (at_matched_is g.K.PartialEq.eq _ (g.met.P.Probe.equal_keys_match_alike c.args.probe.now) (g.met.P.Probe.matching_keys_are_equal c.args.probe.now) c.args.self.now)
-
-pub first-requires : goal.first-requires
-first-requires g c = assumption
+pub returns-then-matches : goal.returns-then-matches
+returns-then-matches g c =
+    let at = not_yet-found c.loop-key.invariant c.in-Some.ensures.steps (sym c.if-matches.ensures) in
+    let here : c.len.result - c.len-then-matches.result - 1 ≡ length (keys_of c.args.self.now) - length c.loop-key.keys = omega (arith, c.len.ensures.answer, c.len-then-matches.ensures.value, c.loop-key.invariant.counted, ap length c.in-Some.ensures.steps, length-keys_of c.args.self.now) in
+    let found = found_at (g.P.Probe.matches c.args.probe.now) c.args.self.now _ (at ∙ ap Some (sym here)) in
+    let pair = sym c.pair_at.ensures ∙ found.here in
+    record { pair = pair ∙ sym found.entry; value = ap (option_map (λ p. p.1)) pair ∙ sym found.value }

@@ -1,26 +1,29 @@
-use Rattle.std.proofs.Common.{ap, sym, ◌∙◌}
-use Rattle.micromap_core.proofs.map.Map.get_counted.Goals as goal
+use Rattle.std.proofs.Common.{ap, sym, ◌∙◌, arith}
 use Rattle.std.specs.Option.{option_copied, option_map}
+use Rattle.micromap_core.proofs.ScanLemmas.{found_at, not_found}
+use Rattle.micromap_core.proofs.StepsLemmas.{look_up_steps-bound}
+use Rattle.micromap_core.proofs.map.Map.get_counted.Goals as goal
 
 pub index_counted-requires : goal.index_counted-requires
 index_counted-requires g c = assumption
 
-pub returns-in_err-index-clause-answer : goal.returns-in_err-index-clause-answer
-returns-in_err-index-clause-answer g c = ap option_copied c.from_residual.ensures ∙ sym c.in_err-index.ensures.missing.value
+pub pair_at-requires : goal.pair_at-requires
+pair_at-requires g c = (assumption, (found_at (g.K.PartialEq.eq c.args.key.now) c.args.self.now c.in_ok-index.index (sym c.in_ok-index.ensures.index)).within)
 
-pub returns-in_err-index-clause-count : goal.returns-in_err-index-clause-count
-returns-in_err-index-clause-count g c = c.index_counted.ensures.count
+pub returns-in_err-index : goal.returns-in_err-index
+returns-in_err-index g c =
+    let missing = not_found (g.K.PartialEq.eq c.args.key.now) c.args.self.now (sym c.in_err-index.ensures.index) in
+    record {
+      answer = ap option_copied c.from_residual.ensures ∙ sym missing.value;
+      count = c.index_counted.ensures.count;
+      bounded = omega (arith, c.index_counted.ensures.count, look_up_steps-bound g.K.PartialEq.eq c.args.self.now c.args.key.now);
+    }
 
-pub returns-in_err-index-clause-bounded : goal.returns-in_err-index-clause-bounded
-returns-in_err-index-clause-bounded g c = c.index_counted.ensures.bounded
-
-pub returns-clause-answer : goal.returns-clause-answer
-returns-clause-answer g c =
-    let found = c.in_ok-index.ensures.found in
-    ap (option_map (λ p. p.1)) (sym c.pair_at.ensures ∙ found.here) ∙ sym found.value
-
-pub returns-clause-count : goal.returns-clause-count
-returns-clause-count g c = c.index_counted.ensures.count
-
-pub returns-clause-bounded : goal.returns-clause-bounded
-returns-clause-bounded g c = c.index_counted.ensures.bounded
+pub returns : goal.returns
+returns g c =
+    let found = found_at (g.K.PartialEq.eq c.args.key.now) c.args.self.now c.in_ok-index.index (sym c.in_ok-index.ensures.index) in
+    record {
+      answer = ap (option_map (λ p. p.1)) (sym c.pair_at.ensures ∙ found.here) ∙ sym found.value;
+      count = c.index_counted.ensures.count;
+      bounded = omega (arith, c.index_counted.ensures.count, look_up_steps-bound g.K.PartialEq.eq c.args.self.now c.args.key.now);
+    }

@@ -1,14 +1,28 @@
-use Rattle.micromap_core.proofs.FoundLemmas.{if_found, if_not_found}
+use Rattle.std.proofs.Common.{ap, sym, length, arith}
+use Rattle.std.proofs.lemmas.Map.Entries.{length-keys_of}
+use Rattle.micromap_core.proofs.ScanLemmas.{found_at, not_found, not_yet-start, not_yet-on, not_yet-found, not_yet-missing}
 use Rattle.micromap_core.proofs.map.Map.index_of.Goals as goal
 
-pub returns-clause-found : goal.returns-clause-found
-returns-clause-found g c = if_found (g.P.Probe.matches c.args.probe.now) c.args.self.now c.first_index.result c.first_index.ensures
+pub loop-key-init : goal.loop-key-init
+loop-key-init g c = rw (c.into_iter-key-iterator.ensures.into_iter_gives, c.keys-keys.ensures.answer) (not_yet-start _ _)
 
-pub returns-clause-missing : goal.returns-clause-missing
-returns-clause-missing g c = if_not_found (g.P.Probe.matches c.args.probe.now) c.args.self.now c.first_index.result c.first_index.ensures
+pub returns-then-matches : goal.returns-then-matches
+returns-then-matches g c =
+    let at = not_yet-found c.loop-key.invariant c.in-Some.ensures.steps (sym c.if-matches.ensures) in
+    record { answer = sym at; found = found_at (g.P.Probe.matches c.args.probe.now) c.args.self.now c.loop-key.index at; missing = tt }
 
-pub first_index-requires : goal.first_index-requires
-first_index-requires g c = assumption
+-- the key that is looked at was not counted yet
+pub overflow_add-index : goal.overflow_add-index
+overflow_add-index g c =
+    omega (arith, c.loop-key.invariant.counted, ap length c.in-Some.ensures.steps, length-keys_of c.args.self.now, ap length c.keys-keys.ensures.answer, c.len-bounded.ensures, c.len-bounded.type_inv)
 
-pub len-content-requires : goal.len-content-requires
-len-content-requires g c = assumption
+pub loop-key-preserved : goal.loop-key-preserved
+loop-key-preserved g c = not_yet-on c.loop-key.invariant c.in-Some.ensures.steps (sym c.if-matches.ensures)
+
+pub returns : goal.returns
+returns g c =
+    let none = not_yet-missing c.loop-key.invariant c.in-None.ensures.steps.0 in
+    record { answer = sym none; found = tt; missing = not_found (g.P.Probe.matches c.args.probe.now) c.args.self.now none }
+
+pub keys-keys-requires : goal.keys-keys-requires
+keys-keys-requires g c = assumption

@@ -1,5 +1,5 @@
 use Rattle.std.proofs.Common.{◌≡◌, length, refl, arith, rules, ap, sym, ◌∙◌}
-use Rattle.micromap_core.proofs.StepsLemmas.{most_steps-product, most_steps, walk_on, walk_ends, all_on, all_ends}
+use Rattle.micromap_core.proofs.StepsLemmas.{look_up_steps-bound, most_steps-product, most_steps, walk_on, walk_ends, all_on, all_ends}
 use Rattle.micromap_core.proofs.map.Map.is_within_counted.Goals as goal
 use Rattle.std.specs.List.{list_all}
 use Rattle.micromap_core.specs.Same.{has_value}
@@ -17,18 +17,11 @@ into_iter-key-iterator-requires g c = assumption
 pub has_value_counted-requires : goal.has_value_counted-requires
 has_value_counted-requires g c = (assumption, search rules)
 
-pub returns-then-not-has_value_counted-clause-answer : goal.returns-then-not-has_value_counted-clause-answer
-returns-then-not-has_value_counted-clause-answer g c =
-    sym (all_ends g.K.PartialEq.eq g.V.PartialEq.eq c.args.other.now _ c.next.new.self c.if-not-has_value_counted.ensures.answer)
-    ∙ ap (list_all (has_value g.K.PartialEq.eq g.V.PartialEq.eq c.args.other.now)) (sym c.in-Some.ensures.steps) ∙ c.loop-key.invariant.answer
-
-pub returns-then-not-has_value_counted-clause-count : goal.returns-then-not-has_value_counted-clause-count
-returns-then-not-has_value_counted-clause-count g c =
-    omega (arith, c.loop-key.invariant.count, c.has_value_counted.ensures.count, ap (walk_steps g.K.PartialEq.eq g.V.PartialEq.eq c.args.other.now) c.in-Some.ensures.steps, walk_ends g.K.PartialEq.eq g.V.PartialEq.eq c.args.other.now _ c.next.new.self c.if-not-has_value_counted.ensures.answer)
-
-pub returns-then-not-has_value_counted-clause-bounded : goal.returns-then-not-has_value_counted-clause-bounded
-returns-then-not-has_value_counted-clause-bounded g c =
-    omega (arith, c.loop-key.invariant.bounded, c.has_value_counted.ensures.bounded, ap (λ l. most_steps l (length c.args.other.now)) c.in-Some.ensures.steps)
+pub returns-then-not-has_value_counted : goal.returns-then-not-has_value_counted
+returns-then-not-has_value_counted g c = record {
+  answer = sym (all_ends g.K.PartialEq.eq g.V.PartialEq.eq c.args.other.now _ c.next.new.self c.if-not-has_value_counted.ensures.answer) ∙ ap (list_all (has_value g.K.PartialEq.eq g.V.PartialEq.eq c.args.other.now)) (sym c.in-Some.ensures.steps) ∙ c.loop-key.invariant.answer;
+  count = omega (arith, c.loop-key.invariant.count, c.has_value_counted.ensures.count, ap (walk_steps g.K.PartialEq.eq g.V.PartialEq.eq c.args.other.now) c.in-Some.ensures.steps, walk_ends g.K.PartialEq.eq g.V.PartialEq.eq c.args.other.now _ c.next.new.self c.if-not-has_value_counted.ensures.answer);
+}
 
 pub loop-key-preserved : goal.loop-key-preserved
 loop-key-preserved g c =
@@ -37,15 +30,11 @@ loop-key-preserved g c =
     record {
       answer = sym (all_on eq same c.args.other.now _ c.next.new.self c.if-not-has_value_counted.ensures.answer) ∙ ap (list_all (has_value eq same c.args.other.now)) (sym c.in-Some.ensures.steps) ∙ c.loop-key.invariant.answer;
       count = omega (arith, c.loop-key.invariant.count, c.has_value_counted.ensures.count, ap (walk_steps eq same c.args.other.now) c.in-Some.ensures.steps, walk_on eq same c.args.other.now _ c.next.new.self c.if-not-has_value_counted.ensures.answer);
-      bounded = omega (arith, c.loop-key.invariant.bounded, c.has_value_counted.ensures.bounded, ap (λ l. most_steps l (length c.args.other.now)) c.in-Some.ensures.steps);
+      bounded = omega (arith, c.loop-key.invariant.bounded, c.has_value_counted.ensures.count, look_up_steps-bound eq c.args.other.now c.in-Some.key.now, ap (λ l. most_steps l (length c.args.other.now)) c.in-Some.ensures.steps);
     }
 
-pub returns-clause-answer : goal.returns-clause-answer
-returns-clause-answer g c = ap (list_all (has_value g.K.PartialEq.eq g.V.PartialEq.eq c.args.other.now)) (sym c.in-None.ensures.steps.0) ∙ c.loop-key.invariant.answer
-
-pub returns-clause-count : goal.returns-clause-count
-returns-clause-count g c =
-    omega (arith, c.loop-key.invariant.count, ap (walk_steps g.K.PartialEq.eq g.V.PartialEq.eq c.args.other.now) c.in-None.ensures.steps.0)
-
-pub returns-clause-bounded : goal.returns-clause-bounded
-returns-clause-bounded g c = omega (arith, c.loop-key.invariant.bounded)
+pub returns : goal.returns
+returns g c = record {
+  answer = ap (list_all (has_value g.K.PartialEq.eq g.V.PartialEq.eq c.args.other.now)) (sym c.in-None.ensures.steps.0) ∙ c.loop-key.invariant.answer;
+  count = omega (arith, c.loop-key.invariant.count, ap (walk_steps g.K.PartialEq.eq g.V.PartialEq.eq c.args.other.now) c.in-None.ensures.steps.0);
+}

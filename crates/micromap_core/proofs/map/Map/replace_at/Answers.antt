@@ -4,8 +4,5 @@ use Rattle.std.proofs.Common.{Some, ap, sym, ◌∙◌, refl}
 pub value_at-requires : goal.value_at-requires
 value_at-requires g c = assumption
 
-pub returns-clause-old : goal.returns-clause-old
-returns-clause-old g c = c.value_at.ensures.value ∙ ap Some (sym c.replace.ensures.value)
-
-pub returns-clause-pairs : goal.returns-clause-pairs
-returns-clause-pairs g c = rw c.replace.ensures.after refl
+pub returns : goal.returns
+returns g c = record { old = c.value_at.ensures.value ∙ ap Some (sym c.replace.ensures.value); pairs = rw c.replace.ensures.after refl }

@@ -9,14 +9,5 @@ retain-requires g c = (columns_fit g.row.K g.row.V g.row.N g.K.PartialEq.eq assu
 pub invariant_of-self : goal.invariant_of-self
 invariant_of-self g c = IsDistinct-sublist g.K.PartialEq.eq _ _ (keys_in_order _ _ _ _ c.retain.ensures) c.self.invariant
 
-pub returns-clause-pairs : goal.returns-clause-pairs
-returns-clause-pairs g c = rw (← c.self.view_is) c.retain.ensures
-
-pub returns-clause-order : goal.returns-clause-order
-returns-clause-order g c = rw (← c.self.view_is) (keys_in_order _ _ _ _ c.retain.ensures)
-
-pub len-content-requires : goal.len-content-requires
-len-content-requires g c = assumption
-
-pub returns-clause-content : goal.returns-clause-content
-returns-clause-content g c = c.len-content.ensures.content
+pub returns : goal.returns
+returns g c = record { pairs = rw (← c.self.view_is) c.retain.ensures; order = rw (← c.self.view_is) (keys_in_order _ _ _ _ c.retain.ensures) }

@@ -1,15 +1,23 @@
-use Rattle.std.proofs.Common.{sym, ◌∙◌}
-use Rattle.micromap_core.proofs.ProbeLemmas.{at_matched_is, pair_matched_is, take_out_matched_is}
+use Rattle.std.proofs.Common.{ap, sym, ◌∙◌}
 use Rattle.micromap_core.proofs.map.Map.take.Goals as goal
+use Rattle.std.specs.Option.{option_map}
 
-pub returns-clause-pair_matched : goal.returns-clause-pair_matched
-returns-clause-pair_matched g c = c.take_first.ensures.pair ∙ sym (pair_matched_is g.K.PartialEq.eq (g.P.Probe.matches c.args.probe.now) (g.met.P.Probe.equal_keys_match_alike c.args.probe.now) (g.met.P.Probe.matching_keys_are_equal c.args.probe.now) c.args.self.now)
+pub take_at-requires : goal.take_at-requires
+take_at-requires g c = (assumption, c.in_ok-index.ensures.found.within)
 
-pub returns-clause-value_matched : goal.returns-clause-value_matched
-returns-clause-value_matched g c = c.take_first.ensures.value ∙ sym (at_matched_is g.K.PartialEq.eq (g.P.Probe.matches c.args.probe.now) (g.met.P.Probe.equal_keys_match_alike c.args.probe.now) (g.met.P.Probe.matching_keys_are_equal c.args.probe.now) c.args.self.now)
+pub index_of-requires : goal.index_of-requires
+index_of-requires g c = assumption
 
-pub returns-clause-pairs_matched : goal.returns-clause-pairs_matched
-returns-clause-pairs_matched g c = c.take_first.ensures.pairs ∙ sym (take_out_matched_is g.K.PartialEq.eq (g.P.Probe.matches c.args.probe.now) (g.met.P.Probe.equal_keys_match_alike c.args.probe.now) (g.met.P.Probe.matching_keys_are_equal c.args.probe.now) c.args.self.now)
+pub returns : goal.returns
+returns g c = record {
+  pair = sym c.take_at.ensures.answer ∙ c.in_ok-index.ensures.found.here ∙ sym c.in_ok-index.ensures.found.entry;
+  value = ap (option_map (λ p. p.1)) (sym c.take_at.ensures.answer ∙ c.in_ok-index.ensures.found.here) ∙ sym c.in_ok-index.ensures.found.value;
+  pairs = c.take_at.ensures.pairs ∙ sym c.in_ok-index.ensures.found.taken;
+}
 
-pub take_first-requires : goal.take_first-requires
-take_first-requires g c = assumption
+pub returns-in_err-index : goal.returns-in_err-index
+returns-in_err-index g c = record {
+  pair = c.from_residual.ensures ∙ sym c.in_err-index.ensures.missing.entry;
+  value = ap (option_map (λ p. p.1)) c.from_residual.ensures ∙ sym c.in_err-index.ensures.missing.value;
+  pairs = sym c.in_err-index.ensures.missing.taken;
+}

@@ -10,9 +10,6 @@ pub invariant_of-self : goal.invariant_of-self
 invariant_of-self g c =
     rw c.remove.ensures.pairs (IsUnique-remove g.K.PartialEq.eq g.met.K.Eq.laws c.self.inside.pairs c.self.invariant c.args.index c.remove.result c.remove.ensures.answer)
 
-pub returns-clause-answer : goal.returns-clause-answer
-returns-clause-answer g c = rw (← c.self.view_is) c.remove.ensures.answer
-
-pub returns-clause-pairs : goal.returns-clause-pairs
+pub returns : goal.returns
 unfolding without_at
-returns-clause-pairs g c = rw (← c.self.view_is) c.remove.ensures.pairs
+returns g c = record { answer = rw (← c.self.view_is) c.remove.ensures.answer; pairs = rw (← c.self.view_is) c.remove.ensures.pairs }

@@ -1,5 +1,5 @@
 use Rattle.std.proofs.Common.{arith, refl, rules}
-use Rattle.micromap_core.proofs.UpdateLemmas.{asks_next, updates_next, update_ends}
+use Rattle.micromap_core.proofs.ClosureLemmas.{asks_next, updates_next, update_ends}
 use Rattle.micromap_core.proofs.map.Map.update_all.Goals as goal
 
 pub loop-index-init : goal.loop-index-init
@@ -14,8 +14,8 @@ visit_at-requires g c =
 pub loop-index-preserved : goal.loop-index-preserved
 loop-index-preserved g c = updates_next g.F.FnMut c.args.update c.args.self.now _ _ _ c.loop-index.invariant _ _ _ c.visit_at.ensures
 
-pub returns-clause-pairs : goal.returns-clause-pairs
-returns-clause-pairs g c =
+pub returns : goal.returns
+returns g c =
     let at = c.loop-index.invariant in
     update_ends g.F.FnMut c.args.update c.args.self.now _ _ _ at (omega arith)
 

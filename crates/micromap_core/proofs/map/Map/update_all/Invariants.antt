@@ -1,4 +1,4 @@
-use Rattle.micromap_core.proofs.UpdateLemmas.{Updating}
+use Rattle.micromap_core.proofs.ClosureLemmas.{Updating}
 use Rattle.micromap_core.proofs.map.Map.update_all.Given as goal
 
 abbrev pub invariant-loop-index : goal.invariant-loop-index

@@ -1,6 +1,6 @@
 use Rattle.std.proofs.Common.{◌<◌, length, refl, rules, sym, ◌∙◌}
 use Rattle.micromap_core.specs.Closures.{CalledOnValue}
-use Rattle.micromap_core.proofs.UpdateLemmas.{asks_value, updates_stored, updates_missing, update_keys_end}
+use Rattle.micromap_core.proofs.ClosureLemmas.{asks_value, updates_stored, updates_missing, update_keys_end}
 use Rattle.micromap_core.proofs.map.Map.update_disjoint.Goals as goal
 use Rattle.std.proofs.lemmas.List.{length-replicate}
 
@@ -25,20 +25,14 @@ loop-position-preserved g c =
           (updates_missing g.K.PartialEq.eq g.F.FnMut c.args.update c.args.self.now c.args.keys.now _ _ _ _ at.invariant c.index-keys-position.result within (sym w.in-None.ensures.answer))
     ]
 
-pub returns-clause-pairs : goal.returns-clause-pairs
-returns-clause-pairs g c = (update_keys_end g.K.PartialEq.eq g.F.FnMut c.args.update c.args.self.now c.args.keys.now _ _ _ _ c.loop-position.invariant (search rules)).1
+pub returns : goal.returns
+returns g c = record {
+  answer = (update_keys_end g.K.PartialEq.eq g.F.FnMut c.args.update c.args.self.now c.args.keys.now _ _ _ _ c.loop-position.invariant (search rules)).0;
+  pairs = (update_keys_end g.K.PartialEq.eq g.F.FnMut c.args.update c.args.self.now c.args.keys.now _ _ _ _ c.loop-position.invariant (search rules)).1;
+}
 
 pub get_mut-requires : goal.get_mut-requires
 get_mut-requires g c = assumption
-
-pub len-content-requires : goal.len-content-requires
-len-content-requires g c = assumption
-
-pub returns-clause-answer : goal.returns-clause-answer
-returns-clause-answer g c = (update_keys_end g.K.PartialEq.eq g.F.FnMut c.args.update c.args.self.now c.args.keys.now _ _ _ _ c.loop-position.invariant (search rules)).0
-
-pub returns-clause-content : goal.returns-clause-content
-returns-clause-content g c = c.len-content.ensures.content
 
 pub bounds-found-position : goal.bounds-found-position
 bounds-found-position g c = c.loop-position-test.true

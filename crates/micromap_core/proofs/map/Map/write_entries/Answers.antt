@@ -23,8 +23,13 @@ pub returns-in_err-entry-clause-beginning : goal.returns-in_err-entry-clause-beg
 returns-in_err-entry-clause-beginning g c =
     MatchResult-from_err _ _ _ c.from_residual.ensures.0 (λ _. writing_fails c.loop-key.invariant.writing c.in-Some.ensures.steps c.in_err-entry.ensures.kept)
 
-pub returns-clause-whole : goal.returns-clause-whole
-returns-clause-whole g c = writing_ends c.loop-key.invariant.writing c.in-None.ensures.steps.0
+pub returns : goal.returns
+returns g c = record {
+  whole = writing_ends c.loop-key.invariant.writing c.in-None.ensures.steps.0;
+  faultless = c.loop-key.invariant.faultless;
+  beginning = tt;
+  fault = tt;
+}
 
 pub into_iter-key-iterator-requires : goal.into_iter-key-iterator-requires
 into_iter-key-iterator-requires g c = assumption
@@ -34,12 +39,3 @@ entry-requires g c = omega (arith, c.requires, c.loop-key.invariant.faultless.co
 
 pub loop-key-smaller : goal.loop-key-smaller
 loop-key-smaller g c = omega (arith, ap length c.in-Some.ensures.steps)
-
-pub returns-clause-faultless : goal.returns-clause-faultless
-returns-clause-faultless g c = c.loop-key.invariant.faultless
-
-pub returns-clause-beginning : goal.returns-clause-beginning
-returns-clause-beginning g c = tt
-
-pub returns-clause-fault : goal.returns-clause-fault
-returns-clause-fault g c = tt

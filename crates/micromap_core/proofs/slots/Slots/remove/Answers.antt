@@ -2,19 +2,18 @@ use Rattle.std.proofs.Common.{refl, rules, ◌∙◌}
 use Rattle.micromap_core.proofs.SlotsLemmas.{AreFilled-from, items_of-map, length_filled, some_at, item_at, remove_filled}
 use Rattle.micromap_core.proofs.slots.Slots.remove.Goals as goal
 
-pub remove-requires : goal.remove-requires
-remove-requires g c = (search rules, rw (← length_filled _ c.self.invariant, c.self.view_is) c.requires)
+pub remove_slot-requires : goal.remove_slot-requires
+remove_slot-requires g c = (search rules, rw (← length_filled _ c.self.invariant, c.self.view_is) c.requires)
 
 pub into_item-requires : goal.into_item-requires
 into_item-requires g c =
-    rw c.remove.ensures.value (some_at _ c.self.invariant _ _ (rw (← length_filled _ c.self.invariant, c.self.view_is) c.requires))
+    rw c.remove_slot.ensures.value (some_at _ c.self.invariant _ _ (rw (← length_filled _ c.self.invariant, c.self.view_is) c.requires))
 
 pub invariant_of-self : goal.invariant_of-self
-invariant_of-self g c = AreFilled-from _ _ (c.remove.ensures.items ∙ remove_filled _ c.self.invariant c.args.index)
+invariant_of-self g c = AreFilled-from _ _ (c.remove_slot.ensures.items ∙ remove_filled _ c.self.invariant c.args.index)
 
-pub returns-clause-answer : goal.returns-clause-answer
-returns-clause-answer g c =
-    rw (← c.self.view_is) (item_at _ c.self.invariant c.args.index c.remove.result (rw (← length_filled _ c.self.invariant, c.self.view_is) c.requires) c.remove.ensures.value ∙ c.into_item.ensures)
-
-pub returns-clause-items : goal.returns-clause-items
-returns-clause-items g c = rw (c.remove.ensures.items, remove_filled _ c.self.invariant c.args.index, items_of-map, c.self.view_is) refl
+pub returns : goal.returns
+returns g c = record {
+  answer = rw (← c.self.view_is) (item_at _ c.self.invariant c.args.index c.remove_slot.result (rw (← length_filled _ c.self.invariant, c.self.view_is) c.requires) c.remove_slot.ensures.value ∙ c.into_item.ensures);
+  items = rw (c.remove_slot.ensures.items, remove_filled _ c.self.invariant c.args.index, items_of-map, c.self.view_is) refl;
+}

@@ -7,4 +7,4 @@ use Rattle.micromap_uses_tests.proofs.tests.sameness.remove_name.Goals as goal
 pub returns : goal.returns
 returns g c =
     rw c.remove.ensures.pairs (rw c.remove-2.ensures.pairs
-    (same_take_out string_eq nat_eq _ _ _ (lawful_string _) lawful_nat c.remove.ensures.content.unique c.remove-2.ensures.content.unique c.requires))
+    (same_take_out string_eq nat_eq _ _ _ (lawful_string _) lawful_nat c.len.ensures.content.unique c.len-2.ensures.content.unique c.requires))

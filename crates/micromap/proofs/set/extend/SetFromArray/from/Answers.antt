@@ -1,7 +1,6 @@
 use Rattle.std.proofs.Common.{◌≡◌, true, [], get_or, ap, ◌∙◌, rules}
 use Rattle.std.proofs.lemmas.List.{take_all}
-use Rattle.micromap_core.proofs.BuildLemmas.{put_at}
-use Rattle.micromap_core.proofs.CountLemmas.{array_fits, array_fits_at}
+use Rattle.micromap_core.proofs.BuildLemmas.{put_at, array_fits, array_fits_at}
 use Rattle.micromap.specs.Extend.{distinct}
 use Rattle.micromap.specs.Items.{add, item_fits}
 use Rattle.micromap.proofs.ExtendLemmas.{items_keyed}
@@ -25,6 +24,3 @@ pub returns : goal.returns
 returns g c =
     let eq = g.T.PartialEq.eq in
     (c.loop-index.invariant ∙ ap (distinct eq) (take_all c.loop-index.index c.args.items (search rules)), array_fits g.met.T.Eq.laws (items_keyed eq g.row.N) c.args.items (search rules))
-
-pub new-set-requires : goal.new-set-requires
-new-set-requires g c = assumption

@@ -49,23 +49,11 @@ returns-clause-styled g c =
     (printing_ends (WritesAs took c.args.f.now) (λ x. g.T.Display.styled_output x spec) _ _ _ _ _ _ _ c.loop-item.invariant.styled (search rules) (λ same. c.write_str-2.ensures.styled))
 
 -- a failed call says nothing of a text
-pub returns-in_err-write_str-2-clause-writes : goal.returns-in_err-write_str-2-clause-writes
-returns-in_err-write_str-2-clause-writes g c = failed_plain g.W.Write.write_str_gives c.args.f.now _ _ _ c.from_residual-in_err-write_str-2.ensures.0
+pub returns-in_err-write_str : goal.returns-in_err-write_str
+returns-in_err-write_str g c = record { writes = failed_plain g.W.Write.write_str_gives c.args.f.now _ _ _ c.from_residual.ensures.0; styled = failed_styled g.W.Write.write_str_gives c.args.f.now _ _ _ c.from_residual.ensures.0 }
 
-pub returns-in_err-write_str-2-clause-styled : goal.returns-in_err-write_str-2-clause-styled
-returns-in_err-write_str-2-clause-styled g c = failed_styled g.W.Write.write_str_gives c.args.f.now _ _ _ c.from_residual-in_err-write_str-2.ensures.0
+pub returns-in_err-fmt : goal.returns-in_err-fmt
+returns-in_err-fmt g c = record { writes = failed_plain g.W.Write.write_str_gives c.args.f.now _ _ _ c.from_residual-in_err-fmt.ensures.0; styled = failed_styled g.W.Write.write_str_gives c.args.f.now _ _ _ c.from_residual-in_err-fmt.ensures.0 }
 
-pub returns-in_err-fmt-clause-writes : goal.returns-in_err-fmt-clause-writes
-returns-in_err-fmt-clause-writes g c = failed_plain g.W.Write.write_str_gives c.args.f.now _ _ _ c.from_residual-in_err-fmt.ensures.0
-
-pub returns-in_err-fmt-clause-styled : goal.returns-in_err-fmt-clause-styled
-returns-in_err-fmt-clause-styled g c = failed_styled g.W.Write.write_str_gives c.args.f.now _ _ _ c.from_residual-in_err-fmt.ensures.0
-
-pub into_iter-item-iterator-requires : goal.into_iter-item-iterator-requires
-into_iter-item-iterator-requires g c = assumption
-
-pub returns-in_err-write_str-clause-writes : goal.returns-in_err-write_str-clause-writes
-returns-in_err-write_str-clause-writes g c = failed_plain g.W.Write.write_str_gives c.args.f.now _ _ _ c.from_residual.ensures.0
-
-pub returns-in_err-write_str-clause-styled : goal.returns-in_err-write_str-clause-styled
-returns-in_err-write_str-clause-styled g c = failed_styled g.W.Write.write_str_gives c.args.f.now _ _ _ c.from_residual.ensures.0
+pub returns-in_err-write_str-2 : goal.returns-in_err-write_str-2
+returns-in_err-write_str-2 g c = record { writes = failed_plain g.W.Write.write_str_gives c.args.f.now _ _ _ c.from_residual-in_err-write_str-2.ensures.0; styled = failed_styled g.W.Write.write_str_gives c.args.f.now _ _ _ c.from_residual-in_err-write_str-2.ensures.0 }

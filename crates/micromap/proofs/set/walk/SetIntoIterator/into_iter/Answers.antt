@@ -4,7 +4,10 @@ use Rattle.micromap_walk.proofs.Runs.{gives_in_order}
 use Rattle.micromap.proofs.set.walk.SetIntoIterator.into_iter.Goals as goal
 
 pub returns : goal.returns
-returns g c = record { into_iter_gives = (c.into_keys.ensures.answer ∙ c.self.view_is, gives_in_order) }
+returns g c = record { into_iter_gives = (c.into_keys.ensures.answer ∙ c.self.view_is, gives_in_order, c.len-bounded.ensures.content.bounded) }
 
 pub into_keys-requires : goal.into_keys-requires
 into_keys-requires g c = (map_fits g.row.T g.row.N g.T.PartialEq.eq assumption, search rules)
+
+pub len-bounded-requires : goal.len-bounded-requires
+len-bounded-requires g c = assumption

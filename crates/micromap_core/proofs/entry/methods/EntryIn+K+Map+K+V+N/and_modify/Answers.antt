@@ -31,23 +31,6 @@ get_mut-requires g c = (assumption, rw c.in-Occupied.is at c.requires.sound)
 pub f-requires : goal.f-requires
 f-requires g c = c.requires.callable c.get_mut.result (rw c.in-Occupied.is c.get_mut.ensures.answer)
 
-pub returns-in-Vacant-clause-same_map : goal.returns-in-Vacant-clause-same_map
-returns-in-Vacant-clause-same_map g c = rw c.in-Vacant.is refl
-
-pub returns-in-Vacant-clause-pairs : goal.returns-in-Vacant-clause-pairs
-returns-in-Vacant-clause-pairs g c = rw c.in-Vacant.is refl
-
-pub returns-in-Vacant-clause-occupied : goal.returns-in-Vacant-clause-occupied
-returns-in-Vacant-clause-occupied g c = rw c.in-Vacant.is refl
-
-pub returns-in-Vacant-clause-key : goal.returns-in-Vacant-clause-key
-returns-in-Vacant-clause-key g c = rw c.in-Vacant.is refl
-
-pub returns-in-Vacant-clause-puts : goal.returns-in-Vacant-clause-puts
-returns-in-Vacant-clause-puts g c = λ v. rw c.in-Vacant.is refl
-
-pub returns-in-Vacant-clause-taken : goal.returns-in-Vacant-clause-taken
-returns-in-Vacant-clause-taken g c = rw c.in-Vacant.is refl
-
-pub returns-in-Vacant-clause-sound : goal.returns-in-Vacant-clause-sound
-returns-in-Vacant-clause-sound g c = rw c.in-Vacant.is at c.requires.sound
+-- a vacant entry is returned as it is
+pub returns-in-Vacant : goal.returns-in-Vacant
+returns-in-Vacant g c = let sound = rw c.in-Vacant.is at c.requires.sound in rw c.in-Vacant.is (assumption sound)

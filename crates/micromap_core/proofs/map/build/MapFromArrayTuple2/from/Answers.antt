@@ -1,8 +1,7 @@
 use Rattle.std.proofs.Common.{◌≡◌, true, [], get_or, ap, ◌∙◌, rules}
 use Rattle.std.proofs.lemmas.List.{take_all}
 use Rattle.micromap_core.specs.Build.{build, pair_fits, put_pair}
-use Rattle.micromap_core.proofs.BuildLemmas.{put_at}
-use Rattle.micromap_core.proofs.CountLemmas.{pairs_keyed, array_fits, array_fits_at}
+use Rattle.micromap_core.proofs.BuildLemmas.{put_at, pairs_keyed, array_fits, array_fits_at}
 use Rattle.micromap_core.proofs.map.build.MapFromArrayTuple2.from.Goals as goal
 
 pub insert-requires : goal.insert-requires

@@ -26,34 +26,27 @@ loop-key-preserved g c =
           (with_options took e l.f _ (Ok tt) (λ options. text) (unstyled_writes took _ _ _ text (λ same. search rules) c.in_ok-write.ensures.writes));
     }
 
-pub returns-clause-styled : goal.returns-clause-styled
-returns-clause-styled g c =
+pub returns : goal.returns
+returns g c =
     let took = g.W.Write.write_str_gives in
-    let e = c.args.f.now in
-    styled_from took e _ _ _
-    (printing_ends (WritesAs took e) (pair_text g.K.Display.output g.V.Display.output) _ _ _ _ _ _ _ c.loop-key.invariant.printing (search rules) (λ same. c.write_str-2.ensures.styled))
-
-pub returns-clause-writes : goal.returns-clause-writes
-returns-clause-writes g c =
-    displays_at_plain g.W.Write.write_str_gives _ _ _ (map_text g.K.Display.output g.V.Display.output c.args.self.now) (returns-clause-styled g c)
+    let styled =
+    styled_from took c.args.f.now _ _ _
+    (printing_ends (WritesAs took c.args.f.now) (pair_text g.K.Display.output g.V.Display.output) _ _ _ _ _ _ _ c.loop-key.invariant.printing (search rules) (λ same. c.write_str-2.ensures.styled)) in
+    record { styled = styled; writes = displays_at_plain took _ _ _ (map_text g.K.Display.output g.V.Display.output c.args.self.now) styled }
 
 -- a failed call says nothing of a text
-pub returns-in_err-write-clause-styled : goal.returns-in_err-write-clause-styled
-returns-in_err-write-clause-styled g c = failed_styled g.W.Write.write_str_gives c.args.f.now _ _ _ c.from_residual-in_err-write.ensures.0
+pub returns-in_err-write : goal.returns-in_err-write
+returns-in_err-write g c =
+    let failed = failed_styled g.W.Write.write_str_gives c.args.f.now _ _ _ c.from_residual-in_err-write.ensures.0 in
+    record { styled = failed; writes = displays_at_plain g.W.Write.write_str_gives _ _ _ (map_text g.K.Display.output g.V.Display.output c.args.self.now) failed }
 
-pub returns-in_err-write-clause-writes : goal.returns-in_err-write-clause-writes
-returns-in_err-write-clause-writes g c =
-    displays_at_plain g.W.Write.write_str_gives _ _ _ (map_text g.K.Display.output g.V.Display.output c.args.self.now) (returns-in_err-write-clause-styled g c)
+pub returns-in_err-write_str : goal.returns-in_err-write_str
+returns-in_err-write_str g c =
+    let failed = failed_styled g.W.Write.write_str_gives c.args.f.now _ _ _ c.from_residual.ensures.0 in
+    record { styled = failed; writes = displays_at_plain g.W.Write.write_str_gives _ _ _ (map_text g.K.Display.output g.V.Display.output c.args.self.now) failed }
 
 pub into_iter-key-iterator-requires : goal.into_iter-key-iterator-requires
 into_iter-key-iterator-requires g c = assumption
 
 pub loop-key-smaller : goal.loop-key-smaller
 loop-key-smaller g c = omega (arith, ap length c.in-Some.ensures.steps)
-
-pub returns-in_err-write_str-clause-styled : goal.returns-in_err-write_str-clause-styled
-returns-in_err-write_str-clause-styled g c = failed_styled g.W.Write.write_str_gives c.args.f.now _ _ _ c.from_residual.ensures.0
-
-pub returns-in_err-write_str-clause-writes : goal.returns-in_err-write_str-clause-writes
-returns-in_err-write_str-clause-writes g c =
-    displays_at_plain g.W.Write.write_str_gives _ _ _ (map_text g.K.Display.output g.V.Display.output c.args.self.now) (returns-in_err-write_str-clause-styled g c)

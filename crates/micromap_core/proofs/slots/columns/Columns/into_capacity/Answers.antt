@@ -1,5 +1,5 @@
 use Rattle.std.proofs.Common.{arith, rules}
-use Rattle.micromap_core.proofs.ColumnLemmas.{as_long}
+use Rattle.micromap_core.proofs.SlotsLemmas.{as_long}
 use Rattle.micromap_core.proofs.slots.columns.Columns.into_capacity.Goals as goal
 
 pub into_capacity-requires : goal.into_capacity-requires

@@ -1,14 +1,13 @@
 use Rattle.micromap_core.proofs.Sizes.{values_fit}
 use Rattle.std.proofs.Common.{sym, ◌∙◌, arith}
-use Rattle.micromap_core.proofs.ColumnLemmas.{as_long}
+use Rattle.micromap_core.proofs.SlotsLemmas.{as_long}
 use Rattle.micromap_core.proofs.slots.columns.Columns.len.Goals as goal
 
-pub returns-clause-answer : goal.returns-clause-answer
-returns-clause-answer g c = c.len-keys.ensures.answer ∙ sym (as_long _ _ _ c.self.invariant c.self.view_is)
-
-pub returns-clause-bounded : goal.returns-clause-bounded
-returns-clause-bounded g c =
-    omega (arith, as_long _ _ _ c.self.invariant c.self.view_is, c.len-keys.ensures.bounded)
+pub returns : goal.returns
+returns g c = record {
+  answer = c.len-keys.ensures.answer ∙ sym (as_long _ _ _ c.self.invariant c.self.view_is);
+  bounded = omega (arith, as_long _ _ _ c.self.invariant c.self.view_is, c.len-keys.ensures.bounded);
+}
 
 pub hint_equal-requires : goal.hint_equal-requires
 hint_equal-requires g c = rw (c.len-keys.ensures.answer, c.len-values.ensures.answer) c.self.invariant

@@ -1,5 +1,5 @@
 use Rattle.std.proofs.Common.{arith, rules}
-use Rattle.micromap_core.proofs.ColumnLemmas.{as_long, get_zip}
+use Rattle.micromap_core.proofs.SlotsLemmas.{as_long, get_zip}
 use Rattle.micromap_core.proofs.slots.columns.Columns.pair_at.Goals as goal
 
 pub item_at-requires : goal.item_at-requires

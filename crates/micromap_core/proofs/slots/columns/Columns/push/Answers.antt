@@ -1,7 +1,7 @@
 use Rattle.micromap_core.proofs.Sizes.{keys_fit, values_fit}
 use Rattle.std.proofs.Common.{arith}
 use Rattle.micromap_walk.proofs.ZipLemmas.{zip_append}
-use Rattle.micromap_core.proofs.ColumnLemmas.{as_long, equal_push}
+use Rattle.micromap_core.proofs.SlotsLemmas.{as_long, equal_push}
 use Rattle.micromap_core.proofs.slots.columns.Columns.push.Goals as goal
 
 pub push-requires : goal.push-requires

@@ -1,6 +1,6 @@
 use Rattle.micromap_core.proofs.Sizes.{keys_fit, values_fit}
 use Rattle.std.proofs.Common.{arith}
-use Rattle.micromap_core.proofs.ColumnLemmas.{as_long, equal_remove, get_zip, zip_remove}
+use Rattle.micromap_core.proofs.SlotsLemmas.{as_long, equal_remove, get_zip, zip_remove}
 use Rattle.micromap_core.proofs.slots.columns.Columns.remove.Goals as goal
 
 pub remove-key-requires : goal.remove-key-requires
@@ -14,11 +14,11 @@ remove-value-requires g c =
 pub invariant_of-self : goal.invariant_of-self
 invariant_of-self g c = rw (c.remove-key.ensures.items, c.remove-value.ensures.items) (equal_remove _ _ c.args.index c.self.invariant)
 
-pub returns-clause-answer : goal.returns-clause-answer
-returns-clause-answer g c = rw (← c.self.view_is) (get_zip _ _ c.args.index _ _ c.remove-key.ensures.answer c.remove-value.ensures.answer)
-
-pub returns-clause-pairs : goal.returns-clause-pairs
-returns-clause-pairs g c = rw (c.remove-key.ensures.items, c.remove-value.ensures.items, ← c.self.view_is) (zip_remove _ _ c.args.index c.self.invariant)
+pub returns : goal.returns
+returns g c = record {
+  answer = rw (← c.self.view_is) (get_zip _ _ c.args.index _ _ c.remove-key.ensures.answer c.remove-value.ensures.answer);
+  pairs = rw (c.remove-key.ensures.items, c.remove-value.ensures.items, ← c.self.view_is) (zip_remove _ _ c.args.index c.self.invariant);
+}
 
 pub hint_equal-requires : goal.hint_equal-requires
 hint_equal-requires g c =

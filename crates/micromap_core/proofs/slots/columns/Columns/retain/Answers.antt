@@ -1,5 +1,5 @@
 use Rattle.std.proofs.Common.{ℕ, ◌<◌, ◌≤◌, length, length-set, refl, ◌∙◌, arith}
-use Rattle.micromap_core.proofs.RetainLemmas.{asks_next, keeps_next, drops_next, retain_ends}
+use Rattle.micromap_core.proofs.ClosureLemmas.{retain_asks, keeps_next, drops_next, retain_ends}
 use Rattle.micromap_core.proofs.slots.columns.Columns.retain.Goals as goal
 
 below : {k i n : ℕ} → k ≤ i → i < n → k < n
@@ -11,7 +11,7 @@ loop-index-init g c = record { ready = c.requires; rest = λ more later. later; 
 pub visit_at-requires : goal.visit_at-requires
 visit_at-requires g c =
     let now = c.loop-index.invariant in
-    (assumption, (rw (now.whole, ← c.len-index-end.ensures.answer) c.loop-index-test.true, asks_next g.F.FnMut c.args.keep c.args.self.now _ _ _ _ now))
+    (assumption, (rw (now.whole, ← c.len-index-end.ensures.answer) c.loop-index-test.true, retain_asks g.F.FnMut c.args.keep c.args.self.now _ _ _ _ now))
 
 pub loop-index-preserved : goal.loop-index-preserved
 loop-index-preserved g c =

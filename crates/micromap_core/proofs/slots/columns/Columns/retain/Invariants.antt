@@ -1,4 +1,4 @@
-use Rattle.micromap_core.proofs.RetainLemmas.{Retaining}
+use Rattle.micromap_core.proofs.ClosureLemmas.{Retaining}
 use Rattle.micromap_core.proofs.slots.columns.Columns.retain.Given as goal
 
 abbrev pub invariant-loop-index : goal.invariant-loop-index

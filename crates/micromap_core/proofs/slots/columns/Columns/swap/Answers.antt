@@ -1,6 +1,6 @@
 use Rattle.std.proofs.Common.{sym, ◌∙◌, arith, rules}
 use Rattle.std.proofs.lemmas.List.Edits.{length-swap}
-use Rattle.micromap_core.proofs.ColumnLemmas.{as_long, zip_swap}
+use Rattle.micromap_core.proofs.SlotsLemmas.{as_long, zip_swap}
 use Rattle.micromap_core.proofs.slots.columns.Columns.swap.Goals as goal
 
 pub swap-requires : goal.swap-requires

@@ -1,6 +1,6 @@
 use Rattle.std.proofs.Common.{arith}
 use Rattle.std.proofs.lemmas.Grind.{common_steps}
-use Rattle.micromap_core.proofs.ColumnLemmas.{zip_take}
+use Rattle.micromap_core.proofs.SlotsLemmas.{zip_take}
 use Rattle.micromap_core.proofs.slots.columns.Columns.truncate.Goals as goal
 
 pub invariant_of-self : goal.invariant_of-self

@@ -1,5 +1,5 @@
 use Rattle.std.proofs.Common.{sym, length-set, refl, ◌∙◌, arith, rules}
-use Rattle.micromap_core.proofs.ColumnLemmas.{as_long, set_value_zip, value_zip}
+use Rattle.micromap_core.proofs.SlotsLemmas.{as_long, set_value_zip, value_zip}
 use Rattle.micromap_core.proofs.slots.columns.Columns.value_at.Goals as goal
 
 pub item_at_mut-requires : goal.item_at_mut-requires

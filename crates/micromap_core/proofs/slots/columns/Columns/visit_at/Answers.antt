@@ -1,7 +1,7 @@
 use Rattle.std.proofs.Common.{sym, length-set, ◌≡◌, Some, slice_get, refl, subst, ◌∙◌, arith, rules}
 use Rattle.std.specs.Option.{IfSome}
 use Rattle.micromap_core.specs.Closures.{AcceptsPair}
-use Rattle.micromap_core.proofs.ColumnLemmas.{as_long, get_zip, set_value_zip}
+use Rattle.micromap_core.proofs.SlotsLemmas.{as_long, get_zip, set_value_zip}
 use Rattle.micromap_core.proofs.slots.columns.Columns.visit_at.Goals as goal
 
 pub item_at-requires : goal.item_at-requires

@@ -10,6 +10,3 @@ returns-clause-lower g c = λ _. rw (← c.self.view_is) (omega (arith, length-d
 pub returns-clause-upper : goal.returns-clause-upper
 unfolding difference_left
 returns-clause-upper g c = (tt {0}, rw (← c.self.view_is) (omega (arith, length-parts g.T.PartialEq.eq c.self.inside.rest c.self.inside.other.now)))
-
-pub len-requires : goal.len-requires
-len-requires g c = assumption

@@ -12,6 +12,3 @@ returns-clause-steps g c = rw (← c.self.view_is) (record { member = c.in_ok-it
 
 pub returns-clause-goes : goal.returns-clause-goes
 returns-clause-goes g c = progress (λ r. r) (difference_left (on deref g.T.PartialEq.eq)) (difference_on (on deref g.T.PartialEq.eq)) _ _ _ (returns-clause-steps g c)
-
-pub next-requires : goal.next-requires
-next-requires g c = assumption

@@ -6,6 +6,3 @@ use Rattle.micromap.proofs.set.operations.difference_ref.Set+ref+T+N.difference_
 
 pub returns-clause-runs : goal.returns-clause-runs
 returns-clause-runs g c = items_in_order (difference_left (on deref g.T.PartialEq.eq)) (difference_on (on deref g.T.PartialEq.eq))
-
-pub difference-requires : goal.difference-requires
-difference-requires g c = assumption

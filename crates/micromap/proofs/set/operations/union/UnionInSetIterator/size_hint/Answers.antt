@@ -10,9 +10,6 @@ returns-clause-upper g c =
     let second = rw c.size_hint-2.ensures.exact at c.size_hint-2.ensures.upper in
     rw (← c.self.view_is, c.hint_of_both.ensures, c.size_hint.ensures.exact, c.size_hint-2.ensures.exact) (upper_sum _ _ _ _ _ first.1 second.1 (length-append _ _))
 
-pub size_hint-requires-2 : goal.size_hint-requires-2
-size_hint-requires-2 g c = assumption
-
 pub returns-clause-lower : goal.returns-clause-lower
 unfolding union_left
 returns-clause-lower g c = λ _. rw (← c.self.view_is, c.hint_of_both.ensures) (lower_sum _ _ _ _ _ (c.size_hint.ensures.lower tt) (c.size_hint-2.ensures.lower tt) (length-append _ _))

@@ -1,4 +1,0 @@
-use Rattle.micromap.proofs.set.Set.is_superset.Goals as goal
-
-pub is_subset-requires : goal.is_subset-requires
-is_subset-requires g c = assumption

@@ -1,0 +1,249 @@
+//! Callers that are generic in key and value, and of the laws of sums, of the first pair and of a list that is put.
+ghost use Rattle.std.specs.Prelude.{◌≡◌, ◌-◌, ◌+◌, ◌<◌, ◌≤◌, ◌^◌, [], ◌∷◌, ◌++◌, IfErr, IfSome, IsFalse, IsTrue, Some, drop, filter, length, nat_eq, not, ◌&&◌, reverse, slice_get, sum, sum_by, if◌then◌else◌};
+ghost use Rattle.std.specs.Bool.{OnTrue};
+ghost use Rattle.std.specs.List.{list_any};
+ghost use Rattle.std.specs.Map.{keys_of, values_of};
+ghost use Rattle.std.specs.Option.{option_or};
+ghost use Rattle.std.specs.Vec.{vec_items};
+ghost use Rattle.micromap.specs.Build.{put_all};
+ghost use Rattle.micromap.specs.Extend.{add_all};
+ghost use Rattle.micromap.specs.Items.{add, contains, item_fits};
+ghost use Rattle.micromap.specs.Memory.{IntoIterFits};
+ghost use Rattle.micromap.specs.Pairs.{at, fits, has, put, take_out};
+ghost use Rattle.micromap.specs.Same.{has_value};
+ghost use Rattle.micromap.specs.SetMemory.{SetIntoIterFits};
+ghost use Rattle.micromap.specs.Texts.{item_texts, key_texts};
+
+use micromap::{Map, Overfull, Set};
+
+// Inserts an item. A full set loses its first item for a new one, and that item is returned.
+#[tactic(auto, using(std::proofs::lemmas::Grind::common_steps))]
+fn add_newest<T: Eq + Drop, const N: usize>(set: &mut Set<T, N>, item: T) -> Option<T>
+    requires { 0 < N }
+    ensures { set.new ≡ add T.eq (if item_fits T.eq N set.old item then set.old else drop 1 set.old) item }
+{
+    if set.fits(&item) {
+        set.insert(item);
+        return None;
+    }
+    let _content = set.len();
+    let first = set.pop_first();
+    set.insert(item);
+    first
+}
+
+// Takes the first pair out. Its key found its value, and finds none now.
+#[tactic(auto, using(micromap_core::proofs::MapLaws::map_bound_laws))]
+fn take_first<K: Eq + Drop, V: Drop, const N: usize>(map: &mut Map<K, V, N>) -> Option<(K, V)>
+    ensures found { IfSome result (λ p. at K.eq map.old p.0 ≡ Some p.1) }
+    ensures gone { IfSome result (λ p. IsFalse (has K.eq map.new p.0)) }
+    ensures others { IfSome result (λ p. map.new ≡ take_out K.eq map.old p.0) }
+{
+    let _content = map.len();
+    map.pop_first()
+}
+
+// Returns the first pair, and drops the others.
+fn first_drained<K: Eq + Drop, V: Drop, const N: usize>(map: &mut Map<K, V, N>) -> Option<(K, V)>
+    requires { IntoIterFits K.row V.row N.row }
+    ensures first { IfSome result (λ p. slice_get map.old 0 ≡ Some p) }
+    ensures emptied { map.new ≡ [] }
+{
+    let first = map.drain().next()?;
+    Some(first)
+}
+
+// Returns the first item, and drops the others.
+fn first_item<T: Eq + Drop, const N: usize>(set: Set<T, N>) -> Option<T>
+    requires { SetIntoIterFits T.row N.row }
+    ensures { IfSome result (λ x. slice_get set 0 ≡ Some x) }
+{
+    let first = set.into_iter().next()?;
+    Some(first)
+}
+
+// Puts a pair last if its key is new and there is room.
+#[tactic(auto, using(micromap_core::proofs::MapLaws::map_bound_laws))]
+fn append<K: Eq + Drop, V: Drop, const N: usize>(map: &mut Map<K, V, N>, key: K, value: V) -> bool
+    ensures { map.new ≡ (if result then map.old ++ (key, value) ∷ [] else map.old) }
+{
+    let _content = map.len();
+    if map.contains_key(&key) || !map.fits(&key) {
+        return false;
+    }
+    map.insert(key, value);
+    true
+}
+
+// Inserts a pair if it fits. One that doesn't has a new key, and the map is full.
+#[tactic(auto, using(micromap_core::proofs::MapLaws::map_bound_laws))]
+fn put_or_refuse<K: Eq + Drop, V: Drop, const N: usize>(
+    map: &mut Map<K, V, N>,
+    key: K,
+    value: V,
+) -> bool
+    ensures new { IsFalse result → IsFalse (has K.eq map.old key) }
+    ensures full { IsFalse result → N ≤ length map.old }
+{
+    let _content = map.len();
+    map.checked_insert(key, value).is_some()
+}
+
+// Whether a key is among the keys.
+#[tactic(auto, using(micromap_core::proofs::MapLaws::map_bound_laws))]
+fn is_among_keys<K: Eq, V, const N: usize>(map: &Map<K, V, N>, key: &K) -> bool
+    ensures { result ≡ list_any (K.eq key.now) (keys_of map.now) }
+{
+    map.contains_key(key)
+}
+
+// Puts pairs one after the other, up to the first that doesn't fit. If one doesn't, they would be more than `N`.
+#[tactic(auto, using(micromap_core::proofs::CountLaws::count_laws, micromap_core::proofs::MapLaws::map_bound_laws))]
+fn put_each<K: Eq + Copy + Drop, const N: usize>(map: &mut Map<K, u8, N>, items: &[(K, u8)]) -> bool
+    ensures put { OnTrue result (map.new ≡ put_all K.eq map.old items.now) }
+    ensures refused { IsFalse result → N < length (put_all K.eq map.old items.now) }
+{
+    let _content = map.len();
+    for item in items {
+        if !map.fits(&item.0) {
+            return false;
+        }
+        map.insert(item.0, item.1);
+    }
+    true
+}
+
+// Puts pairs and reads a key: of the pairs with it the last stands.
+#[tactic(auto, using(micromap_core::proofs::MapLaws::map_bound_laws))]
+fn put_each_then_read<K: Eq + Copy + Drop, const N: usize>(
+    map: &mut Map<K, u8, N>,
+    items: &[(K, u8)],
+    key: &K,
+) -> Option<Option<u8>>
+    ensures { IfSome result (λ found. found ≡ option_or (at K.eq (reverse items.now) key.now) (at K.eq map.old key.now)) }
+{
+    let _content = map.len();
+    if !put_each(map, items) {
+        return None;
+    }
+    Some(map.get(key).copied())
+}
+
+// Adds items one after the other, up to the first that doesn't fit. If one doesn't, they would be more than `N`.
+#[tactic(auto, using(micromap::proofs::ItemCounts::item_counts, micromap::proofs::SetLaws::set_bound_laws))]
+fn add_each<T: Eq + Copy + Drop, const N: usize>(set: &mut Set<T, N>, items: &[T]) -> bool
+    ensures added { OnTrue result (set.new ≡ add_all T.eq set.old items.now) }
+    ensures refused { IsFalse result → N < length (add_all T.eq set.old items.now) }
+{
+    let _content = set.len();
+    for item in items {
+        if !set.fits(item) {
+            return false;
+        }
+        set.insert(*item);
+    }
+    true
+}
+
+// Puts a vector's pairs. They are refused only if they would be more than `N`.
+fn put_items<const N: usize>(map: &mut Map<u8, u8, N>, items: Vec<(u8, u8)>) -> Result<(), Overfull>
+    ensures { IfErr result (λ _. N < length (put_all nat_eq map.old (vec_items items))) }
+{
+    let _content = map.len();
+    map.try_extend(items.into_iter())
+}
+
+// Adds to a number, and so to the sum.
+#[tactic(auto, using(micromap_core::proofs::SumLaws::sum_laws))]
+fn add_one<K: Eq + Drop, const N: usize>(map: &mut Map<K, u64, N>, key: K)
+    requires fits { IsTrue (fits K.eq N map.old key) }
+    requires sum { sum (values_of map.old) < 2 ^ 64 - 1 }
+    ensures { sum (values_of map.new) ≡ sum (values_of map.old) + 1 }
+{
+    match map.get_mut(&key) {
+        Some(number) => *number += 1,
+        None => {
+            map.insert(key, 1);
+        }
+    }
+}
+
+// Some of an article.
+#[derive(Clone, Copy)]
+struct Stock {
+    count: u64,
+    price: u64,
+}
+
+// Takes an article out, and returns how many of it there were.
+#[tactic(auto, using(micromap_core::proofs::SumLaws::sum_laws))]
+fn clear_out<K: Eq + Drop, const N: usize>(map: &mut Map<K, Stock, N>, key: &K) -> u64
+    ensures { sum_by (λ s. s.count) (values_of map.new) + result ≡ sum_by (λ s. s.count) (values_of map.old) }
+{
+    let _content = map.len();
+    match map.remove(key) {
+        Some(stock) => stock.count,
+        None => 0,
+    }
+}
+
+// Whether each key finds the same in both.
+fn find_same<const N: usize, const M: usize>(one: &Map<u8, u8, N>, other: &Map<u8, u8, M>) -> bool
+    ensures { OnTrue result ((k : _) → at nat_eq one.now k ≡ at nat_eq other.now k) }
+{
+    one.eq_with(other)
+}
+
+// Whether no key is in one map alone, and none has unequal values.
+fn has_no_difference<const N: usize>(one: &Map<u8, u8, N>, other: &Map<u8, u8, N>) -> bool
+    ensures one { IsTrue result → filter (λ p. not (has nat_eq other.now p.0)) one.now ≡ [] }
+    ensures other { IsTrue result → filter (λ p. not (has nat_eq one.now p.0)) other.now ≡ [] }
+    ensures values { IsTrue result → filter (λ p. has nat_eq other.now p.0 && not (has_value nat_eq nat_eq other.now p)) one.now ≡ [] }
+{
+    let _contents = (one.len(), other.len());
+    one.eq_with(other)
+}
+
+// No names yet.
+#[tactic(auto, using(micromap_core::proofs::TextViews::text_views))]
+fn no_ages() -> Map<String, u8, 4>
+    ensures { key_texts result ≡ [] }
+{
+    Map::new()
+}
+
+// No words yet.
+#[tactic(auto, using(micromap::proofs::SetTextViews::set_text_views))]
+fn no_words() -> Set<String, 4>
+    ensures { item_texts result ≡ [] }
+{
+    Set::new()
+}
+
+#[test]
+fn the_first_gives_way(rt: HostRuntime) {
+    let mut map: Map<u8, char, 2> = Map::new();
+    map.checked_insert(2, 'b');
+    map.checked_insert(3, 'c');
+    assert!(rt; take_first(&mut map) == Some((2, 'b')));
+    assert!(rt; first_drained(&mut map) == Some((3, 'c')));
+    let mut set: Set<u8, 2> = Set::new();
+    assert!(rt; add_newest(&mut set, 1).is_none());
+    assert!(rt; add_newest(&mut set, 2).is_none());
+    assert!(rt; add_newest(&mut set, 3) == Some(1));
+    assert!(rt; first_item(set) == Some(2));
+}
+
+#[test]
+fn what_does_not_fit_is_refused(rt: HostRuntime) {
+    let mut map: Map<u8, u8, 2> = Map::new();
+    assert!(rt; append(&mut map, 1, 10));
+    assert!(rt; !append(&mut map, 1, 11));
+    assert!(rt; put_each_then_read(&mut map, &[(2, 20), (1, 12), (2, 21)], &2) == Some(Some(21)));
+    assert!(rt; !put_each(&mut map, &[(1, 13), (3, 30)]));
+    assert!(rt; !put_or_refuse(&mut map, 3, 30));
+    assert!(rt; is_among_keys(&map, &2));
+    let mut set: Set<u8, 2> = Set::new();
+    assert!(rt; add_each(&mut set, &[1, 2, 1]));
+    assert!(rt; !add_each(&mut set, &[3]));
+}
