@@ -1,2 +1,1 @@
 pub mod LockstepLemmas
-mod ReportLemmas

@@ -1,2 +1,2 @@
 pub mod Lockstep
-pub mod Report
+pub mod Rows

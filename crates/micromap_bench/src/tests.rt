@@ -1,58 +1,33 @@
 //! What no contract says: values from outside, that a run comes through, and that a failed write ends it.
 mod capacity;
 
-use super::report::{LineSink, status, write_report};
-use super::rows::{NUMBERS, perform};
+use super::rows::NUMBERS;
 use super::{Call, lockstep, run_rows};
 use micromap::Map;
 use micromap_testing::Marked;
-use std::alloc::Global;
 use std::io::{self, Write};
 use std::test::Fail;
 
-// A writer that counts its calls, and refuses one of them with an error of its own.
+// A writer that counts its calls, and refuses one of them.
 #[derive(Drop)]
 struct Refusing {
     refused: usize,
-    error: io::ErrorKind,
     calls: usize,
-}
-
-impl Refusing {
-    // Refuses the call with this number, counted from 0.
-    fn new(refused: usize, error: io::ErrorKind) -> Self {
-        Refusing {
-            refused,
-            error,
-            calls: 0,
-        }
-    }
-
-    // Counts a call, and refuses it where it is the one.
-    fn call(&mut self) -> io::Result<()> {
-        let number = self.calls;
-        self.calls = self.calls.saturating_add(1);
-        if number == self.refused {
-            return Err(io::Error::from(self.error));
-        }
-        Ok(())
-    }
 }
 
 impl Write for Refusing {
     fn write(&mut self, buf: &[u8]) -> io::Result<usize> {
-        self.call()?;
+        let number = self.calls;
+        self.calls = number.saturating_add(1);
+        if number == self.refused {
+            return Err(io::Error::from(io::ErrorKind::BrokenPipe));
+        }
         Ok(buf.len())
     }
 
     fn flush(&mut self) -> io::Result<()> {
-        self.call()
+        Ok(())
     }
-}
-
-// Runs the program's rows.
-fn run<S: LineSink>(alloc: Global, out: &mut S) -> u8 {
-    run_rows(|number| perform(alloc, number), out)
 }
 
 #[test]
@@ -62,41 +37,23 @@ fn a_whole_run_writes_each_row(rt: HostRuntime) -> Result<(), Fail> {
         writeln!(expected, "row {number}: ok")?;
     }
     let mut out: Vec<u8> = Vec::new(rt.alloc());
-    assert_eq!(rt; run(rt.alloc(), &mut out), 0);
+    assert_eq!(rt; run_rows(rt.alloc(), &mut out), 0);
     assert_eq!(rt; out.as_slice(), expected.as_slice());
     Ok(())
 }
 
 #[test]
-fn a_refused_write_ends_the_run(rt: HostRuntime) {
-    let mut willing = Refusing::new(usize::MAX, io::ErrorKind::BrokenPipe);
-    assert_eq!(rt; run(rt.alloc(), &mut willing), 0);
+fn the_first_refused_write_ends_the_run(rt: HostRuntime) {
+    let mut willing = Refusing {
+        refused: usize::MAX,
+        calls: 0,
+    };
+    assert_eq!(rt; run_rows(rt.alloc(), &mut willing), 0);
     for refused in 0..willing.calls {
-        let mut out = Refusing::new(refused, io::ErrorKind::BrokenPipe);
-        assert_eq!(rt; run(rt.alloc(), &mut out), 1, "at {refused}");
+        let mut out = Refusing { refused, calls: 0 };
+        assert_eq!(rt; run_rows(rt.alloc(), &mut out), 1, "at {refused}");
         assert_eq!(rt; out.calls, refused.saturating_add(1), "at {refused}");
     }
-}
-
-#[test]
-fn a_report_returns_the_writers_error(rt: HostRuntime) {
-    for error in [io::ErrorKind::BrokenPipe, io::ErrorKind::StorageFull] {
-        let mut out = Refusing::new(1, error);
-        let report = write_report(&NUMBERS, |number| perform(rt.alloc(), number), &mut out);
-        assert!(rt; matches!(report, Err(found) if found.kind() == error));
-    }
-}
-
-#[test]
-fn a_report_goes_on_after_a_wrong_row(rt: HostRuntime) {
-    let mut out: Vec<u8> = Vec::new(rt.alloc());
-    let report = write_report(&[1, 33, 30], |number| perform(rt.alloc(), number), &mut out);
-    assert!(rt; matches!(report, Ok(false)));
-    assert_eq!(rt; status(&report), 1);
-    assert_eq!(rt;
-        out.as_slice(),
-        b"row 1: ok\nrow 33: wrong\nrow 30: ok\n".as_slice()
-    );
 }
 
 #[test]

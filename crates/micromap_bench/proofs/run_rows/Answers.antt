@@ -1,8 +1,14 @@
+use Rattle.std.proofs.Common.{rules, get_or}
+use Rattle.std.proofs.KnownBytes.{Appends-trans}
+use Rattle.std.proofs.lemmas.List.{drop_more}
+use Rattle.std.specs.Io.KnownBytes.{Appends}
+use Rattle.micromap_bench.specs.Rows.{ok_line}
 use Rattle.micromap_bench.specs.declared.rows.TheConstants.{NUMBERS}
-use Rattle.micromap_bench.proofs.ReportLemmas.{all_written}
 use Rattle.micromap_bench.proofs.run_rows.Goals as goal
 
--- each line that was taken is one of a row that is ok
-pub returns-clause-lines : goal.returns-clause-lines
-returns-clause-lines g c = λ zero.
-    all_written (goal.P-post g c.args.perform) g.S.LineSink.takes g.S.LineSink.contents g.met.S.LineSink.appends NUMBERS c.args.out.now c.write_report.result c.write_report.new.out c.write_report.ensures (c.status.ensures.zero.0 zero)
+-- a line of a row that is ok was written before the lines of the rows left
+pub loop-number-preserved : goal.loop-number-preserved
+loop-number-preserved g c = λ ok end rest.
+    let l = c.loop-number in
+    let wrote : Appends (g.W.Write.contents l.out) (g.W.Write.contents c.writeln.new.self) (ok_line (get_or NUMBERS l.number-index 0)) = search rules in
+    l.invariant (search rules) end (rw (drop_more NUMBERS l.number-index 0 c.loop-number-test.true) (Appends-trans _ _ end _ _ wrote rest))

@@ -1,22 +1,20 @@
 //! The rows of maps that are compared, and of maps under the same calls.
-use super::Outcome;
 use crate::{Call, lockstep};
 use micromap::Map;
 
 // The order and the capacity of two maps don't matter.
-pub(super) fn row_4() -> Outcome<4> {
+pub(super) fn row_4() -> bool {
     let mut first = Map::from([('a', 97), ('b', 98), ('c', 99)]);
     let mut second = Map::from([('c', 99), ('c', 99), ('c', 99), ('b', 98)]);
-    Outcome::of(
-        second.checked_insert('a', 97) == Some(None)
-            && second.keys().eq(&['c', 'b', 'a'])
-            && second.values().eq(&[99, 98, 97])
-            && first.eq_with(&second)
-            && first.differs_at(&second).is_none()
-            && first.remove(&'c') == Some(99)
-            && !first.eq_with(&second)
-            && first.differs_at(&second) == Some(&'c'),
-    )
+    second.fits(&'a')
+        && second.insert('a', 97).is_none()
+        && second.keys().eq(&['c', 'b', 'a'])
+        && second.values().eq(&[99, 98, 97])
+        && first.eq_with(&second)
+        && first.differs_at(&second).is_none()
+        && first.remove(&'c') == Some(99)
+        && !first.eq_with(&second)
+        && first.differs_at(&second) == Some(&'c')
 }
 
 // Two maps of one pair, the second of which has room for another.
@@ -27,15 +25,13 @@ fn pair_of_maps() -> (Map<u8, u8, 1>, Map<u8, u8, 2>) {
 }
 
 // Room alone tells two maps apart, by calls that aren't fair.
-pub(super) fn row_5() -> Outcome<5> {
+pub(super) fn row_5() -> bool {
     let (mut first, mut second) = pair_of_maps();
-    Outcome::of(
-        first.eq_with(&second) && !lockstep(&mut first, &mut second, &[Call::Insert(2, 20)]),
-    )
+    first.eq_with(&second) && !lockstep(&mut first, &mut second, &[Call::Insert(2, 20)])
 }
 
 // Calls that are fair don't.
-pub(super) fn row_6() -> Outcome<6> {
+pub(super) fn row_6() -> bool {
     let (mut first, mut second) = pair_of_maps();
     let calls = [
         Call::Insert(1, 11),
@@ -43,28 +39,24 @@ pub(super) fn row_6() -> Outcome<6> {
         Call::Remove(1),
         Call::Len,
     ];
-    Outcome::of(
-        lockstep(&mut first, &mut second, &calls)
-            && first.eq_with(&second)
-            && first.is_empty()
-            && second.is_empty(),
-    )
+    lockstep(&mut first, &mut second, &calls)
+        && first.eq_with(&second)
+        && first.is_empty()
+        && second.is_empty()
 }
 
 // One unequal value, which is named from both sides.
-pub(super) fn row_20() -> Outcome<20> {
+pub(super) fn row_20() -> bool {
     let first = Map::from([(1, 10), (2, 20)]);
     let second = Map::from([(2, 20), (1, 11)]);
-    Outcome::of(
-        !first.eq_with(&second)
-            && !second.eq_with(&first)
-            && first.differs_at(&second) == Some(&1)
-            && second.differs_at(&first) == Some(&1),
-    )
+    !first.eq_with(&second)
+        && !second.eq_with(&first)
+        && first.differs_at(&second) == Some(&1)
+        && second.differs_at(&first) == Some(&1)
 }
 
 // Maps that are the same stay so, in whatever order each keeps its pairs.
-pub(super) fn row_31() -> Outcome<31> {
+pub(super) fn row_31() -> bool {
     let mut first = Map::from([(1, 10), (2, 20), (3, 30)]);
     let mut second: Map<u8, u8, 4> = Map::new();
     for (key, value) in [(2, 20), (3, 30), (1, 10)] {
@@ -78,12 +70,10 @@ pub(super) fn row_31() -> Outcome<31> {
         Call::RemoveEntry(3),
         Call::IsEmpty,
     ];
-    Outcome::of(
-        lockstep(&mut first, &mut second, &calls)
-            && has_pairs(&first, &[2, 4], &[20, 40])
-            && has_pairs(&second, &[2, 4], &[20, 40])
-            && first.eq_with(&second),
-    )
+    lockstep(&mut first, &mut second, &calls)
+        && has_pairs(&first, &[2, 4], &[20, 40])
+        && has_pairs(&second, &[2, 4], &[20, 40])
+        && first.eq_with(&second)
 }
 
 // Whether the map has these keys with these values, in order.

@@ -1,7 +1,5 @@
 //! The rows of JSON.
-use super::Outcome;
-use micromap::json::{JsonFault, map_from_json, map_to_json, set_from_json, set_to_json};
-use micromap::{Map, Set};
+use micromap::{JsonFault, Map, Set, map_from_json, map_to_json, set_from_json, set_to_json};
 use std::alloc::{AllocError, Global};
 
 // Whether the reading returns this fault.
@@ -10,16 +8,16 @@ fn fails<T: Drop>(read: Result<T, JsonFault>, fault: JsonFault) -> bool {
 }
 
 // An object is read, or the first fault in their order is returned.
-pub(super) fn row_18(alloc: Global) -> Result<Outcome<18>, AllocError> {
+pub(super) fn row_18(alloc: Global) -> Result<bool, AllocError> {
     let letters = "{\"a\":1,\"b\":2,\"c\":3}";
     let mut wanted: Map<String, i64, 3> = Map::new();
     for (name, value) in [("a", 1), ("b", 2), ("c", 3)] {
         wanted.checked_insert(String::from_str(alloc, name)?, value);
     }
     let Ok(map) = map_from_json::<3>(alloc, letters) else {
-        return Ok(Outcome::of(false));
+        return Ok(false);
     };
-    Ok(Outcome::of(
+    Ok(
         map.eq_with(&wanted)
             && fails(map_from_json::<2>(alloc, letters), JsonFault::TooMany)
             && fails(map_from_json::<2>(alloc, "[1]"), JsonFault::NotObject)
@@ -33,11 +31,11 @@ pub(super) fn row_18(alloc: Global) -> Result<Outcome<18>, AllocError> {
                 map_from_json::<1>(alloc, "{\"a\":\"x\",\"b\":1}"),
                 JsonFault::NotWhole,
             ),
-    ))
+    )
 }
 
 // A map and a set are written, and a set is read.
-pub(super) fn row_27(alloc: Global) -> Result<Outcome<27>, AllocError> {
+pub(super) fn row_27(alloc: Global) -> Result<bool, AllocError> {
     let mut map: Map<String, i64, 2> = Map::new();
     let mut set: Set<String, 2> = Set::new();
     for (name, value) in [("b", 2), ("a", 1)] {
@@ -49,9 +47,9 @@ pub(super) fn row_27(alloc: Global) -> Result<Outcome<27>, AllocError> {
         set_to_json(alloc, &set),
         set_from_json::<2>(alloc, "[\"b\",\"a\",\"b\"]"),
     ) else {
-        return Ok(Outcome::of(false));
+        return Ok(false);
     };
-    Ok(Outcome::of(
+    Ok(
         object.as_str() == "{\"a\":1,\"b\":2}"
             && array.as_str() == "[\"b\",\"a\"]"
             && read.iter().eq(set.iter())
@@ -61,5 +59,5 @@ pub(super) fn row_27(alloc: Global) -> Result<Outcome<27>, AllocError> {
             )
             && fails(set_from_json::<2>(alloc, "[\"a\",1]"), JsonFault::NotText)
             && fails(set_from_json::<2>(alloc, "{\"a\":1}"), JsonFault::NotArray),
-    ))
+    )
 }

@@ -1,46 +1,39 @@
 //! The rows of putting, reading and taking by key, by probe and by entry.
-use super::Outcome;
 use micromap::{Map, Text};
 use micromap_testing::Marked;
 use std::alloc::{AllocError, Global};
 
 // The three outcomes of `checked_insert`.
-pub(super) fn row_1() -> Outcome<1> {
+pub(super) fn row_1() -> bool {
     let mut map = Map::<_, _, 3>::new();
-    Outcome::of(
-        map.checked_insert(1, "a") == Some(None)
-            && map.checked_insert(1, "A") == Some(Some("a"))
-            && map.checked_insert(2, "b") == Some(None)
-            && map.checked_insert(3, "c") == Some(None)
-            && map.len() == 3
-            && map.checked_insert(2, "B") == Some(Some("b"))
-            && map.checked_insert(4, "d").is_none()
-            && map.len() == 3,
-    )
+    map.checked_insert(1, "a") == Some(None)
+        && map.checked_insert(1, "A") == Some(Some("a"))
+        && map.checked_insert(2, "b") == Some(None)
+        && map.checked_insert(3, "c") == Some(None)
+        && map.len() == 3
+        && map.checked_insert(2, "B") == Some(Some("b"))
+        && map.checked_insert(4, "d").is_none()
+        && map.len() == 3
 }
 
 // A map with no room at all.
-pub(super) fn row_2() -> Outcome<2> {
+pub(super) fn row_2() -> bool {
     let mut map: Map<u8, u8, 0> = Map::new();
-    Outcome::of(
-        map.get(&1).is_none()
-            && map.checked_insert(1, 1).is_none()
-            && !map.fits(&1)
-            && map.len() == 0
-            && map.capacity() == 0,
-    )
+    map.get(&1).is_none()
+        && map.checked_insert(1, 1).is_none()
+        && !map.fits(&1)
+        && map.len() == 0
+        && map.capacity() == 0
 }
 
 // The pairs that a removal leaves keep their order.
-pub(super) fn row_3() -> Outcome<3> {
+pub(super) fn row_3() -> bool {
     let mut three = keys(&[1, 2, 3]);
-    Outcome::of(
-        without(&[1, 2, 3, 4], 2, &[1, 3, 4])
-            && without(&[1, 2, 3], 2, &[1, 3])
-            && without(&[1, 2, 3], 3, &[1, 2])
-            && three.remove(&9).is_none()
-            && three.keys().eq(&[1, 2, 3]),
-    )
+    without(&[1, 2, 3, 4], 2, &[1, 3, 4])
+        && without(&[1, 2, 3], 2, &[1, 3])
+        && without(&[1, 2, 3], 3, &[1, 2])
+        && three.remove(&9).is_none()
+        && three.keys().eq(&[1, 2, 3])
 }
 
 // A map with these keys.
@@ -59,23 +52,21 @@ fn without(old: &[u8], key: u8, new: &[u8]) -> bool {
 }
 
 // Equal keys that aren't identical: one call keeps the stored one, the other replaces it.
-pub(super) fn row_7() -> Outcome<7> {
+pub(super) fn row_7() -> bool {
     let mut map: Map<Marked, char, 1> = Map::new();
     if map.insert(Marked::new(1, 'x'), 'p').is_some() {
-        return Outcome::of(false);
+        return false;
     }
     let (second, third) = (Marked::new(1, 'y'), Marked::new(1, 'z'));
     if !map.fits(&second) || map.insert(second, 'q') != Some('p') {
-        return Outcome::of(false);
+        return false;
     }
     if !stores(&map, third, 'x', 'q') || !map.fits(&third) {
-        return Outcome::of(false);
+        return false;
     }
     let old = map.insert_key_value(third, 'r');
-    Outcome::of(
-        matches!(old, Some((key, value)) if key.mark == 'x' && value == 'q')
-            && stores(&map, second, 'z', 'r'),
-    )
+    matches!(old, Some((key, value)) if key.mark == 'x' && value == 'q')
+        && stores(&map, second, 'z', 'r')
 }
 
 // Whether the key equal to `key` has the mark, and the value.
@@ -87,13 +78,11 @@ fn stores(map: &Map<Marked, char, 1>, key: Marked, mark: char, value: char) -> b
 }
 
 // A value that is made where its key is new alone.
-pub(super) fn row_12() -> Outcome<12> {
+pub(super) fn row_12() -> bool {
     let mut map: Map<char, u8, 10> = Map::new();
-    Outcome::of(
-        first_value(&mut map, 'f', 43) == Some(43)
-            && first_value(&mut map, 'f', 44) == Some(43)
-            && map.remove_entry(&'f') == Some(('f', 43)),
-    )
+    first_value(&mut map, 'f', 43) == Some(43)
+        && first_value(&mut map, 'f', 44) == Some(43)
+        && map.remove_entry(&'f') == Some(('f', 43))
 }
 
 // The value of `key`, which is `value` from now on where it had none, or `None` where there is no room for it.
@@ -107,16 +96,16 @@ fn first_value(map: &mut Map<char, u8, 10>, key: char, value: u8) -> Option<u8> 
 }
 
 // Keys that are texts, found by a probe.
-pub(super) fn row_24(alloc: Global) -> Result<Outcome<24>, AllocError> {
+pub(super) fn row_24(alloc: Global) -> Result<bool, AllocError> {
     let mut map: Map<String, i32, 10> = Map::new();
     for (name, value) in [("one", 1), ("two", 3), ("three", 5)] {
         map.checked_insert(String::from_str(alloc, name)?, value);
     }
     let two = Text("two");
-    Ok(Outcome::of(
+    Ok(
         map.get_by(&two) == Some(&3)
             && map.remove_by(&two) == Some(3)
             && map.values().copied().eq([1, 5])
             && !map.contains_key_by(&two),
-    ))
+    )
 }

@@ -1,55 +1,50 @@
 //! The rows of the operations on two sets.
-use super::Outcome;
 use micromap::Set;
 use std::alloc::{AllocError, Global};
 
 // The hints on the way through a difference, and the members and first hints of the other operations.
-pub(super) fn row_15() -> Outcome<15> {
+pub(super) fn row_15() -> bool {
     let a = Set::from([1, 2, 3]);
     let d = Set::from([3, 4]);
     let mut difference = a.difference(&d);
     let union = a.union(&d);
     let symmetric = a.symmetric_difference(&d);
     let intersection = a.intersection(&d);
-    Outcome::of(
-        difference.size_hint() == (1, Some(3))
-            && difference.next() == Some(&1)
-            && difference.size_hint() == (0, Some(2))
-            && difference.next() == Some(&2)
-            && difference.size_hint() == (0, Some(1))
-            && difference.next().is_none()
-            && difference.size_hint() == (0, Some(0))
-            && union.size_hint() == (3, Some(5))
-            && union.eq(&[3, 4, 1, 2])
-            && symmetric.size_hint() == (1, Some(5))
-            && symmetric.eq(&[1, 2, 4])
-            && intersection.size_hint() == (0, Some(2))
-            && intersection.eq(&[3]),
-    )
+    difference.size_hint() == (1, Some(3))
+        && difference.next() == Some(&1)
+        && difference.size_hint() == (0, Some(2))
+        && difference.next() == Some(&2)
+        && difference.size_hint() == (0, Some(1))
+        && difference.next().is_none()
+        && difference.size_hint() == (0, Some(0))
+        && union.size_hint() == (3, Some(5))
+        && union.eq(&[3, 4, 1, 2])
+        && symmetric.size_hint() == (1, Some(5))
+        && symmetric.eq(&[1, 2, 4])
+        && intersection.size_hint() == (0, Some(2))
+        && intersection.eq(&[3])
 }
 
 // Subsets and disjoint sets, and what the union and the intersection count together.
-pub(super) fn row_21() -> Outcome<21> {
+pub(super) fn row_21() -> bool {
     let a = Set::from([1, 2]);
     let b = Set::from([2, 3]);
     let none: Set<i32, 0> = Set::new();
     let union = a.union(&b).count();
     let intersection = a.intersection(&b).count();
-    Outcome::of(
-        !a.is_subset(&b)
-            && !a.is_superset(&b)
-            && !a.is_disjoint(&b)
-            && union == 3
-            && intersection == 1
-            && none.is_subset(&a)
-            && none.is_subset(&b)
-            && none.is_disjoint(&a)
-            && none.is_disjoint(&b),
-    )
+    !a.is_subset(&b)
+        && !a.is_superset(&b)
+        && !a.is_disjoint(&b)
+        && union == 3
+        && intersection == 1
+        && none.is_subset(&a)
+        && none.is_subset(&b)
+        && none.is_disjoint(&a)
+        && none.is_disjoint(&b)
 }
 
 // The words of one sentence without those of another, and the references to texts without those to equal ones.
-pub(super) fn row_22(alloc: Global) -> Result<Outcome<22>, AllocError> {
+pub(super) fn row_22(alloc: Global) -> Result<bool, AllocError> {
     let mut surf: Set<&str, 7> = Set::new();
     for word in "I love the surf and the sand.".split(' ') {
         surf.checked_insert(word);
@@ -71,12 +66,12 @@ pub(super) fn row_22(alloc: Global) -> Result<Outcome<22>, AllocError> {
     let theirs = Set::from([theirs, &cherry, &date]);
     let mut fruits = ours.difference_ref(&theirs);
     let first = fruits.next().is_some_and(|fruit| fruit.as_str() == "apple");
-    Ok(Outcome::of(words && first && fruits.next().is_none()))
+    Ok(words && first && fruits.next().is_none())
 }
 
 // The sets of clones.
-pub(super) fn row_23() -> Result<Outcome<23>, AllocError> {
+pub(super) fn row_23() -> Result<bool, AllocError> {
     let less = Set::from([0, 1, 2, 3, 4]).sub(&Set::from([1, 3, 4, 5]))?;
     let shared = Set::from([1, 2, 3]).bitand(&Set::from([2, 3, 4, 5]))?;
-    Ok(Outcome::of(less.iter().eq(&[0, 2]) && shared.iter().eq(&[2, 3])))
+    Ok(less.iter().eq(&[0, 2]) && shared.iter().eq(&[2, 3]))
 }

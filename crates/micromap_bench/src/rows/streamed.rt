@@ -1,23 +1,20 @@
 //! The rows of reading a map from a source and writing one to a sink.
-use super::Outcome;
-use micromap::Map;
-use micromap::stream::{EntrySink, ReadFault, SliceSource};
+use micromap::stream::SliceSource;
+use micromap::{EntrySink, Map, ReadFault};
 use std::convert::Infallible;
 
 type Read<const N: usize> = Result<Map<u8, &'static str, N>, ReadFault<Infallible>>;
 
 // A misfit ends the reading, and what comes after it is left.
-pub(super) fn row_25() -> Outcome<25> {
+pub(super) fn row_25() -> bool {
     let pairs = [(1, "a"), (2, "b"), (1, "c"), (3, "d"), (4, "e")];
     let mut source = SliceSource::over(&pairs);
     let small: Read<2> = Map::read_entries(&mut source);
     let left = source.left() == [(4, "e")].as_slice();
     let large: Read<4> = Map::read_entries(&mut SliceSource::over(&pairs));
-    Outcome::of(
-        matches!(small, Err(ReadFault::TooMany))
-            && left
-            && large.is_ok_and(|mut map| map.drain().eq([(1, "c"), (2, "b"), (3, "d"), (4, "e")])),
-    )
+    matches!(small, Err(ReadFault::TooMany))
+        && left
+        && large.is_ok_and(|mut map| map.drain().eq([(1, "c"), (2, "b"), (3, "d"), (4, "e")]))
 }
 
 // There was no room for a second pair.
@@ -59,12 +56,12 @@ impl EntrySink<u8, u8> for OnePair {
 }
 
 // A sink that fails has what came before.
-pub(super) fn row_26() -> Outcome<26> {
+pub(super) fn row_26() -> bool {
     let map = Map::from([(1, 10), (2, 20), (3, 30)]);
     let mut sink = OnePair {
         taken: None,
         faults: 0,
         last_fault: None,
     };
-    Outcome::of(map.write_entries(&mut sink) == Err(Full) && sink.taken == Some((1, 10)))
+    map.write_entries(&mut sink) == Err(Full) && sink.taken == Some((1, 10))
 }

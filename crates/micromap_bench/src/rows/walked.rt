@@ -1,40 +1,39 @@
 //! The rows of iterators, and of values written by a closure.
-use super::Outcome;
 use micromap::Map;
 use micromap::map::Keys;
 
 // Keys by reference and by value, both from the front.
-pub(super) fn row_9() -> Outcome<9> {
+pub(super) fn row_9() -> bool {
     let mut map: Map<&str, u8, 2> = Map::new();
     map.checked_insert("foo", 0);
     map.checked_insert("bar", 0);
     let keys = map.keys();
     if keys.len() != 2 || !keys.copied().eq(["foo", "bar"]) {
-        return Outcome::of(false);
+        return false;
     }
     let keys = map.into_keys();
-    Outcome::of(keys.len() == 2 && keys.eq(["foo", "bar"]))
+    keys.len() == 2 && keys.eq(["foo", "bar"])
 }
 
 // A drained map is empty at once.
-pub(super) fn row_10() -> Outcome<10> {
+pub(super) fn row_10() -> bool {
     let mut map: Map<char, u8, 3> = Map::new();
     for (letter, code) in [('a', 97), ('b', 98), ('c', 99)] {
         map.checked_insert(letter, code);
     }
     let mut drained = map.drain();
     if drained.len() != 3 || !map.is_empty() {
-        return Outcome::of(false);
+        return false;
     }
     if drained.next() != Some(('a', 97)) || drained.len() != 2 {
-        return Outcome::of(false);
+        return false;
     }
     drop(drained);
-    Outcome::of(map.is_empty())
+    map.is_empty()
 }
 
 // Values written at some keys, one of which isn't there.
-pub(super) fn row_13() -> Outcome<13> {
+pub(super) fn row_13() -> bool {
     let mut map: Map<u8, usize, 3> = Map::new();
     for (key, value) in [(1, 10), (2, 20), (3, 30)] {
         map.checked_insert(key, value);
@@ -42,38 +41,36 @@ pub(super) fn row_13() -> Outcome<13> {
     let found = map.update_disjoint(&[3, 9, 1], |position, value| {
         *value = value.wrapping_add(position)
     });
-    Outcome::of(found == [true, false, true] && map.drain().eq([(1, 12), (2, 20), (3, 30)]))
+    found == [true, false, true] && map.drain().eq([(1, 12), (2, 20), (3, 30)])
 }
 
 // Values doubled, from the front.
-pub(super) fn row_29() -> Outcome<29> {
+pub(super) fn row_29() -> bool {
     let mut map: Map<&str, u8, 3> = Map::new();
     map.checked_insert("one", 2);
     map.checked_insert("two", 3);
     map.checked_insert("three", 5);
     map.update_all(|_, value| *value = value.wrapping_mul(2));
-    Outcome::of(map.values().copied().eq([4, 6, 10]))
+    map.values().copied().eq([4, 6, 10])
 }
 
 // A clone of an iterator has the same items left, and a default iterator is at its end.
-pub(super) fn row_30() -> Outcome<30> {
+pub(super) fn row_30() -> bool {
     let mut map: Map<u8, u8, 3> = Map::new();
     for key in [1, 2, 3] {
         map.checked_insert(key, 0);
     }
     let mut keys = map.keys();
     if keys.next() != Some(&1) {
-        return Outcome::of(false);
+        return false;
     }
     let Ok(other) = keys.clone() else {
-        return Outcome::of(false);
+        return false;
     };
     let mut none: Keys<'_, u8, u8> = Keys::default();
-    Outcome::of(
-        keys.copied().eq([2, 3])
-            && other.copied().eq([2, 3])
-            && none.len() == 0
-            && none.next().is_none()
-            && none.next().is_none(),
-    )
+    keys.copied().eq([2, 3])
+        && other.copied().eq([2, 3])
+        && none.len() == 0
+        && none.next().is_none()
+        && none.next().is_none()
 }
