@@ -1,5 +1,6 @@
 //! What no contract says, a module for each subject.
 
+mod capacities;
 mod closures;
 mod conditions;
 mod dropped;
@@ -7,5 +8,5 @@ mod edges;
 mod entries;
 mod keyed;
 mod map;
-mod run;
+mod popped;
 mod walks;

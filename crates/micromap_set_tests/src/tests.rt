@@ -2,5 +2,6 @@
 
 mod hints;
 mod operations;
+mod popped;
 mod refused;
 mod set;

@@ -32,7 +32,9 @@ fn written<W: EntrySink<u8, u8>, const N: usize>(map: &Map<u8, u8, N>, sink: &mu
 fn a_map_of_one_changes_its_key(rt: HostRuntime) {
     let mut map: Map<u8, u8, 1> = Map::new();
     assert_eq!(rt; map.checked_insert(1, 10), Some(None));
-    assert_eq!(rt; map.checked_insert(2, 10), None);
+    assert!(rt; map.fits(&1));
+    assert!(rt; !map.fits(&2));
+    assert_eq!(rt; map.checked_insert(2, 20), None);
     assert_eq!(rt; map.checked_insert(1, 11), Some(Some(10)));
     assert_eq!(rt; map.remove(&1), Some(11));
     if map.fits(&2) {

@@ -229,3 +229,22 @@ fn a_function_may_answer_an_entry(rt: HostRuntime) {
     }
     assert!(rt; map.drain().eq([('b', 2)]));
 }
+
+// The letter and the value of a vacant entry once it is inserted.
+fn insert_new_entry(map: &mut Map<char, u8, 1>, letter: char, value: u8) -> Option<(char, u8)> {
+    match map.entry(letter) {
+        Entry::Vacant(entry) if entry.has_room() => {
+            let entry = entry.insert_entry(value);
+            Some((*entry.key(), *entry.get()))
+        }
+        Entry::Vacant(_entry) => None,
+        Entry::Occupied(_entry) => None,
+    }
+}
+
+#[test]
+fn a_vacant_entry_is_filled_and_goes_on(rt: HostRuntime) {
+    let mut map: Map<char, u8, 1> = Map::new();
+    assert_eq!(rt; insert_new_entry(&mut map, 'e', 5), Some(('e', 5)));
+    assert_eq!(rt; insert_new_entry(&mut map, 'e', 6), None);
+}

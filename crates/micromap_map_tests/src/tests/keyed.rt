@@ -1,9 +1,9 @@
 //! The keyed calls with a precondition, the calls by probe, and callers' proofs over a value written by reference and
 //! over what a look-up finds after an insertion and a removal.
 ghost use Rattle.std.specs.Prelude.{◌≡◌, Some, None, IsTrue, nat_eq, if◌then◌else◌};
-ghost use Rattle.std.specs.Cmp.Lexicographic.{pointwise};
+ghost use Rattle.std.specs.Map.{lookup};
 ghost use Rattle.micromap.specs.Pairs.{fits, has, put};
-ghost use Rattle.micromap.specs.Probe.{at_matched, is_str};
+ghost use Rattle.micromap.specs.Probe.{is_str};
 
 use micromap::{Map, Text};
 use micromap_testing::{Digit, Id, Marked, gives};
@@ -75,15 +75,6 @@ fn a_removed_entry_is_gone(rt: HostRuntime) {
 
 #[test]
 #[tactic(auto, unfolding(micromap_core::specs::Pairs::put))]
-fn a_full_map_takes_a_stored_key(rt: HostRuntime) {
-    let mut map: Map<i32, i32, 1> = Map::with_capacity(1);
-    assert_eq!(rt; map.insert_unchecked(1, 42), None);
-    assert_eq!(rt; map.insert(1, 42), Some(42));
-    assert_eq!(rt; map.len(), 1);
-}
-
-#[test]
-#[tactic(auto, unfolding(micromap_core::specs::Pairs::put))]
 fn a_map_has_its_capacity(rt: HostRuntime) {
     let mut map: Map<u64, &str, 10> = Map::new();
     assert_eq!(rt; map.insert(1, "foo"), None);
@@ -131,7 +122,7 @@ fn texts_find_their_keys(rt: HostRuntime) -> Result<(), AllocError> {
 
 // A key need not live as long as the text that finds it, nor the other way round.
 fn age_of(ages: &Map<&str, i64, 32>, name: &str) -> Option<i64>
-    ensures { result ≡ at_matched (λ x y. pointwise nat_eq x.now y.now) (is_str name.now) ages.now }
+    ensures { result ≡ lookup (is_str name.now) ages.now }
 {
     ages.get_by(&Text(name)).copied()
 }

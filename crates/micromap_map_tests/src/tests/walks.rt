@@ -4,7 +4,6 @@ ghost use Rattle.std.specs.Iterator.{size};
 ghost use Rattle.std.specs.Map.{values_of};
 
 use micromap::Map;
-use micromap::map::{IntoIter, IntoKeys, IntoValues, Iter, Keys, Values};
 use micromap_testing::gives;
 use std::alloc::AllocError;
 
@@ -88,16 +87,6 @@ fn a_walk_over_an_empty_map_is_at_its_end(rt: HostRuntime) {
     assert!(rt; gives(map.into_iter(), &[]));
     assert!(rt; gives(Map::<u8, u64, 0>::new().into_keys(), &[]));
     assert!(rt; gives(Map::<u8, u64, 0>::new().into_values(), &[]));
-}
-
-#[test]
-fn a_default_walk_is_at_its_end(rt: HostRuntime) {
-    assert!(rt; gives(Iter::<u8, u64>::default(), &[]));
-    assert!(rt; gives(Keys::<u8, u64>::default(), &[]));
-    assert!(rt; gives(Values::<u8, u64>::default(), &[]));
-    assert!(rt; gives(IntoIter::<u8, u64, 3>::default(), &[]));
-    assert!(rt; gives(IntoKeys::<u8, u64, 3>::default(), &[]));
-    assert!(rt; gives(IntoValues::<u8, u64, 3>::default(), &[]));
 }
 
 #[test]

@@ -1,11 +1,58 @@
-//! The set as a user meets it, and two callers' proofs over its items.
+//! The set as a user meets it, and two callers' proofs over its items. The modules are those of its calls.
 ghost use Rattle.std.specs.Prelude.{◌≡◌, ◌==◌, ◌%◌, if◌then◌else◌, nat_eq};
 ghost use Rattle.micromap.specs.Items.{add, item_fits};
 ghost use Rattle.std.specs.List.{filter};
 
-use micromap::{Set, Text};
+mod bitand;
+mod difference;
+mod intersection;
+mod methods;
+mod sub;
+mod symmetric_difference;
+mod union;
+
+use micromap::{Overfull, Set, Text};
 use micromap_testing::{Digit, Id, Marked, gives, holds};
 use std::alloc::{AllocError, Global};
+
+// The small sets on which each operation is tried.
+fn small_sets() -> (Set<i32, 4>, Set<i32, 8>, Set<i32, 0>, Set<i32, 2>) {
+    (
+        Set::from([1, 1, 2, 3]),
+        Set::from([4, 5, 6, 6, 6, 7, 8, 9]),
+        Set::from([]),
+        Set::from([3, 4]),
+    )
+}
+
+// The larger ones.
+fn larger_sets() -> (Set<i32, 7>, Set<i32, 6>, Set<i32, 12>) {
+    (
+        Set::from([0, 1, 2, 3, 5, 7, 9]),
+        Set::from([2, 5, 6, 7, 8, 10]),
+        Set::from([0, 1, 2, 3, 5, 7, 9, 2, 5, 6, 7, 8]),
+    )
+}
+
+// Whether the items begin with this hint, come in this order, and stay at their end.
+fn begins<'a, I: Iterator<Item = &'a i32>>(
+    mut items: I,
+    lower: usize,
+    upper: usize,
+    expected: &[i32],
+) -> bool
+    requires { (left : I) → I.can_next left }
+{
+    if items.size_hint() != (lower, Some(upper)) {
+        return false;
+    }
+    for item in expected {
+        if items.next() != Some(item) {
+            return false;
+        }
+    }
+    items.next().is_none() && items.size_hint() == (0, Some(0)) && items.next().is_none()
+}
 
 // Puts a number, where there is room for it.
 fn note<const N: usize>(seen: &mut Set<u8, N>, number: u8)
@@ -106,6 +153,21 @@ fn put<const N: usize>(set: &mut Set<i32, N>, item: i32) -> bool {
     set.fits(&item) && set.insert(item)
 }
 
+// Whether an empty set takes two items once each, and is drained of them.
+fn fills_and_drains(set: &mut Set<i32, 10>) -> bool {
+    let empty = set.capacity() == 10 && set.is_empty() && *set == Set::default();
+    let first = put(set, 0) && set.len() == 1 && !put(set, 0) && set.len() == 1;
+    let second = put(set, 1) && set.len() == 2;
+    let mut drained = set.drain();
+    empty
+        && first
+        && second
+        && drained.len() == 2
+        && drained.next() == Some(0)
+        && drained.len() == 1
+        && drained.size_hint() == (1, Some(1))
+}
+
 // Whether the first of ten items goes, comes back at the end, and goes again.
 fn first_goes_and_comes(set: &mut Set<i32, 10>) -> bool {
     set.take(&0) == Some(0)
@@ -118,24 +180,49 @@ fn first_goes_and_comes(set: &mut Set<i32, 10>) -> bool {
         && holds(set, &[1, 2, 3, 4, 5, 6, 7, 8, 9])
 }
 
+// Whether the walks over five even numbers say how many are left.
+fn walks_on(set: Set<i32, 10>) -> bool {
+    let mut items = set.iter();
+    if items.next() != Some(&2) || items.len() != 4 || items.size_hint() != (4, Some(4)) {
+        return false;
+    }
+    let mut items = set.into_iter();
+    for item in [2, 4, 6] {
+        if items.next() != Some(item) {
+            return false;
+        }
+    }
+    items.len() == 2 && items.size_hint() == (2, Some(2))
+}
+
+// A long run on one set.
 #[test]
-fn a_long_run_on_one_set(rt: HostRuntime) {
+fn various(rt: HostRuntime) {
     let mut set: Set<i32, 10> = Set::new();
+    assert!(rt; fills_and_drains(&mut set));
+    set.clear();
     for number in 0..10 {
         assert!(rt; put(&mut set, number));
     }
     assert!(rt; holds(&set, &[0, 1, 2, 3, 4, 5, 6, 7, 8, 9]));
+    assert!(rt; set.contains(&0));
     assert!(rt; first_goes_and_comes(&mut set));
     assert!(rt; put(&mut set, 10));
     assert!(rt; holds(&set, &[1, 2, 3, 4, 5, 6, 7, 8, 9, 10]));
-    assert_eq!(rt; set.get(&10), Some(&10));
-    assert_eq!(rt; set.get(&11), None);
+    assert!(rt; set.get(&10) == Some(&10));
+    assert!(rt; set.get(&11).is_none());
     set.retain(|x| *x % 2 == 0);
     assert!(rt; holds(&set, &[2, 4, 6, 8, 10]));
-    let mut items = set.iter();
-    assert_eq!(rt; items.next(), Some(&2));
-    assert!(rt; gives(items, &[&4, &6, &8, &10]));
-    assert!(rt; gives(set.into_iter(), &[2, 4, 6, 8, 10]));
+    assert!(rt; walks_on(set));
+}
+
+#[test]
+fn test_set_from(rt: HostRuntime) {
+    let four = Set::from(['a', 'b', 'c', 'd']);
+    let letters = ['a', 'a', 'd', 'b', 'a', 'd', 'c', 'd', 'c'];
+    let built: Result<Set<char, 6>, Overfull> = Set::try_from_iter(letters.into_iter());
+    assert!(rt; built.is_ok_and(|set| four.eq_with(&set) && holds(&set, &['a', 'd', 'b', 'c'])));
+    assert!(rt; four.clone().is_ok_and(|set| set == four));
 }
 
 #[test]
@@ -184,26 +271,6 @@ fn a_loop_lends_each_item_or_gives_it_away(rt: HostRuntime) {
     assert_eq!(rt; last, 3);
 }
 
-#[test]
-fn sets_within_and_apart(rt: HostRuntime) {
-    let upper: Set<u32, 3> = Set::from([1, 2, 3]);
-    let mut set: Set<u32, 5> = Set::new();
-    assert!(rt; set.is_subset(&upper));
-    assert!(rt; set.is_disjoint(&upper));
-    set.checked_insert(2);
-    assert!(rt; set.is_subset(&upper));
-    assert!(rt; !set.is_disjoint(&upper));
-    set.checked_insert(4);
-    assert!(rt; !set.is_subset(&upper));
-    let lower: Set<u32, 2> = Set::from([1, 2]);
-    let mut set: Set<u32, 5> = Set::new();
-    set.checked_insert(0);
-    set.checked_insert(1);
-    assert!(rt; !set.is_superset(&lower));
-    set.checked_insert(2);
-    assert!(rt; set.is_superset(&lower));
-}
-
 // Keeps the even numbers.
 fn keep_even<const N: usize>(set: &mut Set<u8, N>)
     ensures { set.new ≡ filter (λ x. x % 2 == 0) set.old }
@@ -235,11 +302,4 @@ fn each_item_is_visited_once_in_turn(rt: HostRuntime) {
     for (items, kept) in visited {
         assert!(rt; retains(items, kept));
     }
-}
-
-#[test]
-fn even_items_are_kept(rt: HostRuntime) {
-    let mut set: Set<u8, 5> = numbers(&[1, 2, 3, 4, 5]);
-    keep_even(&mut set);
-    assert!(rt; holds(&set, &[2, 4]));
 }

@@ -4,7 +4,7 @@ ghost use Rattle.std.specs.Vec.{vec_items};
 ghost use Rattle.micromap.specs.Build.{build, MisfitIn};
 
 use micromap::{Map, Overfull, Set};
-use micromap_testing::{debugs, displays, gives};
+use micromap_testing::{debugs, displays, holds};
 use std::alloc::AllocError;
 
 // The map of these items, or the place of the first that doesn't fit.
@@ -24,13 +24,10 @@ fn a_vector_becomes_a_map(rt: HostRuntime) -> Result<(), AllocError> {
 }
 
 #[test]
-fn an_array_becomes_a_map_or_a_set(rt: HostRuntime) {
-    let map: Map<u8, &str, 3> = [(1, "sun"), (2, "mon"), (1, "tue")].into();
-    assert_eq!(rt; map.capacity(), 3);
-    assert!(rt; map.into_iter().eq([(1, "tue"), (2, "mon")]));
+fn an_array_becomes_a_set(rt: HostRuntime) {
     let set: Set<u8, 8> = [4, 5, 6, 6, 6, 7, 8, 9].into();
-    assert_eq!(rt; set.capacity(), 8);
-    assert!(rt; set.iter().eq(&[4, 5, 6, 7, 8, 9]));
+    assert!(rt; set.capacity() == 8);
+    assert!(rt; holds(&set, &[4, 5, 6, 7, 8, 9]));
 }
 
 #[test]
@@ -67,25 +64,6 @@ fn a_set_is_extended_up_to_the_first_misfit(rt: HostRuntime) {
     assert_eq!(rt; set.try_extend(&mut left), Err(Overfull { at: 1 }));
     assert!(rt; set.iter().eq(&[5]));
     assert_eq!(rt; left.next(), Some(7));
-}
-
-#[test]
-fn each_distinct_item_is_put_once(rt: HostRuntime) -> Result<(), Overfull> {
-    let letters = ['a', 'a', 'd', 'b', 'a', 'd', 'c', 'd', 'c'];
-    let set: Set<char, 6> = Set::try_from_iter(letters.into_iter())?;
-    assert!(rt; set.iter().eq(&['a', 'd', 'b', 'c']));
-    let mut set: Set<i32, 6> = Set::try_from_iter([1, 2, 4].into_iter())?;
-    set.try_extend([2, 3, 5, 6].into_iter())?;
-    assert!(rt; set.iter().eq(&[1, 2, 4, 3, 5, 6]));
-    Ok(())
-}
-
-#[test]
-fn a_built_map_is_drained_from_the_front(rt: HostRuntime) -> Result<(), Overfull> {
-    let items = [('a', 97), ('b', 98), ('c', 99), ('d', 100)];
-    let mut map: Map<char, u8, 10> = Map::try_from_iter(items.into_iter())?;
-    assert!(rt; gives(map.drain(), &items));
-    Ok(())
 }
 
 #[test]

@@ -29,11 +29,10 @@ fn a_clone_goes_its_own_way(rt: HostRuntime) -> Result<(), AllocError> {
     map.checked_insert(1, 5);
     map.checked_insert(2, 6);
     let mut other = copy_of_numbers(&map)?;
-    other.checked_insert(3, 7);
+    assert!(rt; other.fits(&3));
+    other.insert(3, 7);
     assert!(rt; other.drain().eq([(1, 5), (2, 6), (3, 7)]));
     assert!(rt; map.drain().eq([(1, 5), (2, 6)]));
-    let none = map.clone()?;
-    assert!(rt; none.is_empty());
     Ok(())
 }
 
@@ -49,8 +48,6 @@ fn a_clone_of_a_set_goes_its_own_way(rt: HostRuntime) -> Result<(), AllocError> 
 
 #[test]
 fn maps_of_any_capacity_are_cloned(rt: HostRuntime) -> Result<(), AllocError> {
-    let none: Map<u8, u64, 0> = Map::new();
-    assert!(rt; copy_of_numbers(&none)?.is_empty());
     let none: Set<u8, 0> = Set::new();
     assert!(rt; none.clone()?.is_empty());
     let mut full: Map<u8, u64, 16> = Map::new();

@@ -4,7 +4,7 @@ ghost use Rattle.std.specs.Bool.{OnTrue};
 ghost use Rattle.micromap.specs.Calls.{run, insert, remove};
 ghost use Rattle.micromap.specs.Same.{Same};
 
-use micromap::{Map, Overfull, Set};
+use micromap::{Map, Set};
 use micromap_testing::Marked;
 
 // An edit of a list of attributes: sets one if there is room for it, and removes another.
@@ -103,12 +103,6 @@ fn equal_keys_and_values_need_not_be_identical(rt: HostRuntime) {
 }
 
 #[test]
-fn sets_are_the_same_in_any_order(rt: HostRuntime) {
-    let letters = ['a', 'a', 'd', 'b', 'a', 'd', 'c', 'd', 'c'];
-    let built: Result<Set<char, 6>, Overfull> = Set::try_from_iter(letters.into_iter());
-    let four = Set::from(['a', 'b', 'c', 'd']);
-    assert!(rt; built.is_ok_and(|set| set.eq_with(&four) && four.eq_with(&set)));
-    assert!(rt; four == Set::from(['d', 'c', 'b', 'a']));
-    assert!(rt; four != Set::from(['d', 'c', 'b', 'b']));
+fn equal_items_need_not_be_identical(rt: HostRuntime) {
     assert!(rt; Set::from([Marked::new(1, 'a')]) == Set::from([Marked::new(1, 'b')]));
 }

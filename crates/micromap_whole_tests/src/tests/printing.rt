@@ -21,9 +21,6 @@ fn text_of<const N: usize>(
 fn a_map_prints_its_pairs(rt: HostRuntime) {
     let alloc = rt.alloc();
     assert!(rt; displays(alloc, &Map::from([(1, 2), (3, 4)]), "{1: 2, 3: 4}"));
-    let names = Map::from([("one", 42), ("two", 16)]);
-    assert!(rt; displays(alloc, &names, "{one: 42, two: 16}"));
-    assert!(rt; debugs(alloc, &names, r#"{"one": 42, "two": 16}"#));
     assert!(rt; text_of::<0>(alloc, &Map::new()).is_ok_and(|text| text.as_str() == "{}"));
     assert!(rt; debugs(alloc, &Map::<u8, u8, 3>::new(), "{}"));
 }
@@ -48,15 +45,6 @@ fn a_map_prints_within_another_and_in_a_box(rt: HostRuntime) -> Result<(), Alloc
     boxed.remove(&'a');
     assert!(rt; displays(rt.alloc(), &boxed, "{b: {}}"));
     Ok(())
-}
-
-#[test]
-fn a_set_prints_its_items(rt: HostRuntime) {
-    let alloc = rt.alloc();
-    let names = Set::from(["one", "two"]);
-    assert!(rt; displays(alloc, &names, "{one, two}"));
-    assert!(rt; debugs(alloc, &names, r#"{"one", "two"}"#));
-    assert!(rt; displays(alloc, &Set::<u8, 0>::new(), "{}"));
 }
 
 // The map whose iterators are printed.
@@ -94,13 +82,9 @@ fn an_owning_walk_prints_what_is_left(rt: HostRuntime) {
 
 #[test]
 fn an_operation_prints_what_is_left(rt: HostRuntime) {
-    let alloc = rt.alloc();
     let a = Set::from([1, 2, 3]);
     let b = Set::from([3, 4, 5, 6]);
-    assert!(rt; debugs(alloc, &a.difference(&b), "[1, 2]"));
-    assert!(rt; debugs(alloc, &a.intersection(&b), "[3]"));
     let mut union = a.union(&b);
     union.next();
-    assert!(rt; debugs(alloc, &union, "[4, 5, 6, 1, 2]"));
-    assert!(rt; debugs(alloc, &a.symmetric_difference(&b), "[1, 2, 4, 5, 6]"));
+    assert!(rt; debugs(rt.alloc(), &union, "[4, 5, 6, 1, 2]"));
 }

@@ -108,24 +108,14 @@ fn insert_new(map: &mut Letters, letter: char, value: u8) -> Option<u8> {
     }
 }
 
-// The letter and the value of a vacant entry once it is inserted.
-fn insert_new_entry(map: &mut Letters, letter: char, value: u8) -> Option<(char, u8)> {
-    match map.entry(letter) {
-        Entry::Vacant(entry) if entry.has_room() => {
-            let entry = entry.insert_entry(value);
-            Some((*entry.key(), *entry.get()))
-        }
-        Entry::Vacant(_entry) => None,
-        Entry::Occupied(_entry) => None,
-    }
-}
-
 // The map that the run begins with.
+#[tactic(auto, unfolding(micromap_core::specs::Pairs::put))]
 fn letters() -> Letters {
     let mut map = Map::new();
-    for (letter, code) in [('a', 97), ('d', 100), ('c', 99), ('b', 98)] {
-        map.checked_insert(letter, code);
-    }
+    map.insert('a', 97);
+    map.insert('d', 100);
+    map.insert('c', 99);
+    map.insert('b', 98);
     map
 }
 
@@ -156,18 +146,11 @@ fn takes_and_puts(map: &mut Letters) -> bool {
 }
 
 #[test]
-fn entries_one_after_the_other(rt: HostRuntime) {
+fn various(rt: HostRuntime) {
     let mut map = letters();
     assert!(rt; puts_and_writes(&mut map));
     assert!(rt; takes_and_puts(&mut map));
     let letters = ['a', 'd', 'c', 'b', 'g', 'f', 'e'];
     assert!(rt; map.keys().eq(&letters));
     assert!(rt; map.values().eq(&[97, 100, 99, 98, 0, 102, 101]));
-}
-
-#[test]
-fn a_vacant_entry_is_filled_and_goes_on(rt: HostRuntime) {
-    let mut map = letters();
-    assert_eq!(rt; insert_new_entry(&mut map, 'e', 5), Some(('e', 5)));
-    assert_eq!(rt; insert_new_entry(&mut map, 'e', 6), None);
 }

@@ -1,0 +1,154 @@
+//! `iter`, `into_iter`, `for` loops, and `update_all`.
+use super::{Named, blanks, one, three, two};
+use micromap::Map;
+use micromap::map::{IntoIter, Iter};
+use micromap_testing::{debugs, gives};
+
+// The map of three letters and their codes.
+#[tactic(auto, unfolding(micromap_core::specs::Pairs::put))]
+fn letters() -> Map<char, u32, 4> {
+    let mut map = Map::new();
+    map.insert('a', 97);
+    map.insert('b', 98);
+    map.insert('c', 99);
+    map
+}
+
+// The sum of the values that a loop over `iter` lends.
+fn total(map: &Named) -> i32 {
+    let mut sum = 0i32;
+    for (_, value) in map.iter() {
+        sum = sum.wrapping_add(*value);
+    }
+    sum
+}
+
+#[test]
+fn empty_iterator(rt: HostRuntime) {
+    assert!(rt; Map::<u32, u32, 4>::new().into_iter().next().is_none());
+}
+
+#[test]
+fn insert_and_jump_over_next(rt: HostRuntime) {
+    let mut pairs = one().into_iter();
+    assert!(rt; pairs.next().is_some_and(|pair| pair.1 == 42));
+    assert!(rt; pairs.next().is_none());
+}
+
+#[test]
+fn insert_and_iterate(rt: HostRuntime) {
+    assert!(rt; total(&two()) == 58);
+}
+
+#[test]
+fn insert_and_into_iterate(rt: HostRuntime) {
+    let map = two();
+    let mut sum = 0i32;
+    for pair in &map {
+        sum = sum.wrapping_add(*pair.1);
+    }
+    assert!(rt; sum == 58);
+}
+
+#[test]
+fn iterate_with_blanks(rt: HostRuntime) {
+    assert!(rt; total(&blanks()) == 6);
+}
+
+#[test]
+fn debug_trait_for_iter(rt: HostRuntime) {
+    let map = Map::from([('x', 120), ('y', 121), ('z', 122)]);
+    assert!(rt;
+        debugs(
+            rt.alloc(),
+            &map.iter(),
+            "[('x', 120), ('y', 121), ('z', 122)]"
+        )
+    );
+}
+
+#[test]
+fn debug_trait_for_into_iter(rt: HostRuntime) {
+    let pairs = Map::from([('x', 120), ('y', 121), ('z', 122)]).into_iter();
+    assert!(rt; debugs(rt.alloc(), &pairs, "[('x', 120), ('y', 121), ('z', 122)]"));
+}
+
+#[test]
+fn into_iterate_with_blanks(rt: HostRuntime) {
+    let mut sum = 0i32;
+    for (_, value) in blanks() {
+        sum = sum.wrapping_add(value);
+    }
+    assert!(rt; sum == 6);
+}
+
+#[test]
+fn change_with_update_all(rt: HostRuntime) {
+    let mut map = Map::from([("one", 2), ("two", 3), ("three", 5)]);
+    map.update_all(|_, value: &mut i32| *value = value.wrapping_mul(2));
+    assert!(rt; map.iter().map(|pair| *pair.1).eq([4, 6, 10]));
+}
+
+#[test]
+fn update_all_with_blanks(rt: HostRuntime) {
+    let mut map = three();
+    let mut calls = 0u8;
+    map.update_all(|_, _| calls = calls.wrapping_add(1));
+    assert!(rt; calls == 3);
+    map.remove(&"two");
+    let mut last = 0;
+    map.update_all(|_, value| {
+        calls = calls.wrapping_add(1);
+        last = *value;
+    });
+    assert!(rt; calls == 5);
+    assert!(rt; last == 5);
+}
+
+#[test]
+#[tactic(auto, unfolding(micromap_core::specs::Pairs::put))]
+fn update_all_leaves_the_keys(rt: HostRuntime) {
+    let mut map: Map<u8, i32, 10> = Map::new();
+    map.insert(1, 10);
+    map.insert(2, 20);
+    map.update_all(|key, value| *value = value.wrapping_add(i32::from(*key)));
+    assert!(rt; gives(map.iter(), &[(&1, &11), (&2, &22)]));
+}
+
+#[test]
+fn update_all_in_place(rt: HostRuntime) {
+    let mut map = three();
+    map.update_all(|_, value| *value = value.wrapping_mul(2));
+    assert!(rt; total(&map) == 18);
+}
+
+#[test]
+#[tactic(auto, unfolding(micromap_core::specs::Pairs::put))]
+fn iter_size_hint(rt: HostRuntime) {
+    let mut map: Map<char, u32, 4> = Map::new();
+    map.insert('a', 97);
+    map.insert('c', 99);
+    assert!(rt; map.iter().len() == 2);
+    assert!(rt; gives(map.into_iter(), &[('a', 97), ('c', 99)]));
+}
+
+#[test]
+fn iter_series_default(rt: HostRuntime) {
+    assert!(rt; gives(Iter::<&str, u32>::default(), &[]));
+    assert!(rt; gives(IntoIter::<&str, u32, 3>::default(), &[]));
+}
+
+#[test]
+fn iter_count(rt: HostRuntime) {
+    let map = letters();
+    let pairs = map.iter();
+    assert!(rt; pairs.len() == 3);
+    assert!(rt; pairs.count() == 3);
+}
+
+#[test]
+fn into_iter_count(rt: HostRuntime) {
+    let pairs = letters().into_iter();
+    assert!(rt; pairs.len() == 3);
+    assert!(rt; pairs.count() == 3);
+}
