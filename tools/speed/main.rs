@@ -1,18 +1,20 @@
-//! Times the workloads of `crates/micromap_speed` at the Rust crate and at that static library, in turns, and prints lines
-//! of words with tabs between them, for `tools/compare` to make its tables of:
+//! Times the workloads of `crates/micromap_speed` at the Rust crate, at that static library and at `layout`, in turns, and
+//! prints lines of words with tabs between them, for `tools/compare` to make its tables of:
 //!
 //!     time  SUBJECT  WORKLOAD  CAPACITY  NANOSECONDS  RATIO..
 //!     size  TYPE  CAPACITY  BYTES  BYTES
 //!
-//! The nanoseconds are those of a round at the Rust crate. The ratios are the times over the Rust crate's of this library
-//! and, for numbers, of the scan by hand and of the `IndexMap`. The bytes are this library's and the Rust crate's. Each
-//! figure is a median over the turns.
+//! The nanoseconds are those of a round at the Rust crate. The ratios are the times over the Rust crate's of this library,
+//! of its layout in `unsafe` Rust and, for numbers, of the scan by hand and of the `IndexMap`. Each figure is a median over
+//! the turns. A `~` follows a ratio if the medians over the first half of the turns and over the second differ by more than
+//! a tenth. The bytes are this library's and the Rust crate's.
 
 // The files of workloads are those of the static library, so that both sides run the same text.
 #[path = "../../crates/micromap_speed/src/bytes.rt"]
 mod bytes;
 #[path = "../../crates/micromap_speed/src/inputs.rt"]
 mod inputs;
+mod layout;
 #[path = "../../crates/micromap_speed/src/numbers.rt"]
 mod numbers;
 mod platform;
@@ -22,6 +24,7 @@ mod texts;
 #[path = "../../crates/micromap_speed/src/wide.rt"]
 mod wide;
 
+use layout::Columns;
 use micromap::{Map, Set};
 use platform::Global;
 use std::hint::black_box;
@@ -40,6 +43,11 @@ type ByteSet<const N: usize> = Set<u8, N>;
 type TextMap<const N: usize> = Map<String, u64, N>;
 type WideMap<const N: usize> = Map<u64, [u64; 3], N>;
 
+type NumberColumns<const N: usize> = Columns<u64, u64, N>;
+type ByteColumns<const N: usize> = Columns<u8, (), N>;
+type TextColumns<const N: usize> = Columns<String, u64, N>;
+type WideColumns<const N: usize> = Columns<u64, [u64; 3], N>;
+
 /// Runs a workload, by its number, with a salt for some rounds.
 type Run = fn(Global, u64, u64, u64) -> u64;
 
@@ -51,24 +59,33 @@ struct Subject {
     rivals: &'static [u64],
     /// The Rust crate's, at each capacity.
     runs: [Run; 6],
+    /// Those of this library's layout.
+    layout_runs: [Run; 6],
     sizes: [usize; 6],
 }
 
+macro_rules! runs {
+    ($workloads:ident, $map:ident) => {
+        [
+            $workloads::run::<$map<2>, 2>,
+            $workloads::run::<$map<4>, 4>,
+            $workloads::run::<$map<8>, 8>,
+            $workloads::run::<$map<16>, 16>,
+            $workloads::run::<$map<32>, 32>,
+            $workloads::run::<$map<64>, 64>,
+        ]
+    };
+}
+
 macro_rules! subject {
-    ($name:literal, $type_name:literal, $workloads:ident, $map:ident, $rivals:expr) => {
+    ($name:literal, $type_name:literal, $workloads:ident, $map:ident, $columns:ident, $rivals:expr) => {
         Subject {
             name: $name,
             type_name: $type_name,
             workloads: &$workloads::NAMES,
             rivals: &$rivals,
-            runs: [
-                $workloads::run::<$map<2>, 2>,
-                $workloads::run::<$map<4>, 4>,
-                $workloads::run::<$map<8>, 8>,
-                $workloads::run::<$map<16>, 16>,
-                $workloads::run::<$map<32>, 32>,
-                $workloads::run::<$map<64>, 64>,
-            ],
+            runs: runs!($workloads, $map),
+            layout_runs: runs!($workloads, $columns),
             sizes: [
                 size_of::<$map<2>>(),
                 size_of::<$map<4>>(),
@@ -83,10 +100,10 @@ macro_rules! subject {
 
 fn subjects() -> [Subject; 4] {
     [
-        subject!("numbers", "Map<u64, u64, N>", numbers, NumberMap, [0, 1, 2]),
-        subject!("set of bytes", "Set<u8, N>", bytes, ByteSet, [3]),
-        subject!("texts", "Map<String, u64, N>", texts, TextMap, [4]),
-        subject!("24-byte values", "Map<u64, [u64; 3], N>", wide, WideMap, [5]),
+        subject!("numbers", "Map<u64, u64, N>", numbers, NumberMap, NumberColumns, [0, 1, 2]),
+        subject!("set of bytes", "Set<u8, N>", bytes, ByteSet, ByteColumns, [3]),
+        subject!("texts", "Map<String, u64, N>", texts, TextMap, TextColumns, [4]),
+        subject!("24-byte values", "Map<u64, [u64; 3], N>", wide, WideMap, WideColumns, [5]),
     ]
 }
 
@@ -97,9 +114,17 @@ fn timed(run: impl FnOnce() -> u64) -> (f64, u64) {
     (start.elapsed().as_secs_f64(), result)
 }
 
-fn median(mut figures: Vec<f64>) -> f64 {
+fn median(figures: &[f64]) -> f64 {
+    let mut figures = figures.to_vec();
     figures.sort_by(f64::total_cmp);
     figures[figures.len() / 2]
+}
+
+/// The median of some ratios, with a mark if it differs between both halves of the turns.
+fn marked(ratios: &[f64]) -> String {
+    let (first, second) = ratios.split_at(ratios.len() / 2);
+    let differs = !first.is_empty() && (median(first) / median(second)).ln().abs() > 1.1f64.ln();
+    format!("{:.4}{}", median(ratios), if differs { "~" } else { "" })
 }
 
 /// How many rounds take about half a millisecond.
@@ -116,16 +141,18 @@ fn enough_rounds(run: &dyn Fn(u64) -> u64) -> u64 {
 
 /// A workload at one capacity: the Rust crate's nanoseconds for a round, and the ratio of each rival's time to its. Each
 /// turn starts with another of them.
-fn measured(subject: &Subject, workload: usize, at: usize, turns: usize) -> (f64, Vec<f64>) {
-    let (number, capacity, rust) = (workload as u64, CAPACITIES[at], subject.runs[at]);
-    let mut runs: Vec<Box<dyn Fn(u64) -> u64>> = vec![Box::new(move |rounds| rust(Global, number, black_box(0), rounds))];
+fn measured(subject: &Subject, workload: usize, at: usize, turns: usize) -> (f64, Vec<String>) {
+    let (number, capacity) = (workload as u64, CAPACITIES[at]);
+    let in_rust = |run: Run| Box::new(move |rounds| run(Global, number, black_box(0), rounds)) as Box<dyn Fn(u64) -> u64>;
+    let mut runs = vec![in_rust(subject.runs[at])];
     for &rival in subject.rivals {
         // SAFETY: both are functions over numbers alone, which ask nothing of their caller.
         runs.push(Box::new(move |rounds| unsafe { micromap_speed(rival, number, capacity, black_box(0), rounds) }));
     }
+    runs.insert(2, in_rust(subject.layout_runs[at]));
     let rounds = enough_rounds(&runs[0]);
     let expected = runs[0](rounds);
-    let (mut nanoseconds, mut ratios) = (Vec::new(), vec![Vec::new(); subject.rivals.len()]);
+    let (mut nanoseconds, mut ratios) = (Vec::new(), vec![Vec::new(); runs.len() - 1]);
     for turn in 0..turns {
         let mut seconds = vec![0.0; runs.len()];
         for step in 0..runs.len() {
@@ -139,7 +166,7 @@ fn measured(subject: &Subject, workload: usize, at: usize, turns: usize) -> (f64
             ratio.push(time / seconds[0]);
         }
     }
-    (median(nanoseconds), ratios.into_iter().map(median).collect())
+    (median(&nanoseconds), ratios.iter().map(|ratios| marked(ratios)).collect())
 }
 
 fn main() {
@@ -150,7 +177,7 @@ fn main() {
                 let (nanoseconds, ratios) = measured(&subject, workload, at, turns);
                 print!("time\t{}\t{name}\t{capacity}\t{nanoseconds:.2}", subject.name);
                 for ratio in ratios {
-                    print!("\t{ratio:.4}");
+                    print!("\t{ratio}");
                 }
                 println!();
             }

@@ -29,6 +29,11 @@ impl<const N: usize> Numbers for Map<u64, u64, N> {
         self.remove(&key)
     }
 
+    #[inline]
+    fn keep_half(&mut self, first: u64, bit: u64) {
+        self.retain(|key, _| key.wrapping_add(first) & bit != 0);
+    }
+
     // At a full map the Rust crate panics, so it needs no test for room.
     #[inline]
     fn note(&mut self, key: u64) {

@@ -31,6 +31,11 @@ impl Numbers for IndexMap<u64, u64> {
     }
 
     #[inline]
+    fn keep_half(&mut self, first: u64, bit: u64) {
+        self.retain(|key, _value| key.wrapping_add(first) & bit != 0);
+    }
+
+    #[inline]
     fn note(&mut self, key: u64) {
         if let Ok(entry) = self.entry(key) {
             entry

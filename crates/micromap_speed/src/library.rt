@@ -32,6 +32,11 @@ impl<const N: usize> Numbers for Map<u64, u64, N> {
     }
 
     #[inline]
+    fn keep_half(&mut self, first: u64, bit: u64) {
+        self.retain(|key, _value| key.wrapping_add(first) & bit != 0);
+    }
+
+    #[inline]
     fn note(&mut self, key: u64) {
         let entry = self.entry(key);
         if entry.has_room() {

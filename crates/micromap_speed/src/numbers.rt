@@ -16,6 +16,9 @@ pub trait Numbers: Drop {
     /// Removes a key, and returns its value.
     fn take_out(&mut self, key: u64) -> Option<u64>;
 
+    /// Keeps the keys that have the bit `bit` once `first` is added, in one call where there is one.
+    fn keep_half(&mut self, first: u64, bit: u64);
+
     /// Adds 1 to the value at a key by its entry, or stores 1 where the key is new.
     fn note(&mut self, key: u64);
 
@@ -130,6 +133,28 @@ fn put_back<M: Numbers, const N: usize>(memory: Global, salt: u64, rounds: u64) 
     sum
 }
 
+// Keeps half of the keys, from another one on in each round, and puts the others back.
+#[inline(never)]
+fn retain<M: Numbers, const N: usize>(memory: Global, salt: u64, rounds: u64) -> u64 {
+    let mut map: M = filled::<M, N>(memory, salt);
+    let bit = (N as u64) >> 1;
+    let mut state = SEED;
+    let mut sum = 0u64;
+    for _ in 0..rounds {
+        state = next(state);
+        let first = below::<N>(state);
+        map.keep_half(first, bit);
+        sum = sum.wrapping_add(map.count());
+        for index in 0..N as u64 {
+            let key = index ^ salt;
+            if key.wrapping_add(first) & bit == 0 {
+                let _old = map.put(key, state);
+            }
+        }
+    }
+    sum
+}
+
 // Counts four times as many keys as there is room for, from a new map.
 #[inline(never)]
 fn count_keys<M: Numbers, const N: usize>(memory: Global, salt: u64, rounds: u64) -> u64 {
@@ -218,12 +243,13 @@ fn hand_on<M: Numbers, const N: usize>(memory: Global, salt: u64, rounds: u64) -
 }
 
 /// The names of the workloads, by their numbers.
-pub const NAMES: [&'static str; 11] = [
+pub const NAMES: [&'static str; 12] = [
     "get, hit",
     "get, miss",
     "overwrite",
     "new and fill",
     "remove and put back",
+    "retain half and put back",
     "count by entries",
     "walk",
     "clone",
@@ -245,12 +271,13 @@ pub fn run<M: Numbers, const N: usize>(
         2 => overwrite::<M, N>(memory, salt, rounds),
         3 => fill::<M, N>(memory, salt, rounds),
         4 => put_back::<M, N>(memory, salt, rounds),
-        5 => count_keys::<M, N>(memory, salt, rounds),
-        6 => walk::<M, N>(memory, salt, rounds),
-        7 => copy::<M, N>(memory, salt, rounds),
-        8 => collect::<M, N>(memory, salt, rounds),
-        9 => from_array::<M, N>(memory, salt, rounds),
-        10 => hand_on::<M, N>(memory, salt, rounds),
+        5 => retain::<M, N>(memory, salt, rounds),
+        6 => count_keys::<M, N>(memory, salt, rounds),
+        7 => walk::<M, N>(memory, salt, rounds),
+        8 => copy::<M, N>(memory, salt, rounds),
+        9 => collect::<M, N>(memory, salt, rounds),
+        10 => from_array::<M, N>(memory, salt, rounds),
+        11 => hand_on::<M, N>(memory, salt, rounds),
         _ => u64::MAX,
     }
 }

@@ -49,6 +49,11 @@ impl<const N: usize> Numbers for ArrayVec<(u64, u64), N> {
     }
 
     #[inline]
+    fn keep_half(&mut self, first: u64, bit: u64) {
+        self.retain(|pair| pair.0.wrapping_add(first) & bit != 0);
+    }
+
+    #[inline]
     fn note(&mut self, key: u64) {
         for pair in self.as_mut_slice().iter_mut() {
             if pair.0 == key {

@@ -1,0 +1,335 @@
+//! This library's layout, as one would write it in Rust with `unsafe` for speed: two columns of slots with a length each,
+//! in which a removal keeps the order. What this library takes beside it is the cost of proof and toolchain. What it takes
+//! beside the Rust crate is the cost of the layout.
+
+use crate::bytes::Bytes;
+use crate::inputs::key_of;
+use crate::numbers::Numbers;
+use crate::platform::Global;
+use crate::texts::Texts;
+use crate::wide::Wide;
+use std::borrow::Borrow;
+use std::mem::{self, MaybeUninit};
+use std::{hint, ptr, slice};
+
+/// A list of at most `N` items.
+struct Column<T, const N: usize> {
+    /// The first `len` are initialized, and are `Some`.
+    slots: [MaybeUninit<Option<T>>; N],
+    len: usize,
+}
+
+impl<T, const N: usize> Column<T, N> {
+    #[inline]
+    fn new() -> Self {
+        Column { slots: [const { MaybeUninit::uninit() }; N], len: 0 }
+    }
+
+    #[inline]
+    fn items(&self) -> impl Iterator<Item = &T> {
+        // SAFETY: there are no more items than slots.
+        unsafe { hint::assert_unchecked(self.len <= N) };
+        // SAFETY: the first `len` slots are initialized.
+        let slots: &[Option<T>] = unsafe { slice::from_raw_parts(self.slots.as_ptr().cast(), self.len) };
+        // SAFETY: they are `Some`.
+        slots.iter().map(|slot| unsafe { slot.as_ref().unwrap_unchecked() })
+    }
+
+    /// The item at `index`, which must be below `len`.
+    #[inline]
+    unsafe fn at(&mut self, index: usize) -> &mut T {
+        unsafe { self.slots.get_unchecked_mut(index).assume_init_mut().as_mut().unwrap_unchecked() }
+    }
+
+    /// Adds an item last. There must be room.
+    #[inline]
+    unsafe fn push(&mut self, item: T) {
+        unsafe { self.slots.get_unchecked_mut(self.len) }.write(Some(item));
+        self.len += 1;
+    }
+
+    /// Takes the item at `index`, which must be below `len`, and moves those behind it up by one.
+    #[inline]
+    unsafe fn remove(&mut self, index: usize) -> T {
+        unsafe {
+            let gap = self.slots.as_mut_ptr().add(index);
+            let item = gap.read().assume_init().unwrap_unchecked();
+            self.len -= 1;
+            ptr::copy(gap.add(1), gap, self.len - index);
+            item
+        }
+    }
+}
+
+impl<T, const N: usize> Drop for Column<T, N> {
+    #[inline]
+    fn drop(&mut self) {
+        // SAFETY: the first `len` slots are initialized.
+        unsafe { ptr::slice_from_raw_parts_mut(self.slots.as_mut_ptr().cast::<Option<T>>(), self.len).drop_in_place() }
+    }
+}
+
+/// A map of at most `N` pairs, whose columns have the same length.
+pub struct Columns<K, V, const N: usize> {
+    keys: Column<K, N>,
+    values: Column<V, N>,
+}
+
+impl<K, V, const N: usize> Columns<K, V, N> {
+    #[inline]
+    fn new() -> Self {
+        Columns { keys: Column::new(), values: Column::new() }
+    }
+
+    #[inline]
+    fn index_of<Q: Eq + ?Sized>(&self, key: &Q) -> Option<usize>
+    where
+        K: Borrow<Q>,
+    {
+        self.keys.items().position(|stored| stored.borrow() == key)
+    }
+
+    #[inline]
+    fn get<Q: Eq + ?Sized>(&mut self, key: &Q) -> Option<&mut V>
+    where
+        K: Borrow<Q>,
+    {
+        let index = self.index_of(key)?;
+        // SAFETY: the key stands there, and the columns have the same length.
+        Some(unsafe { self.values.at(index) })
+    }
+
+    /// Adds a pair with a new key, if there is room.
+    #[inline]
+    fn push(&mut self, key: K, value: V) {
+        if self.keys.len < N {
+            // SAFETY: there is room, and the columns have the same length.
+            unsafe {
+                self.keys.push(key);
+                self.values.push(value);
+            }
+        }
+    }
+
+    #[inline]
+    fn insert(&mut self, key: K, value: V) -> Option<V>
+    where
+        K: Eq,
+    {
+        match self.index_of(&key) {
+            // SAFETY: the key stands there, and the columns have the same length.
+            Some(index) => Some(mem::replace(unsafe { self.values.at(index) }, value)),
+            None => {
+                self.push(key, value);
+                None
+            }
+        }
+    }
+
+    #[inline]
+    fn remove<Q: Eq + ?Sized>(&mut self, key: &Q) -> Option<V>
+    where
+        K: Borrow<Q>,
+    {
+        let index = self.index_of(key)?;
+        // SAFETY: the key stands there, and the columns have the same length.
+        unsafe {
+            let _key = self.keys.remove(index);
+            Some(self.values.remove(index))
+        }
+    }
+
+    #[inline]
+    fn retain(&mut self, mut keep: impl FnMut(&K, &mut V) -> bool) {
+        // A panic of `keep` leaks the pairs, since the columns are empty until the end.
+        let (len, mut kept) = (mem::take(&mut self.keys.len), 0);
+        self.values.len = 0;
+        let (keys, values) = (self.keys.slots.as_mut_ptr(), self.values.slots.as_mut_ptr());
+        for index in 0..len {
+            // SAFETY: both slots were initialized and `Some`, and no earlier turn moved or dropped them.
+            unsafe {
+                let (key, value) = (&mut *keys.add(index), &mut *values.add(index));
+                let pair = (key.assume_init_ref().as_ref().unwrap_unchecked(), value.assume_init_mut().as_mut().unwrap_unchecked());
+                if keep(pair.0, pair.1) {
+                    ptr::copy(key, keys.add(kept), 1);
+                    ptr::copy(value, values.add(kept), 1);
+                    kept += 1;
+                } else {
+                    key.assume_init_drop();
+                    value.assume_init_drop();
+                }
+            }
+        }
+        (self.keys.len, self.values.len) = (kept, kept);
+    }
+
+    #[inline]
+    fn from_pairs(pairs: impl IntoIterator<Item = (K, V)>) -> Self
+    where
+        K: Eq,
+    {
+        let mut map = Columns::new();
+        for (key, value) in pairs {
+            map.insert(key, value);
+        }
+        map
+    }
+}
+
+impl<K: Clone, V: Clone, const N: usize> Clone for Columns<K, V, N> {
+    #[inline]
+    fn clone(&self) -> Self {
+        let mut copy = Columns::new();
+        for (key, value) in self.keys.items().zip(self.values.items()) {
+            let (key, value) = (key.clone(), value.clone());
+            // SAFETY: there are at most as many pairs as here.
+            unsafe {
+                copy.keys.push(key);
+                copy.values.push(value);
+            }
+        }
+        copy
+    }
+}
+
+impl<const N: usize> Numbers for Columns<u64, u64, N> {
+    #[inline]
+    fn with_room(_memory: Global, _room: u64) -> Self {
+        Columns::new()
+    }
+
+    #[inline]
+    fn put(&mut self, key: u64, value: u64) -> Option<u64> {
+        self.insert(key, value)
+    }
+
+    #[inline]
+    fn find(&self, key: u64) -> Option<u64> {
+        let index = self.index_of(&key)?;
+        // SAFETY: the key stands there, and the columns have the same length.
+        unsafe { *self.values.slots.get_unchecked(index).assume_init_ref() }
+    }
+
+    #[inline]
+    fn take_out(&mut self, key: u64) -> Option<u64> {
+        self.remove(&key)
+    }
+
+    #[inline]
+    fn keep_half(&mut self, first: u64, bit: u64) {
+        self.retain(|key, _| key.wrapping_add(first) & bit != 0);
+    }
+
+    #[inline]
+    fn note(&mut self, key: u64) {
+        match self.get(&key) {
+            Some(times) => *times = times.wrapping_add(1),
+            None => self.push(key, 1),
+        }
+    }
+
+    #[inline]
+    fn total(&self) -> u64 {
+        let mut sum = 0u64;
+        for value in self.values.items() {
+            sum = sum.wrapping_add(*value);
+        }
+        sum
+    }
+
+    #[inline]
+    fn count(&self) -> u64 {
+        self.keys.len as u64
+    }
+
+    #[inline]
+    fn clone_and_find(&self, key: u64) -> u64 {
+        let copy = self.clone();
+        copy.find(key).unwrap_or(0).wrapping_add(copy.count())
+    }
+
+    #[inline]
+    fn collect_and_find(&self, _memory: Global, _room: u64, first: u64, key: u64) -> u64 {
+        let map: Self = Columns::from_pairs((0..N as u64).map(|index| (key_of(index, first), index)));
+        map.find(key).unwrap_or(0).wrapping_add(map.count())
+    }
+
+    #[inline]
+    fn from_array_and_find(&self, _memory: Global, _room: u64, first: u64, key: u64) -> u64 {
+        let mut pairs = [(0u64, 0u64); N];
+        for index in 0..N {
+            pairs[index] = (key_of(index as u64, first), index as u64);
+        }
+        let map: Self = Columns::from_pairs(pairs);
+        map.find(key).unwrap_or(0).wrapping_add(map.count())
+    }
+}
+
+impl<const N: usize> Texts for Columns<String, u64, N> {
+    #[inline]
+    fn empty() -> Self {
+        Columns::new()
+    }
+
+    #[inline]
+    fn put(&mut self, _memory: Global, key: &str, value: u64) {
+        self.insert(String::from(key), value);
+    }
+
+    #[inline]
+    fn find(&self, key: &str) -> Option<u64> {
+        let index = self.index_of(key)?;
+        // SAFETY: the key stands there, and the columns have the same length.
+        unsafe { *self.values.slots.get_unchecked(index).assume_init_ref() }
+    }
+
+    #[inline]
+    fn count(&self) -> u64 {
+        self.keys.len as u64
+    }
+}
+
+impl<const N: usize> Bytes for Columns<u8, (), N> {
+    #[inline]
+    fn empty() -> Self {
+        Columns::new()
+    }
+
+    #[inline]
+    fn put(&mut self, item: u8) {
+        if self.index_of(&item).is_none() {
+            self.push(item, ());
+        }
+    }
+
+    #[inline]
+    fn has(&self, item: u8) -> bool {
+        self.index_of(&item).is_some()
+    }
+
+    #[inline]
+    fn total(&self, mask: u64) -> u64 {
+        let mut sum = 0u64;
+        for item in self.keys.items() {
+            sum = sum.wrapping_add(*item as u64 ^ mask);
+        }
+        sum
+    }
+
+    #[inline]
+    fn count(&self) -> u64 {
+        self.keys.len as u64
+    }
+}
+
+impl<const N: usize> Wide for Columns<u64, [u64; 3], N> {
+    #[inline]
+    fn empty() -> Self {
+        Columns::new()
+    }
+
+    #[inline]
+    fn put(&mut self, key: u64, value: [u64; 3]) -> Option<[u64; 3]> {
+        self.insert(key, value)
+    }
+}
