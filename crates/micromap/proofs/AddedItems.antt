@@ -1,41 +1,36 @@
 -- Pairwise unequal items that are put one after the other, or their clones: each is new, and goes last.
-use Rattle.std.proofs.Common.{◌≡◌, ℕ, ◌<◌, ◌≤◌, Bool, true, false, ◌||◌, List, [], ◌∷◌, ◌++◌, length, get_or, if◌then◌else◌, IsTrue, refl, ap, sym, subst, ◌∙◌, append_assoc, arith}
+use Rattle.std.proofs.Common.{◌≡◌, ℕ, ◌<◌, ◌≤◌, Bool, true, false, ◌||◌, List, [], ◌∷◌, ◌++◌, length, get_or, IsTrue, refl, ap, sym, subst, ◌∙◌, append_assoc, arith}
 use Rattle.std.specs.Cmp.{IsEquivalence}
 use Rattle.std.specs.List.{AllZip, IsDistinct}
-use Rattle.std.specs.Set.{ClonesAreEqual}
+use Rattle.std.specs.Set.{is_member, ClonesAreEqual}
 use Rattle.std.proofs.Math.Seq.{get_or-append_seam}
 use Rattle.std.proofs.lemmas.List.{append-nil, length-append}
 use Rattle.std.proofs.lemmas.List.Elements.{AllZip-push, length_all_zip}
+use Rattle.std.specs.Map.{keys_of}
 use Rattle.micromap_core.proofs.DistinctLemmas.{new_behind}
-use Rattle.micromap.specs.Extend.{add_all}
-use Rattle.micromap.specs.Items.{add, contains, item_fits}
+use Rattle.micromap_core.proofs.StreamLemmas.{built_in_turn}
+use Rattle.micromap.specs.Extend.{put_all_items}
+use Rattle.micromap.specs.ItemEntries.{entries_of}
+use Rattle.micromap.specs.Items.{put_item, item_fits}
+use Rattle.micromap.proofs.EntryItems.{keys_of-entries, keys_of-put_all}
+use Rattle.micromap.proofs.SetLaws.{put_item_new}
 use Rattle.std.proofs.Math.Bool.{or-true}
 use Rattle.std.proofs.lemmas.Bool.{lt-ltb}
 
 -- with room each item fits
 pub fits_room : {T : Type 0} (eq : T → T → Bool) (N : ℕ) (items : List T) (x : T) → length items < N → IsTrue (item_fits eq N items x)
-fits_room eq N items x room = ap (λ b. contains eq items x || b) (lt-ltb (length items) N room) ∙ or-true (contains eq items x)
-
-module _ {T : Type 0} (eq : T → T → Bool) where
-  added_new : (items : List T) (x : T) → contains eq items x ≡ false → add eq items x ≡ items ++ x ∷ []
-  unfolding add
-  added_new items x new = ap (λ b. if b then items else items ++ x ∷ []) new
+fits_room eq N items x room = ap (λ b. is_member eq items x || b) (lt-ltb (length items) N room) ∙ or-true (is_member eq items x)
 
 module _ {T : Type 0} {eq : T → T → Bool} (laws : IsEquivalence eq) where
-  added_in_turn : (ys xs : List T) → IsDistinct eq (ys ++ xs) → add_all eq ys xs ≡ ys ++ xs
-  added_in_turn ys [] distinct = sym (append-nil ys)
-  added_in_turn ys (x ∷ xs) distinct =
-      ap (λ l. add_all eq l xs) (added_new eq ys x (new_behind laws ys x xs distinct))
-      ∙ added_in_turn (ys ++ x ∷ []) xs (subst (IsDistinct eq) (sym (append_assoc ys (x ∷ []) xs)) distinct)
-      ∙ append_assoc ys (x ∷ []) xs
-
   -- a set that is built from pairwise unequal items has them in their order
-  pub added_all : (xs : List T) → IsDistinct eq xs → add_all eq [] xs ≡ xs
-  added_all xs distinct = added_in_turn [] xs distinct
+  pub added_all : (xs : List T) → IsDistinct eq xs → put_all_items eq [] xs ≡ xs
+  added_all xs distinct =
+      let back = keys_of-entries xs in
+      ap (put_all_items eq []) (sym back) ∙ sym (keys_of-put_all eq [] (entries_of xs)) ∙ ap keys_of (built_in_turn laws [] (entries_of xs) (subst (IsDistinct eq) (sym back) distinct)) ∙ back
 
   module _ {C : T → T → Type 0} (equal : ClonesAreEqual eq C) where
     -- an item has an equal one among the clones where an equal item has one among their sources
-    clones_alike : (xs ys : List T) (q r : T) → AllZip C xs ys → eq q r ≡ true → contains eq ys r ≡ contains eq xs q
+    clones_alike : (xs ys : List T) (q r : T) → AllZip C xs ys → eq q r ≡ true → is_member eq ys r ≡ is_member eq xs q
     clones_alike [] [] q r clones same = refl
     clones_alike [] (y ∷ ys) q r clones same = absurd clones
     clones_alike (x ∷ xs) [] q r clones same = absurd clones
@@ -67,11 +62,11 @@ module _ {T : Type 0} {eq : T → T → Bool} (laws : IsEquivalence eq) {C : T �
   pub clone_fits : (N : ℕ) (y : T) → length members ≤ N → IsTrue (item_fits eq N set y)
   clone_fits N y bounded = fits_room eq N set y (omega (arith, bounded, (next_member x).0, length_all_zip C c.given set c.clones))
 
-  pub clones_next : (y : T) (new : List T) → IsDistinct eq members → C x y → new ≡ add eq set y → ClonesTo C members rest new
+  pub clones_next : (y : T) (new : List T) → IsDistinct eq members → C x y → new ≡ put_item eq set y → ClonesTo C members rest new
   clones_next y new distinct clone added =
-      let missing : contains eq set y ≡ false = clones_alike laws equal c.given set x y c.clones (equal x y clone) ∙ new_behind laws c.given x rest (subst (IsDistinct eq) (sym whole) distinct) in
+      let missing : is_member eq set y ≡ false = clones_alike laws equal c.given set x y c.clones (equal x y clone) ∙ new_behind laws c.given x rest (subst (IsDistinct eq) (sym whole) distinct) in
       record {
         given = c.given ++ x ∷ [];
         split = append_assoc c.given (x ∷ []) rest ∙ whole;
-        clones = subst (AllZip C (c.given ++ x ∷ [])) (sym (added ∙ added_new eq set y missing)) (AllZip-push C c.given set x y c.clones clone);
+        clones = subst (AllZip C (c.given ++ x ∷ [])) (sym (added ∙ put_item_new eq set y missing)) (AllZip-push C c.given set x y c.clones clone);
       }

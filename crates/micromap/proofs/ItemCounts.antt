@@ -1,65 +1,60 @@
 -- For callers: that a set has one item for each distinct one that was put, as `CountLaws` has it of a map's keys. The
 -- ruleset `item_counts` is for a set that is built in a loop.
-use Rattle.std.proofs.Common.{◌≡◌, ℕ, ◌+◌, ◌<◌, ◌≤◌, ◌||◌, Bool, false, List, [], ◌∷◌, ◌++◌, drop, length, get_or, take, Option, Result, Ok, Err, IfErr, if◌then◌else◌, refl, ap, sym, ◌∙◌, append_assoc, arith}
+use Rattle.std.proofs.Common.{◌≡◌, ℕ, ◌+◌, ◌<◌, ◌≤◌, ◌||◌, Bool, false, List, [], ◌++◌, drop, length, get_or, take, Option, Result, Ok, Err, IfErr, if◌then◌else◌, refl, ap, sym, ◌∙◌, append_assoc, arith}
 use Rattle.std.specs.Iterator.Runs.{EveryRun, ItemsAre, SomeRun}
 use Rattle.std.specs.List.{list_any, IsDistinct}
-use Rattle.std.specs.Set.{distinct_count}
+use Rattle.std.specs.Set.{is_member, distinct_count}
 use Rattle.std.proofs.lemmas.Bool.{leb-false, not-true}
 use Rattle.std.proofs.lemmas.List.{map-id, take_all, take_more, take-append-drop}
 use Rattle.std.proofs.lemmas.List.Folds.{list_any-append}
 use Rattle.std.proofs.lemmas.List.Sums.{fold_more, fold_push}
 use Rattle.std.proofs.lemmas.Map.Made.{length-from_keys}
 use Rattle.micromap_core.specs.Equalities.{Lawful}
-use Rattle.micromap_core.proofs.CountLaws.{distinct_prefix, distinct_push, distinct_grows}
+use Rattle.micromap_core.proofs.CountLaws.{distinct_prefix, distinct_grows}
 use Rattle.micromap_core.proofs.BuildLemmas.{keys-built, keys-fold, length-built, many_prefix, each_fits-count}
 use Rattle.micromap_core.proofs.Equalities.{of_lawful}
 use Rattle.micromap_core.proofs.MisfitLemmas.{stops_in}
-use Rattle.micromap.specs.Extend.{add_all, distinct, ItemMisfitIn}
-use Rattle.micromap.specs.Items.{IsItems, add, contains, item_fits}
+use Rattle.micromap.specs.Extend.{put_all_items, distinct, ItemMisfitIn}
+use Rattle.micromap.specs.Items.{IsItems, put_item, item_fits}
 use Rattle.micromap.proofs.ExtendLemmas.{items_keyed}
-use Rattle.micromap.proofs.SetLaws.{length_add}
+use Rattle.micromap.proofs.SetLaws.{length_put_item}
 
 module _ {T : Type 0} (eq : T → T → Bool) where
-  -- a set that has as many items as a list has distinct ones, with one more
-  pub length_add_more : (items : List T) (x : T) (xs : List T) → Lawful eq → contains eq items x ≡ list_any (eq x) xs → length items ≡ distinct_count eq xs → length (add eq items x) ≡ distinct_count eq (xs ++ x ∷ [])
-  length_add_more items x xs laws stored count =
-      length_add eq items x ∙ (λ i. if stored i then count i else count i + 1) ∙ sym (distinct_push eq xs x laws)
-
-  -- and after items are put
-  pub length_add_all : (items xs : List T) → Lawful eq → IsDistinct eq items → length (add_all eq items xs) ≡ distinct_count eq (items ++ xs)
-  length_add_all items xs laws unique =
+  -- after items are put
+  pub length_put_all_items : (items xs : List T) → Lawful eq → IsDistinct eq items → length (put_all_items eq items xs) ≡ distinct_count eq (items ++ xs)
+  length_put_all_items items xs laws unique =
       let keys = keys-fold (of_lawful eq laws) (items_keyed eq 0) items xs unique in
-      length-from_keys (of_lawful eq laws) _ (items ++ xs) keys.0 (λ q. keys.1 q ∙ ap (λ l. contains eq items q || list_any (eq q) l) (map-id xs) ∙ sym (list_any-append (eq q) items xs))
+      length-from_keys (of_lawful eq laws) _ (items ++ xs) keys.0 (λ q. keys.1 q ∙ ap (λ l. is_member eq items q || list_any (eq q) l) (map-id xs) ∙ sym (list_any-append (eq q) items xs))
 
-  add_all_grows : (items xs : List T) (i : ℕ) → Lawful eq → IsDistinct eq items → length (add_all eq items (take i xs)) ≤ length (add_all eq items xs)
-  add_all_grows items xs i laws unique =
-      omega (arith, length_add_all items (take i xs) laws unique, length_add_all items xs laws unique, distinct_grows eq (items ++ take i xs) (drop i xs) laws, ap (distinct_count eq) (append_assoc items (take i xs) (drop i xs) ∙ ap (λ l. items ++ l) (take-append-drop i xs)))
+  put_all_items_grows : (items xs : List T) (i : ℕ) → Lawful eq → IsDistinct eq items → length (put_all_items eq items (take i xs)) ≤ length (put_all_items eq items xs)
+  put_all_items_grows items xs i laws unique =
+      omega (arith, length_put_all_items items (take i xs) laws unique, length_put_all_items items xs laws unique, distinct_grows eq (items ++ take i xs) (drop i xs) laws, ap (distinct_count eq) (append_assoc items (take i xs) (drop i xs) ∙ ap (λ l. items ++ l) (take-append-drop i xs)))
 
   -- an item that is new when it is put is one more
-  add_all_beyond : (items xs : List T) (i : ℕ) (d : T) → i < length xs → Lawful eq → IsDistinct eq items → contains eq (add_all eq items (take i xs)) (get_or xs i d) ≡ false → length (add_all eq items (take i xs)) < length (add_all eq items xs)
-  add_all_beyond items xs i d within laws unique new =
-      let more = ap length (fold_more (add eq) items xs i d within) ∙ length_add eq (add_all eq items (take i xs)) (get_or xs i d) in
-      let grown = add_all_grows items xs (i + 1) laws unique in
+  put_all_items_beyond : (items xs : List T) (i : ℕ) (d : T) → i < length xs → Lawful eq → IsDistinct eq items → is_member eq (put_all_items eq items (take i xs)) (get_or xs i d) ≡ false → length (put_all_items eq items (take i xs)) < length (put_all_items eq items xs)
+  put_all_items_beyond items xs i d within laws unique new =
+      let more = ap length (fold_more (put_item eq) items xs i d within) ∙ length_put_item eq (put_all_items eq items (take i xs)) (get_or xs i d) in
+      let grown = put_all_items_grows items xs (i + 1) laws unique in
       grind (arith, new, more, grown)
 
   -- a set that is built of a list has its distinct items
   pub length_distinct : (xs : List T) → Lawful eq → length (distinct eq xs) ≡ distinct_count eq xs
   length_distinct xs laws = length-built (of_lawful eq laws) (items_keyed eq 0) xs
 
-  pub contains_distinct : (xs : List T) (x : T) → Lawful eq → contains eq (distinct eq xs) x ≡ list_any (eq x) xs
-  contains_distinct xs x laws = (keys-built (of_lawful eq laws) (items_keyed eq 0) xs).1 x ∙ ap (list_any (eq x)) (map-id xs)
+  pub is_member_distinct : (xs : List T) (x : T) → Lawful eq → is_member eq (distinct eq xs) x ≡ list_any (eq x) xs
+  is_member_distinct xs x laws = (keys-built (of_lawful eq laws) (items_keyed eq 0) xs).1 x ∙ ap (list_any (eq x)) (map-id xs)
 
   pub unique_distinct : (xs : List T) → Lawful eq → IsDistinct eq (distinct eq xs)
   unique_distinct xs laws = (keys-built (of_lawful eq laws) (items_keyed eq 0) xs).0
 
-  pub distinct_take : (xs : List T) (i : ℕ) (d : T) → i < length xs → distinct eq (take (i + 1) xs) ≡ add eq (distinct eq (take i xs)) (get_or xs i d)
-  distinct_take xs i d within = ap (distinct eq) (take_more xs i d within) ∙ fold_push (add eq) [] (take i xs) (get_or xs i d)
+  pub distinct_take : (xs : List T) (i : ℕ) (d : T) → i < length xs → distinct eq (take (i + 1) xs) ≡ put_item eq (distinct eq (take i xs)) (get_or xs i d)
+  distinct_take xs i d within = ap (distinct eq) (take_more xs i d within) ∙ fold_push (put_item eq) [] (take i xs) (get_or xs i d)
 
   -- an item that isn't there yet is one more than there are
-  pub distinct_beyond : (xs : List T) (i : ℕ) (d : T) → i < length xs → Lawful eq → contains eq (distinct eq (take i xs)) (get_or xs i d) ≡ false → length (distinct eq (take i xs)) < distinct_count eq xs
+  pub distinct_beyond : (xs : List T) (i : ℕ) (d : T) → i < length xs → Lawful eq → is_member eq (distinct eq (take i xs)) (get_or xs i d) ≡ false → length (distinct eq (take i xs)) < distinct_count eq xs
   distinct_beyond xs i d within laws new =
       let built = length_distinct (take (i + 1) xs) laws in
-      let longer = ap length (distinct_take xs i d within) ∙ length_add eq (distinct eq (take i xs)) (get_or xs i d) ∙ ap (λ b. if b then length (distinct eq (take i xs)) else length (distinct eq (take i xs)) + 1) new in
+      let longer = ap length (distinct_take xs i d within) ∙ length_put_item eq (distinct eq (take i xs)) (get_or xs i d) ∙ ap (λ b. if b then length (distinct eq (take i xs)) else length (distinct eq (take i xs)) + 1) new in
       omega (arith, built, longer, distinct_prefix eq xs (i + 1) laws)
 
   -- items one of which doesn't fit a new set of capacity N have more than N distinct ones
@@ -71,13 +66,13 @@ module _ {T : Type 0} (eq : T → T → Bool) where
   -- the facts are those of `misfit_in`, and that the equality is lawful
   pub many_items_in : (N : ℕ) {S E Y : Type 0} {steps : S → Option T → S → Type 0} (rest : S → List T) {s : S} {xs : List T} (at : E → ℕ) (r : Result Y E) → Lawful eq → EveryRun steps (λ q. ItemsAre q (rest q.from)) → rest s ≡ xs → IfErr r (λ e. SomeRun steps s (λ p. (p.len ≡ at e + 1) × ItemMisfitIn eq N [] p.items (at e))) → IfErr r (λ e. N < distinct_count eq xs)
   many_items_in N rest at (Ok y) laws reads left stops = tt
-  many_items_in N rest {xs = xs} at (Err e) laws reads left stops = misfit_many_items N xs (at e) laws (stops_in (item_fits eq N) (add eq) [] rest (at e) stops.0 stops.1 reads left stops.2.0 stops.2.1)
+  many_items_in N rest {xs = xs} at (Err e) laws reads left stops = misfit_many_items N xs (at e) laws (stops_in (item_fits eq N) (put_item eq) [] rest (at e) stops.0 stops.1 reads left stops.2.0 stops.2.1)
 
   -- what a search needs, at once: of a set that is built of a list, and of its first so many
-  pub each_distinct : (xs : List T) → Lawful eq → (distinct eq xs ≡ distinct eq xs) × (length (distinct eq xs) ≡ distinct_count eq xs) × ((x : T) → contains eq (distinct eq xs) x ≡ list_any (eq x) xs)
-  each_distinct xs laws = (refl, length_distinct xs laws, λ x. contains_distinct xs x laws)
+  pub each_distinct : (xs : List T) → Lawful eq → (distinct eq xs ≡ distinct eq xs) × (length (distinct eq xs) ≡ distinct_count eq xs) × ((x : T) → is_member eq (distinct eq xs) x ≡ list_any (eq x) xs)
+  each_distinct xs laws = (refl, length_distinct xs laws, λ x. is_member_distinct xs x laws)
 
-  pub each_distinct_take : (xs : List T) (i : ℕ) → Lawful eq → (distinct eq (take i xs) ≡ distinct eq (take i xs)) × (length xs ≤ i → distinct eq (take i xs) ≡ distinct eq xs) × ((d : T) → i < length xs → distinct eq (take (i + 1) xs) ≡ add eq (distinct eq (take i xs)) (get_or xs i d)) × ((d : T) → i < length xs → contains eq (distinct eq (take i xs)) (get_or xs i d) ≡ false → length (distinct eq (take i xs)) < distinct_count eq xs)
+  pub each_distinct_take : (xs : List T) (i : ℕ) → Lawful eq → (distinct eq (take i xs) ≡ distinct eq (take i xs)) × (length xs ≤ i → distinct eq (take i xs) ≡ distinct eq xs) × ((d : T) → i < length xs → distinct eq (take (i + 1) xs) ≡ put_item eq (distinct eq (take i xs)) (get_or xs i d)) × ((d : T) → i < length xs → is_member eq (distinct eq (take i xs)) (get_or xs i d) ≡ false → length (distinct eq (take i xs)) < distinct_count eq xs)
   each_distinct_take xs i laws = (
     refl,
     λ over. ap (distinct eq) (take_all i xs over),
@@ -86,23 +81,23 @@ module _ {T : Type 0} (eq : T → T → Bool) where
   )
 
   -- of a set to which the first so many items are added
-  pub each_add_all_take : (items xs : List T) (i : ℕ) → Lawful eq → IsDistinct eq items → (add_all eq items (take i xs) ≡ add_all eq items (take i xs)) × (length xs ≤ i → add_all eq items (take i xs) ≡ add_all eq items xs) × ((d : T) → i < length xs → add_all eq items (take (i + 1) xs) ≡ add eq (add_all eq items (take i xs)) (get_or xs i d)) × ((d : T) → i < length xs → contains eq (add_all eq items (take i xs)) (get_or xs i d) ≡ false → length (add_all eq items (take i xs)) < length (add_all eq items xs))
-  each_add_all_take items xs i laws unique = (
+  pub each_put_all_items_take : (items xs : List T) (i : ℕ) → Lawful eq → IsDistinct eq items → (put_all_items eq items (take i xs) ≡ put_all_items eq items (take i xs)) × (length xs ≤ i → put_all_items eq items (take i xs) ≡ put_all_items eq items xs) × ((d : T) → i < length xs → put_all_items eq items (take (i + 1) xs) ≡ put_item eq (put_all_items eq items (take i xs)) (get_or xs i d)) × ((d : T) → i < length xs → is_member eq (put_all_items eq items (take i xs)) (get_or xs i d) ≡ false → length (put_all_items eq items (take i xs)) < length (put_all_items eq items xs))
+  each_put_all_items_take items xs i laws unique = (
     refl,
-    λ over. ap (add_all eq items) (take_all i xs over),
-    λ d within. fold_more (add eq) items xs i d within,
-    λ d within new. add_all_beyond items xs i d within laws unique new,
+    λ over. ap (put_all_items eq items) (take_all i xs over),
+    λ d within. fold_more (put_item eq) items xs i d within,
+    λ d within new. put_all_items_beyond items xs i d within laws unique new,
   )
 
 -- an iterator's items one of which is refused are more, with those that are there, than there is room for
 module _ {T : Type 0} {eq : T → T → Bool} {N : ℕ} {items : List T} (content : IsItems eq N items) where
-  stopped_many : (xs : List T) (at : ℕ) → ItemMisfitIn eq N items xs at → N < length (add_all eq items xs)
+  stopped_many : (xs : List T) (at : ℕ) → ItemMisfitIn eq N items xs at → N < length (put_all_items eq items xs)
   stopped_many xs at stops =
       let fit = each_fits-count (of_lawful eq content.lawful) (items_keyed eq N) items (take (at + 1) xs) content.unique content.bounded in
-      omega (arith, leb-false _ N (sym fit ∙ not-true _ stops.1), add_all_grows eq items xs (at + 1) content.lawful content.unique)
+      omega (arith, leb-false _ N (sym fit ∙ not-true _ stops.1), put_all_items_grows eq items xs (at + 1) content.lawful content.unique)
 
-  pub refused_is_many : {S E Y : Type 0} {steps : S → Option T → S → Type 0} (rest : S → List T) {s : S} {xs : List T} (at : E → ℕ) (r : Result Y E) → EveryRun steps (λ q. ItemsAre q (rest q.from)) → rest s ≡ xs → IfErr r (λ e. SomeRun steps s (λ p. (p.len ≡ at e + 1) × ItemMisfitIn eq N items p.items (at e))) → IfErr r (λ e. N < length (add_all eq items xs))
+  pub refused_is_many : {S E Y : Type 0} {steps : S → Option T → S → Type 0} (rest : S → List T) {s : S} {xs : List T} (at : E → ℕ) (r : Result Y E) → EveryRun steps (λ q. ItemsAre q (rest q.from)) → rest s ≡ xs → IfErr r (λ e. SomeRun steps s (λ p. (p.len ≡ at e + 1) × ItemMisfitIn eq N items p.items (at e))) → IfErr r (λ e. N < length (put_all_items eq items xs))
   refused_is_many rest at (Ok y) reads left stops = tt
-  refused_is_many rest {xs = xs} at (Err e) reads left stops = stopped_many xs (at e) (stops_in (item_fits eq N) (add eq) items rest (at e) stops.0 stops.1 reads left stops.2.0 stops.2.1)
+  refused_is_many rest {xs = xs} at (Err e) reads left stops = stopped_many xs (at e) (stops_in (item_fits eq N) (put_item eq) items rest (at e) stops.0 stops.1 reads left stops.2.0 stops.2.1)
 
-pub ruleset item_counts = (each_distinct, each_distinct_take, each_add_all_take)
+pub ruleset item_counts = (each_distinct, each_distinct_take, each_put_all_items_take)

@@ -1,16 +1,16 @@
 -- A set's items are the keys of its map's pairs: what each word on pairs says of the keys.
-use Rattle.std.proofs.Common.{◌≡◌, ℕ, ◌||◌, nat_lt, Bool, true, false, List, [], ◌∷◌, ◌++◌, length, is_some, if◌then◌else◌, refl, ap, ◌∙◌, arith}
+use Rattle.std.proofs.Common.{◌≡◌, ℕ, ◌||◌, nat_lt, Bool, true, List, [], ◌∷◌, length, is_some, if◌then◌else◌, refl, ap, ◌∙◌, arith}
 use Rattle.std.specs.List.{AllZip, find, list_any}
 use Rattle.std.specs.Map.{keys_of, lookup, lookup_entry, remove_entry, set_value, set_key}
 use Rattle.std.specs.Option.{option_map}
-use Rattle.std.specs.Set.{remove_key}
-use Rattle.std.proofs.lemmas.Bool.{false≢true}
+use Rattle.std.specs.Set.{is_member, remove_key, swap_key}
 use Rattle.std.proofs.lemmas.List.{map_push, length-map}
+use Rattle.std.proofs.lemmas.Map.{keys-set_value}
 use Rattle.std.proofs.lemmas.Map.Entries.{length-keys_of}
 use Rattle.micromap_core.specs.Clones.{IsPairClone}
 use Rattle.micromap_core.specs.Pairs.{IsContent, fits, has, put, put_key, take_out}
 use Rattle.micromap_core.proofs.PairsLemmas.{keys_of-put_stored, keys_of-put_new}
-use Rattle.micromap.specs.Items.{IsItems, add, contains, exchange, item_fits, take_item}
+use Rattle.micromap.specs.Items.{IsItems, put_item, replace_item, item_fits, take_item}
 
 pub any-find : {T : Type 0} (test : T → Bool) (items : List T) → list_any test items ≡ is_some (find test items)
 any-find test [] = refl
@@ -30,6 +30,10 @@ module _ {T V : Type 0} where
     take-keys [] = refl
     take-keys (e ∷ es) = grind (arith, take-keys es)
 
+    swap-keys : (pairs : List (T × V)) (k : T) → swap_key test (keys_of pairs) k ≡ keys_of (set_key test pairs k)
+    swap-keys [] k = refl
+    swap-keys (e ∷ es) k = grind (arith, swap-keys es k)
+
   pub take_item-keys : (eq : T → T → Bool) (pairs : List (T × V)) (k : T) → take_item eq (keys_of pairs) k ≡ keys_of (take_out eq pairs k)
   unfolding take_item take_out
   take_item-keys eq pairs k = take-keys (eq k) pairs
@@ -38,36 +42,25 @@ module _ {T V : Type 0} where
   fits-keys eq N pairs k = ap (λ b. b || nat_lt (length (keys_of pairs)) N) (any-keys (eq k) pairs) ∙ ap (λ n. has eq pairs k || nat_lt n N) (length-map pairs (λ (e : T × V). e.0))
 
   module _ (eq : T → T → Bool) (k : T) (v : V) where
-    -- the item is there or it is new
-    exchange-stored : (pairs : List (T × V)) → has eq pairs k ≡ true → exchange eq (keys_of pairs) k ≡ keys_of (set_key (eq k) (set_value (eq k) pairs v) k)
-    unfolding exchange
-    exchange-stored [] stored = absurd (false≢true stored)
-    exchange-stored (e ∷ es) stored = grind (arith, exchange-stored es)
+    pub replace_item-keys : (pairs : List (T × V)) → replace_item eq (keys_of pairs) k ≡ keys_of (put_key eq pairs k v)
+    unfolding replace_item put_key
+    replace_item-keys pairs = grind (arith, any-keys (eq k) pairs, swap-keys (eq k) (set_value (eq k) pairs v) k, keys-set_value (eq k) pairs v, map_push (λ (e : T × V). e.0) pairs (k, v))
 
-    exchange-new : (pairs : List (T × V)) → has eq pairs k ≡ false → exchange eq (keys_of pairs) k ≡ keys_of pairs ++ k ∷ []
-    unfolding exchange
-    exchange-new [] new = refl
-    exchange-new (e ∷ es) new = grind (arith, exchange-new es)
-
-    pub exchange-keys : (pairs : List (T × V)) → exchange eq (keys_of pairs) k ≡ keys_of (put_key eq pairs k v)
-    unfolding put_key
-    exchange-keys pairs = grind (arith, exchange-stored pairs, exchange-new pairs, map_push (λ (e : T × V). e.0) pairs (k, v))
-
-    pub add-keys : (pairs : List (T × V)) → add eq (keys_of pairs) k ≡ keys_of (put eq pairs k v)
-    unfolding add
-    add-keys pairs = grind (arith, any-keys (eq k) pairs, keys_of-put_stored eq pairs k v, keys_of-put_new eq pairs k v)
+    pub put_item-keys : (pairs : List (T × V)) → put_item eq (keys_of pairs) k ≡ keys_of (put eq pairs k v)
+    unfolding put_item
+    put_item-keys pairs = grind (arith, any-keys (eq k) pairs, keys_of-put_stored eq pairs k v, keys_of-put_new eq pairs k v)
 
     -- where it fits, the item is added
-    pub checked-keys : (N : ℕ) (pairs : List (T × V)) → (if item_fits eq N (keys_of pairs) k then add eq (keys_of pairs) k else keys_of pairs) ≡ keys_of (if fits eq N pairs k then put eq pairs k v else pairs)
-    checked-keys N pairs = grind (arith, fits-keys eq N pairs k, add-keys pairs)
+    pub checked-keys : (N : ℕ) (pairs : List (T × V)) → (if item_fits eq N (keys_of pairs) k then put_item eq (keys_of pairs) k else keys_of pairs) ≡ keys_of (if fits eq N pairs k then put eq pairs k v else pairs)
+    checked-keys N pairs = grind (arith, fits-keys eq N pairs k, put_item-keys pairs)
 
 -- a stored item is added already
-pub added-already : {T : Type 0} (eq : T → T → Bool) (N : ℕ) (items : List T) (x : T) → contains eq items x ≡ true → (if item_fits eq N items x then add eq items x else items) ≡ items
-unfolding add
-added-already eq N items x stored = grind (arith, stored)
+pub put_item-stored : {T : Type 0} (eq : T → T → Bool) (N : ℕ) (items : List T) (x : T) → is_member eq items x ≡ true → (if item_fits eq N items x then put_item eq items x else items) ≡ items
+unfolding put_item
+put_item-stored eq N items x stored = grind (arith, stored)
 
-pub added-room : {T : Type 0} (eq : T → T → Bool) (N : ℕ) (items : List T) (x : T) → nat_lt (length items) N ≡ true → (if item_fits eq N items x then add eq items x else items) ≡ add eq items x
-added-room eq N items x room = grind (arith, room)
+pub put_item-room : {T : Type 0} (eq : T → T → Bool) (N : ℕ) (items : List T) (x : T) → nat_lt (length items) N ≡ true → (if item_fits eq N items x then put_item eq items x else items) ≡ put_item eq items x
+put_item-room eq N items x room = grind (arith, room)
 
 module _ {T V : Type 0} where
   -- what is cloned pair by pair is cloned key by key

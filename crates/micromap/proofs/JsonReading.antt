@@ -1,177 +1,116 @@
 -- Reading an array's elements, and an object's members, one after the other.
-use Rattle.std.proofs.Common.{◌≡◌, ℕ, ◌<◌, ◌≤◌, Bool, true, false, List, [], ◌∷◌, ◌++◌, length, Option, Some, None, option_map, ok_or, if◌then◌else◌, Ok, Err, String, string_bytes, bytes_eq, string_cmp, Global, ℤ, refl, ap, sym, subst, ◌∙◌, arith}
+use Rattle.std.proofs.Common.{◌≡◌, ℕ, ◌<◌, ◌≤◌, Bool, true, false, ◌&&◌, List, [], ◌∷◌, ◌++◌, length, Option, Some, None, option_map, option_and_then, ok_or, if◌then◌else◌, Ok, Err, String, string_bytes, bytes_eq, string_cmp, Global, ℤ, refl, ap, sym, subst, ◌∙◌, arith}
 use Rattle.std.specs.Cmp.Lexicographic.{nat_list_eq_equiv}
-use Rattle.std.specs.List.{IsDistinct}
+use Rattle.std.specs.List.{IsDistinct, fold}
 use Rattle.std.specs.List.Sorted.{IsStrictlySortedBy}
 use Rattle.std.specs.Map.{keys_of}
-use Rattle.std.specs.Ordering.{eq_by_cmp}
 use Rattle.std.specs.String.{string_eq}
 use Rattle.std.proofs.lemmas.Bool.{true≢false, lt-ltb, le-ltb, ltb-false}
-use Rattle.std.proofs.lemmas.List.{append_assoc, append-nil, length_push, length-map}
+use Rattle.std.proofs.lemmas.Iterator.Adapters.{option_map_id}
+use Rattle.std.proofs.lemmas.List.{append_assoc, append-nil, length-map}
 use Rattle.std.proofs.lemmas.List.Sums.{fold_push}
 use Rattle.std.proofs.lemmas.Map.Keys.{IsDistinct-from_sorted}
-use Rattle.std.proofs.lemmas.Map.Made.{is_some-lookup}
 use Rattle.std.proofs.lemmas.Map.Text.{is_eq-slice_cmp}
-use Rattle.serde_json.specs.Data.{Data, Items, no_items, item, Members}
+use Rattle.serde_json.specs.Data.{Data, Items, item}
 use Rattle.serde_json.specs.Find.{as_str}
 use Rattle.serde_json.specs.View.{view, members_view}
 use Rattle.serde_json.specs.declared.value.Value.{Value}
 use Rattle.serde_json.proofs.Views.{Entry}
-use Rattle.micromap.specs.Extend.{distinct}
-use Rattle.micromap.specs.Items.{add, item_fits}
-use Rattle.micromap.specs.Json.{Bytes, all_texts, and_then, in_bytes, texts_of, whole_number, whole_members, items_for}
-use Rattle.micromap.proofs.SetLaws.{length_add}
-use Rattle.micromap.proofs.SetTextViews.{contains_item_texts, item_texts_add, unique_item_texts}
+use Rattle.micromap.specs.Items.{put_item, put_item_if_fits, item_fits}
+use Rattle.micromap.specs.Json.{Bytes, Pairs, all_texts, and_then, in_bytes, texts_of, whole_number, whole_members, items_for}
+use Rattle.micromap.proofs.SetLaws.{length_put_item, not_fits}
+use Rattle.micromap.proofs.SetTextViews.{item_texts_put_item, unique_item_texts}
+use Rattle.micromap.specs.declared.json.JsonFault.{JsonFault}
+use Rattle.micromap.specs.declared.json.JsonFault.TheVariants.{NotWhole, TooMany}
+use Rattle.micromap_core.specs.Build.{build, put_pair}
+use Rattle.micromap_core.specs.Pairs.{fits, put, put_if_fits}
 use Rattle.micromap_core.specs.Texts.{item_texts, texts_by}
+use Rattle.micromap_core.proofs.MapLaws.{length_put}
+use Rattle.micromap_core.proofs.StreamLemmas.{built_in_turn}
 use Rattle.micromap_core.proofs.TextViews.{texts_put}
-use Rattle.micromap_core.proofs.MapLaws.{put_new}
-use Rattle.micromap_core.proofs.DistinctLemmas.{new_behind}
-use Rattle.micromap.specs.declared.json.JsonFault.TheVariants.{NotText, NotWhole, TooMany}
-use Rattle.micromap_core.specs.Pairs.{fits, has, put}
-
--- one more of a list, in front of the rest or after what comes before
-joined : {A : Type 0} (xs : List A) (x : A) (rest : Option (List A)) → option_map (λ more. xs ++ more) (option_map (λ more. x ∷ more) rest) ≡ option_map (λ more. (xs ++ x ∷ []) ++ more) rest
-joined xs x None = refl
-joined xs x (Some more) = ap Some (sym (append_assoc xs (x ∷ []) more))
-
-joined_none : {A : Type 0} (rest : Option (List A)) → rest ≡ option_map (λ more. [] ++ more) rest
-joined_none None = refl
-joined_none (Some more) = refl
 
 pub few : {X : Type 0} (N : ℕ) (xs : List X) → length xs ≤ N → items_for N xs ≡ Ok xs
 few N xs short = ap (λ b. if b then Err TooMany else Ok xs) (le-ltb N (length xs) short)
 
-many : {X : Type 0} (N : ℕ) (xs : List X) → N < length xs → items_for N xs ≡ Err TooMany
-many N xs long = ap (λ b. if b then Err TooMany else Ok xs) (lt-ltb N (length xs) long)
+-- of a text that is read part by part, these parts were put so far, unless there are too many
+pub record HasRead {B : Type 0} (put : List B → B → List B) (N : ℕ) (all rest : Option (List B)) (now : List B) (all_fit : Bool) : Type 0 where
+  pub parts : List B
+  pub split : all ≡ option_map (λ more. parts ++ more) rest
+  pub fit : all_fit ≡ true → now ≡ fold put [] parts
+  pub misfit : all_fit ≡ false → N < length (fold put [] parts)
 
-module _ where
-  -- the elements so far are texts, and the set has each distinct one, unless there are too many
-  pub record HasTexts (N : ℕ) (all rest : Items) (items : List (String Global)) (all_fit : Bool) : Type 0 where
-    pub texts : List Bytes
-    pub split : all_texts all ≡ option_map (λ more. texts ++ more) (all_texts rest)
-    pub fit : all_fit ≡ true → texts_of items ≡ distinct bytes_eq texts
-    pub misfit : all_fit ≡ false → N < length (distinct bytes_eq texts)
+pub none_read : {B : Type 0} (put : List B → B → List B) (N : ℕ) (all : Option (List B)) → HasRead put N all all [] true
+none_read put N all = record { parts = []; split = sym (option_map_id all); fit = λ _. refl; misfit = λ over. absurd (true≢false over) }
 
-  pub none_yet : (N : ℕ) (all : Items) → HasTexts N all all [] true
-  none_yet N all = record { texts = []; split = joined_none (all_texts all); fit = λ _. refl; misfit = λ over. absurd (true≢false over) }
+module _ {B Y : Type 0} {put : List B → B → List B} {N : ℕ} {all rest : Option (List B)} {now : List B} {all_fit : Bool} (has : HasRead put N all rest now all_fit) (part : Y → B) (later : Option (List B)) (next : Option Y) (first : rest ≡ option_and_then (λ y. option_map (λ more. part y ∷ more) later) next) where
+  -- what comes next isn't read
+  pub not_read : next ≡ None → all ≡ None
+  not_read is = rw (has.split, first, is) refl
 
-  module _ {N : ℕ} {all rest later : Items} {d : Data} {items : List (String Global)} {all_fit : Bool} (has : HasTexts N all rest items all_fit) (first : rest ≡ item d later) where
-    -- an element that is no text
-    pub not_text : as_str d ≡ None → and_then (ok_or (all_texts all) NotText) (λ texts. items_for N (distinct bytes_eq texts)) ≡ Err NotText
-    not_text is = rw (has.split, first, is) refl
+  module _ (y : Y) (is : next ≡ Some y) (grows : (c : List B) → length c ≤ length (put c (part y))) where
+    joined : (rest : Option (List B)) → option_map (λ more. has.parts ++ more) (option_map (λ more. part y ∷ more) rest) ≡ option_map (λ more. (has.parts ++ part y ∷ []) ++ more) rest
+    joined None = refl
+    joined (Some more) = ap Some (sym (append_assoc has.parts (part y ∷ []) more))
 
-    module _ (x : String Global) (is : as_str d ≡ Some (string_bytes x)) where
-      split-more : all_texts all ≡ option_map (λ more. (has.texts ++ string_bytes x ∷ []) ++ more) (all_texts later)
-      split-more = rw (has.split, first, is) (joined has.texts (string_bytes x) (all_texts later))
+    more : fold put [] (has.parts ++ part y ∷ []) ≡ put (fold put [] has.parts) (part y)
+    more = fold_push put [] has.parts (part y)
 
-      more : distinct bytes_eq (has.texts ++ string_bytes x ∷ []) ≡ add bytes_eq (distinct bytes_eq has.texts) (string_bytes x)
-      more = fold_push (add bytes_eq) [] has.texts (string_bytes x)
+    -- one more, which wider has as well, is put or doesn't fit
+    pub read_one : {new wider : List B} (fit : Bool) → wider ≡ put now (part y) → (fit ≡ true → new ≡ wider) → (fit ≡ false → N < length wider) → HasRead put N all later new (all_fit && fit)
+    read_one fit made fits misfits = record {
+      parts = has.parts ++ part y ∷ [];
+      split = rw (has.split, first, is) (joined later);
+      fit = λ whole. grind (arith, whole, has.fit, made, fits, more);
+      misfit = λ over. grind (arith, over, has.fit, has.misfit, made, misfits, more, grows (fold put [] has.parts));
+    }
 
-      longer : length (distinct bytes_eq has.texts) ≤ length (distinct bytes_eq (has.texts ++ string_bytes x ∷ []))
-      longer = grind (arith, ap length more, length_add bytes_eq (distinct bytes_eq has.texts) (string_bytes x))
+module _ {B : Type 0} {put : List B → B → List B} {N : ℕ} {all rest : Option (List B)} {now : List B} {all_fit : Bool} (has : HasRead put N all rest now all_fit) (end : rest ≡ Some []) (fault : JsonFault) where
+  pub read_whole : all_fit ≡ true → length now ≤ N → and_then (ok_or all fault) (λ parts. items_for N (fold put [] parts)) ≡ Ok now
+  read_whole whole short = rw (has.split, end, append-nil has.parts, ← has.fit whole) (few N now short)
 
-      -- one more text that fits
-      pub text_fits : (new : List (String Global)) → new ≡ add string_eq items x → HasTexts N all later new all_fit
-      unfolding item_texts
-      text_fits new made = record {
-        texts = has.texts ++ string_bytes x ∷ [];
-        split = split-more;
-        fit = λ whole. ap texts_of made ∙ item_texts_add items x ∙ ap (λ ts. add bytes_eq ts (string_bytes x)) (has.fit whole) ∙ sym more;
-        misfit = λ over. omega (arith, has.misfit over, longer);
-      }
+  pub read_beyond : all_fit ≡ false → and_then (ok_or all fault) (λ parts. items_for N (fold put [] parts)) ≡ Err TooMany
+  read_beyond over = rw (has.split, end, append-nil has.parts) (ap (λ b. if b then Err TooMany else Ok (fold put [] has.parts)) (lt-ltb N (length (fold put [] has.parts)) (has.misfit over)))
 
-      -- one that doesn't fit
-      pub text_misfits : (new : List (String Global)) → item_fits string_eq N items x ≡ false → HasTexts N all later new false
-      unfolding item_texts
-      text_misfits new misfit = record {
-        texts = has.texts ++ string_bytes x ∷ [];
-        split = split-more;
-        fit = λ whole. absurd (true≢false (sym whole));
-        misfit = λ _. grind (arith, has.fit, has.misfit, misfit, more, longer, ltb-false (length items) N, contains_item_texts items (string_bytes x), length_add bytes_eq (distinct bytes_eq has.texts) (string_bytes x), length-map items (λ s. string_bytes s));
-      }
+-- an element that is a text, in a set
+module _ {N : ℕ} {all : Option (List Bytes)} {rest later : Items} {d : Data} (items : List (String Global)) {all_fit : Bool} (has : HasRead (put_item bytes_eq) N all (all_texts rest) (texts_of items) all_fit) (first : rest ≡ item d later) (x : String Global) (is : as_str d ≡ Some (string_bytes x)) where
+  longer : (texts : List Bytes) → length texts ≤ length (put_item bytes_eq texts (string_bytes x))
+  longer texts = grind (arith, length_put_item bytes_eq texts (string_bytes x))
 
-  module _ {N : ℕ} {all rest : Items} {items : List (String Global)} {all_fit : Bool} (has : HasTexts N all rest items all_fit) (end : rest ≡ no_items) where
-    pub texts_fit : all_fit ≡ true → length items ≤ N → and_then (ok_or (all_texts all) NotText) (λ texts. items_for N (distinct bytes_eq texts)) ≡ Ok (texts_of items)
-    texts_fit whole short =
-        let same = has.fit whole in
-        rw (has.split, end, append-nil has.texts, ← same) (few N (texts_of items) (omega (arith, short, length-map items (λ s. string_bytes s))))
+  pub text_put : {new : List (String Global)} {fit : Bool} → fit ≡ item_fits string_eq N items x → new ≡ put_item_if_fits string_eq N items x → HasRead (put_item bytes_eq) N all (all_texts later) (texts_of new) (all_fit && fit)
+  unfolding item_texts
+  text_put {fit = fit} answer made =
+      read_one has (λ t. t) (all_texts later) (as_str d) (ap all_texts first) (string_bytes x) is longer fit (item_texts_put_item items x) (λ fits. grind (arith, answer, made, fits))
+      (λ misfit. grind (arith, not_fits string_eq items x N (sym answer ∙ misfit), length_put_item string_eq items x, length-map (put_item string_eq items x) (λ s. string_bytes s)))
 
-    pub texts_misfit : all_fit ≡ false → and_then (ok_or (all_texts all) NotText) (λ texts. items_for N (distinct bytes_eq texts)) ≡ Err TooMany
-    texts_misfit over = rw (has.split, end, append-nil has.texts) (many N (distinct bytes_eq has.texts) (has.misfit over))
+-- a member whose value is whole, in a map
+module _ {N : ℕ} {all : Option (List (Bytes × ℤ))} {rest later : List Entry} {k : String Global} {value : Value} (pairs : Pairs) {all_fit : Bool} (has : HasRead (put_pair bytes_eq) N all (whole_members (members_view rest)) (in_bytes pairs) all_fit) (first : rest ≡ (k, value) ∷ later) (n : ℤ) (is : whole_number (view value) ≡ Some n) where
+  wider : (ps : List (Bytes × ℤ)) → length ps ≤ length (put bytes_eq ps (string_bytes k) n)
+  wider ps = grind (arith, length_put bytes_eq ps (string_bytes k) n)
 
--- an object's names
-abbrev names : List Entry → List Bytes
-names es = texts_of (keys_of es)
+  pub member_put : {new : Pairs} {fit : Bool} → fit ≡ fits string_eq N pairs k → new ≡ put_if_fits string_eq N pairs k n → HasRead (put_pair bytes_eq) N all (whole_members (members_view later)) (in_bytes new) (all_fit && fit)
+  unfolding texts_by
+  member_put {fit = fit} answer made =
+      read_one has (λ i. (string_bytes k, i)) (whole_members (members_view later)) (whole_number (view value)) (ap (λ es. whole_members (members_view es)) first) n is wider fit (texts_put (λ v. v) k pairs n) (λ fits. grind (arith, answer, made, fits))
+      (λ misfit. grind (arith, answer, misfit, ltb-false (length pairs) N, length_put string_eq pairs k n, length-map {B = Bytes × ℤ} (put string_eq pairs k n) (λ p. (string_bytes p.0, p.1))))
 
-names_distinct : (ks : List (String Global)) → IsDistinct (eq_by_cmp string_cmp) ks → IsDistinct bytes_eq (texts_of ks)
+-- the names of an object's whole members
+names_kept : (es : List Entry) (ps : List (Bytes × ℤ)) → whole_members (members_view es) ≡ Some ps → keys_of ps ≡ texts_of (keys_of es)
+names_kept [] ps is = grind (arith, is)
+names_kept ((k, v) ∷ es) ps is = by (whole_number (view v)) (whole_members (members_view es)) (names_kept es) is
+  where
+    by : (n : Option ℤ) (o : Option (List (Bytes × ℤ))) → ((qs : List (Bytes × ℤ)) → o ≡ Some qs → keys_of qs ≡ texts_of (keys_of es)) → option_and_then (λ n. option_map (λ qs. (string_bytes k, n) ∷ qs) o) n ≡ Some ps → keys_of ps ≡ string_bytes k ∷ texts_of (keys_of es)
+    by None o kept is = cc
+    by (Some n) None kept is = cc
+    by (Some n) (Some qs) kept is = grind (arith, is, kept qs refl)
+
+-- which are distinct, so that the members are put as they are
+pub members_built : (N : ℕ) (es : List Entry) → IsStrictlySortedBy string_cmp (keys_of es) → and_then (ok_or (whole_members (members_view es)) NotWhole) (λ ps. items_for N (build bytes_eq ps)) ≡ and_then (ok_or (whole_members (members_view es)) NotWhole) (items_for N)
 unfolding item_texts
-names_distinct ks distinct = unique_item_texts ks (subst (λ eq. IsDistinct eq ks) (λ i x y. is_eq-slice_cmp (string_bytes x) (string_bytes y) i) distinct)
+members_built N es sorted = by (whole_members (members_view es)) refl
+  where
+    names : IsDistinct bytes_eq (texts_of (keys_of es))
+    names = unique_item_texts (keys_of es) (subst (λ eq. IsDistinct eq (keys_of es)) (λ i x y. is_eq-slice_cmp (string_bytes x) (string_bytes y) i) (IsDistinct-from_sorted string_cmp (keys_of es) sorted))
 
-length-in_bytes : (pairs : List (String Global × ℤ)) → length (in_bytes pairs) ≡ length pairs
-length-in_bytes pairs = length-map pairs (λ p. (string_bytes p.0, p.1))
-
-keys_of-push : (pairs : List (Bytes × ℤ)) (k : Bytes) (n : ℤ) (ks : List Bytes) → keys_of (pairs ++ (k, n) ∷ []) ++ ks ≡ keys_of pairs ++ k ∷ ks
-keys_of-push [] k n ks = refl
-keys_of-push (p ∷ pairs) k n ks = ap (λ l. p.0 ∷ l) (keys_of-push pairs k n ks)
-
--- the members so far are whole, and the map has each, unless there are too many; no two names are equal
-pub record HasMembers (N : ℕ) (all : Members) (rest : List Entry) (pairs : List (String Global × ℤ)) (all_fit : Bool) : Type 0 where
-  pub members : List (Bytes × ℤ)
-  pub split : whole_members all ≡ option_map (λ more. members ++ more) (whole_members (members_view rest))
-  pub apart : IsDistinct bytes_eq (keys_of members ++ names rest)
-  pub fit : all_fit ≡ true → in_bytes pairs ≡ members
-  pub misfit : all_fit ≡ false → N < length members
-
-pub no_members_yet : (N : ℕ) (es : List Entry) → IsStrictlySortedBy string_cmp (keys_of es) → HasMembers N (members_view es) es [] true
-no_members_yet N es sorted = record { members = []; split = joined_none (whole_members (members_view es)); apart = names_distinct (keys_of es) (IsDistinct-from_sorted string_cmp (keys_of es) sorted); fit = λ _. refl; misfit = λ over. absurd (true≢false over) }
-
-module _ {N : ℕ} {all : Members} {rest later : List Entry} {k : String Global} {value : Value} {pairs : List (String Global × ℤ)} {all_fit : Bool} (has_read : HasMembers N all rest pairs all_fit) (first : rest ≡ (k, value) ∷ later) where
-  -- a member that isn't whole
-  pub not_whole : whole_number (view value) ≡ None → and_then (ok_or (whole_members all) NotWhole) (items_for N) ≡ Err NotWhole
-  not_whole is = rw (has_read.split, first, is) refl
-
-  module _ (n : ℤ) (is : whole_number (view value) ≡ Some n) where
-    abbrev members_more : List (Bytes × ℤ)
-    members_more = has_read.members ++ (string_bytes k, n) ∷ []
-
-    split_more : whole_members all ≡ option_map (λ more. members_more ++ more) (whole_members (members_view later))
-    split_more = has_read.split ∙ ap (λ es. option_map (λ more. has_read.members ++ more) (whole_members (members_view es))) first ∙ rw is (joined has_read.members (string_bytes k, n) (whole_members (members_view later)))
-
-    apart_now : IsDistinct bytes_eq (keys_of has_read.members ++ string_bytes k ∷ names later)
-    apart_now = subst (λ es. IsDistinct bytes_eq (keys_of has_read.members ++ names es)) first has_read.apart
-
-    apart_more : IsDistinct bytes_eq (keys_of members_more ++ names later)
-    apart_more = subst (IsDistinct bytes_eq) (sym (keys_of-push has_read.members (string_bytes k) n (names later))) apart_now
-
-    new_name : has bytes_eq has_read.members (string_bytes k) ≡ false
-    new_name = is_some-lookup (bytes_eq (string_bytes k)) has_read.members ∙ new_behind nat_list_eq_equiv (keys_of has_read.members) (string_bytes k) (names later) apart_now
-
-    -- one more member that fits
-    pub member_fits : (new : List (String Global × ℤ)) → new ≡ put string_eq pairs k n → HasMembers N all later new all_fit
-    unfolding texts_by
-    member_fits new made = record {
-      members = members_more;
-      split = split_more;
-      apart = apart_more;
-      fit = λ full. ap in_bytes made ∙ texts_put (λ v. v) k pairs n ∙ ap (λ ps. put bytes_eq ps (string_bytes k) n) (has_read.fit full) ∙ put_new bytes_eq has_read.members (string_bytes k) n new_name;
-      misfit = λ over. omega (arith, has_read.misfit over, length_push has_read.members (string_bytes k, n));
-    }
-
-    -- one that doesn't fit
-    pub member_misfits : (new : List (String Global × ℤ)) → fits string_eq N pairs k ≡ false → HasMembers N all later new false
-    member_misfits new misfit = record {
-      members = members_more;
-      split = split_more;
-      apart = apart_more;
-      fit = λ full. absurd (true≢false (sym full));
-      misfit = λ _. grind (arith, has_read.fit, has_read.misfit, misfit, ltb-false (length pairs) N, length-in_bytes pairs, length_push has_read.members (string_bytes k, n));
-    }
-
-module _ {N : ℕ} {all : Members} {rest : List Entry} {pairs : List (String Global × ℤ)} {all_fit : Bool} (has_read : HasMembers N all rest pairs all_fit) (end : rest ≡ []) where
-  pub members_fit : all_fit ≡ true → length pairs ≤ N → and_then (ok_or (whole_members all) NotWhole) (items_for N) ≡ Ok (in_bytes pairs)
-  members_fit full short =
-      let same = has_read.fit full in
-      rw (has_read.split, end, append-nil has_read.members, ← same) (few N (in_bytes pairs) (omega (arith, short, length-in_bytes pairs)))
-
-  pub members_misfit : all_fit ≡ false → and_then (ok_or (whole_members all) NotWhole) (items_for N) ≡ Err TooMany
-  members_misfit over = rw (has_read.split, end, append-nil has_read.members) (many N has_read.members (has_read.misfit over))
+    by : (o : Option (List (Bytes × ℤ))) → whole_members (members_view es) ≡ o → and_then (ok_or o NotWhole) (λ ps. items_for N (build bytes_eq ps)) ≡ and_then (ok_or o NotWhole) (items_for N)
+    by None is = refl
+    by (Some ps) is = ap (items_for N) (built_in_turn nat_list_eq_equiv [] ps (subst (IsDistinct bytes_eq) (sym (names_kept es ps is)) names))

@@ -1,5 +1,5 @@
--- The members of the operations on lists of items: that they are pairwise unequal, and what of them stays where the two
--- lists change places.
+-- The members of the operations on two lists of items: that they are pairwise unequal, and what of them stays if the
+-- two lists change places. For callers: `same_members`.
 use Rattle.std.proofs.Common.{◌≡◌, ◌+◌, Bool, true, not, ◌&&◌, ◌||◌, ◌↔◌, List, [], ◌∷◌, length, filter, if◌then◌else◌, IsTrue, refl, ap, sym, subst, ◌∙◌, arith}
 use Rattle.std.specs.Cmp.{IsEquivalence, both_ways, first_so, second_so}
 use Rattle.std.specs.Cmp.Derive.{both_true}
@@ -10,49 +10,49 @@ use Rattle.std.proofs.lemmas.List.{length-append}
 use Rattle.std.proofs.lemmas.List.Folds.{list_any-append}
 use Rattle.std.proofs.lemmas.Map.Made.{is_member-filter}
 use Rattle.std.proofs.lemmas.Map.Steps.{list_any_congr}
+use Rattle.std.specs.Set.{is_member}
 use Rattle.micromap_core.specs.Same.{have_equal_items}
 use Rattle.micromap_core.proofs.DistinctLemmas.{IsDistinct-append}
-use Rattle.micromap.specs.Items.{contains}
 use Rattle.micromap.specs.Operations.{difference, intersection, symmetric_difference, union, HaveEquals}
 use Rattle.micromap.proofs.OperationSteps.{length-parts}
 
 module _ {T : Type 0} {eq : T → T → Bool} (laws : IsEquivalence eq) (xs ys : List T) where
   -- which items have an equal one among the members
-  pub contains-difference : (q : T) → contains eq (difference eq xs ys) q ≡ (contains eq xs q && not (contains eq ys q))
-  contains-difference q = is_member-filter laws (λ x. not (contains eq ys x)) q (λ x same. ap not (list_any_congr laws q x ys same)) xs
+  pub is_member-difference : (q : T) → is_member eq (difference eq xs ys) q ≡ (is_member eq xs q && not (is_member eq ys q))
+  is_member-difference q = is_member-filter laws (λ x. not (is_member eq ys x)) q (λ x same. ap not (list_any_congr laws q x ys same)) xs
 
-  pub contains-intersection : (q : T) → contains eq (intersection eq xs ys) q ≡ (contains eq xs q && contains eq ys q)
-  contains-intersection q = is_member-filter laws (contains eq ys) q (λ x same. list_any_congr laws q x ys same) xs
+  pub is_member-intersection : (q : T) → is_member eq (intersection eq xs ys) q ≡ (is_member eq xs q && is_member eq ys q)
+  is_member-intersection q = is_member-filter laws (is_member eq ys) q (λ x same. list_any_congr laws q x ys same) xs
 
-  pub contains-union : (q : T) → contains eq (union eq xs ys) q ≡ (contains eq xs q || contains eq ys q)
+  pub is_member-union : (q : T) → is_member eq (union eq xs ys) q ≡ (is_member eq xs q || is_member eq ys q)
   unfolding union
-  contains-union q = grind (arith, list_any-append (eq q) ys (difference eq xs ys), contains-difference q)
+  is_member-union q = grind (arith, list_any-append (eq q) ys (difference eq xs ys), is_member-difference q)
 
 module _ {T : Type 0} {eq : T → T → Bool} (laws : IsEquivalence eq) (xs ys : List T) where
-  pub contains-symmetric_difference : (q : T) → contains eq (symmetric_difference eq xs ys) q ≡ (if contains eq xs q then not (contains eq ys q) else contains eq ys q)
+  pub is_member-symmetric_difference : (q : T) → is_member eq (symmetric_difference eq xs ys) q ≡ (if is_member eq xs q then not (is_member eq ys q) else is_member eq ys q)
   unfolding symmetric_difference
-  contains-symmetric_difference q = grind (arith, list_any-append (eq q) (difference eq xs ys) (difference eq ys xs), contains-difference laws xs ys q, contains-difference laws ys xs q)
+  is_member-symmetric_difference q = grind (arith, list_any-append (eq q) (difference eq xs ys) (difference eq ys xs), is_member-difference laws xs ys q, is_member-difference laws ys xs q)
 
 module _ {T : Type 0} {eq : T → T → Bool} (laws : IsEquivalence eq) (xs ys : List T) where
   -- turned round, the operations have equal members
   pub intersection_turned : HaveEquals eq (intersection eq xs ys) (intersection eq ys xs)
-  intersection_turned q = grind (arith, contains-intersection laws xs ys q, contains-intersection laws ys xs q)
+  intersection_turned q = grind (arith, is_member-intersection laws xs ys q, is_member-intersection laws ys xs q)
 
   pub union_turned : HaveEquals eq (union eq xs ys) (union eq ys xs)
-  union_turned q = grind (arith, contains-union laws xs ys q, contains-union laws ys xs q)
+  union_turned q = grind (arith, is_member-union laws xs ys q, is_member-union laws ys xs q)
 
   pub symmetric_difference_turned : HaveEquals eq (symmetric_difference eq xs ys) (symmetric_difference eq ys xs)
-  symmetric_difference_turned q = grind (arith, contains-symmetric_difference laws xs ys q, contains-symmetric_difference laws ys xs q)
+  symmetric_difference_turned q = grind (arith, is_member-symmetric_difference laws xs ys q, is_member-symmetric_difference laws ys xs q)
 
   -- the members of both parts are pairwise unequal
   pub IsDistinct-union : IsDistinct eq ys → IsDistinct eq (difference eq xs ys) → IsDistinct eq (union eq xs ys)
   unfolding union
-  IsDistinct-union others beyond = IsDistinct-append laws ys (difference eq xs ys) others beyond (λ q found. grind (arith, found, contains-difference laws xs ys q))
+  IsDistinct-union others beyond = IsDistinct-append laws ys (difference eq xs ys) others beyond (λ q found. grind (arith, found, is_member-difference laws xs ys q))
 
   pub IsDistinct-symmetric_difference : IsDistinct eq (difference eq xs ys) → IsDistinct eq (difference eq ys xs) → IsDistinct eq (symmetric_difference eq xs ys)
   unfolding symmetric_difference
   IsDistinct-symmetric_difference first second =
-      IsDistinct-append laws (difference eq xs ys) (difference eq ys xs) first second (λ q found. grind (arith, found, contains-difference laws xs ys q, contains-difference laws ys xs q))
+      IsDistinct-append laws (difference eq xs ys) (difference eq ys xs) first second (λ q found. grind (arith, found, is_member-difference laws xs ys q, is_member-difference laws ys xs q))
 
 module _ {T : Type 0} (eq : T → T → Bool) where
   -- what is counted twice in the two lists is counted once in the intersection
@@ -62,28 +62,22 @@ module _ {T : Type 0} (eq : T → T → Bool) where
 
 -- no item passes the test, exactly where each passes the opposite one
 module _ {T : Type 0} (test opposite : T → Bool) (turns : (x : T) → opposite x ≡ not (test x)) where
-  none_pass : (xs : List T) → list_all opposite xs ≡ true → filter test xs ≡ []
-  none_pass [] all = refl
-  none_pass (x ∷ xs) all = grind (arith, all, turns x, none_pass xs)
+  none_pass : (xs : List T) → IsTrue (list_all opposite xs) ↔ (filter test xs ≡ [])
+  none_pass [] = (λ all. refl, λ none. refl)
+  none_pass (x ∷ xs) = (λ all. grind (arith, all, turns x, none_pass xs), λ none. grind (arith, none, turns x, none_pass xs))
 
-  all_pass : (xs : List T) → filter test xs ≡ [] → list_all opposite xs ≡ true
-  all_pass [] none = refl
-  all_pass (x ∷ xs) none = grind (arith, none, turns x, all_pass xs)
-
-module _ {T : Type 0} (eq : T → T → Bool) (xs ys : List T) where
+module _ {T : Type 0} (eq : T → T → Bool) (xs ys : List T) (answer : Bool) where
   -- a set is a subset exactly where the difference is empty, and disjoint exactly where the intersection is; the answer
   -- of a call says the same
-  pub subset_answered : (answer : Bool) → answer ≡ list_all (contains eq ys) xs → IsTrue answer ↔ (difference eq xs ys ≡ [])
-  subset_answered answer is =
-      let turns : (x : T) → contains eq ys x ≡ not (not (contains eq ys x)) = λ x. sym (not-not (contains eq ys x)) in
-      (λ h. none_pass (λ x. not (contains eq ys x)) (contains eq ys) turns xs (sym is ∙ h), λ h. is ∙ all_pass (λ x. not (contains eq ys x)) (contains eq ys) turns xs h)
+  pub subset_answered : answer ≡ list_all (is_member eq ys) xs → IsTrue answer ↔ (difference eq xs ys ≡ [])
+  subset_answered is = rw is (none_pass (λ x. not (is_member eq ys x)) (is_member eq ys) (λ x. sym (not-not (is_member eq ys x))) xs)
 
-  pub disjoint_answered : (answer : Bool) → answer ≡ list_all (λ x. not (contains eq ys x)) xs → IsTrue answer ↔ (intersection eq xs ys ≡ [])
-  disjoint_answered answer is = (λ h. none_pass (contains eq ys) (λ x. not (contains eq ys x)) (λ x. refl) xs (sym is ∙ h), λ h. is ∙ all_pass (contains eq ys) (λ x. not (contains eq ys x)) (λ x. refl) xs h)
+  pub disjoint_answered : answer ≡ list_all (λ x. not (is_member eq ys x)) xs → IsTrue answer ↔ (intersection eq xs ys ≡ [])
+  disjoint_answered is = rw is (none_pass (is_member eq ys) (λ x. not (is_member eq ys x)) (λ x. refl) xs)
 
 -- that nothing is in both sets is said from either side
 module _ {T : Type 0} {eq : T → T → Bool} (laws : IsEquivalence eq) where
-  none_equal : (x : T) (p : T → Bool) (ys : List T) → list_all (λ y. not (eq y x || p y)) ys ≡ (not (contains eq ys x) && list_all (λ y. not (p y)) ys)
+  none_equal : (x : T) (p : T → Bool) (ys : List T) → list_all (λ y. not (eq y x || p y)) ys ≡ (not (is_member eq ys x) && list_all (λ y. not (p y)) ys)
   none_equal x p [] = refl
   none_equal x p (y ∷ ys) = grind (arith, laws.symm y x, none_equal x p ys)
 
@@ -91,25 +85,25 @@ module _ {T : Type 0} {eq : T → T → Bool} (laws : IsEquivalence eq) where
   all_apart [] = refl
   all_apart (y ∷ ys) = all_apart ys
 
-  pub disjoint_turned : (xs ys : List T) → list_all (λ x. not (contains eq ys x)) xs ≡ list_all (λ y. not (contains eq xs y)) ys
+  pub disjoint_turned : (xs ys : List T) → list_all (λ x. not (is_member eq ys x)) xs ≡ list_all (λ y. not (is_member eq xs y)) ys
   disjoint_turned [] ys = sym (all_apart ys)
-  disjoint_turned (x ∷ xs) ys = ap (λ b. not (contains eq ys x) && b) (disjoint_turned xs ys) ∙ sym (none_equal x (contains eq xs) ys)
+  disjoint_turned (x ∷ xs) ys = ap (λ b. not (is_member eq ys x) && b) (disjoint_turned xs ys) ∙ sym (none_equal x (is_member eq xs) ys)
 
 -- each item of either set has an equal one in the other exactly where both have the same members
 module _ {T : Type 0} {eq : T → T → Bool} (laws : IsEquivalence eq) where
-  contains_within : (xs ys : List T) → list_all (contains eq ys) xs ≡ true → (q : T) → contains eq xs q ≡ true → contains eq ys q ≡ true
-  contains_within [] ys all q there = absurd (false≢true there)
-  contains_within (x ∷ xs) ys all q there = grind (arith, all, there, list_any_congr laws q x ys, contains_within xs ys)
+  is_member_within : (xs ys : List T) → list_all (is_member eq ys) xs ≡ true → (q : T) → is_member eq xs q ≡ true → is_member eq ys q ≡ true
+  is_member_within [] ys all q there = absurd (false≢true there)
+  is_member_within (x ∷ xs) ys all q there = grind (arith, all, there, list_any_congr laws q x ys, is_member_within xs ys)
 
-  pub within_contains : (xs ys : List T) → ((q : T) → contains eq xs q ≡ true → contains eq ys q ≡ true) → list_all (contains eq ys) xs ≡ true
-  within_contains [] ys each = refl
-  within_contains (x ∷ xs) ys each =
-      both_true (each x (ap (λ b. b || contains eq xs x) (laws.refl x))) (within_contains xs ys (λ q there. each q (ap (λ b. eq q x || b) there ∙ or-true (eq q x))))
+  pub within_is_member : (xs ys : List T) → ((q : T) → is_member eq xs q ≡ true → is_member eq ys q ≡ true) → list_all (is_member eq ys) xs ≡ true
+  within_is_member [] ys each = refl
+  within_is_member (x ∷ xs) ys each =
+      both_true (each x (ap (λ b. b || is_member eq xs x) (laws.refl x))) (within_is_member xs ys (λ q there. each q (ap (λ b. eq q x || b) there ∙ or-true (eq q x))))
 
   pub same_members : (xs ys : List T) → IsTrue (have_equal_items eq xs ys) ↔ HaveEquals eq xs ys
   same_members xs ys = (
-    λ equal q. both_ways (contains eq xs q) (contains eq ys q) (contains_within xs ys (first_so _ _ equal) q) (contains_within ys xs (second_so _ _ equal) q),
-    λ same. both_true (within_contains xs ys (λ q there. sym (same q) ∙ there)) (within_contains ys xs (λ q there. same q ∙ there)),
+    λ equal q. both_ways (is_member eq xs q) (is_member eq ys q) (is_member_within xs ys (first_so _ _ equal) q) (is_member_within ys xs (second_so _ _ equal) q),
+    λ same. both_true (within_is_member xs ys (λ q there. sym (same q) ∙ there)) (within_is_member ys xs (λ q there. same q ∙ there)),
   )
 
   -- a comparison's answer says the same

@@ -1,4 +1,4 @@
--- The calls that a map's `retain` makes of a closure that calls another, as calls of that one at the keys.
+-- The calls of a set's closure, from those of the closure that passes it the keys of the map.
 use Rattle.std.proofs.Common.{Bool, List, [], ◌∷◌, ap, ◌∙◌}
 use Rattle.std.specs.List.{FoldsTo}
 use Rattle.std.specs.Map.{keys_of}

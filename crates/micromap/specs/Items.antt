@@ -3,43 +3,41 @@
 use Rattle.std.specs.Prelude.{ℕ, ◌≤◌, Bool, ◌||◌, List, [], ◌∷◌, ◌++◌, length, Option, if◌then◌else◌, nat_lt}
 use Rattle.std.specs.Borrow.{Bor}
 use Rattle.std.specs.Fn.{Mut, CalledAt, TakesAt}
-use Rattle.std.specs.List.{IsDistinct, find, list_any}
-use Rattle.std.specs.Set.{remove_key}
+use Rattle.std.specs.List.{IsDistinct, find}
+use Rattle.std.specs.Set.{is_member, remove_key, swap_key}
 use Rattle.micromap_core.specs.Closures.{AtEachTurn}
 use Rattle.micromap_core.specs.Equalities.{Lawful}
 
-module _ {T : Type 0} where
-  module _ (eq : T → T → Bool) where
-    -- what a set of capacity N may hold: no two items are equal
-    pub record IsItems (N : ℕ) (items : List T) : Type 0 where
-      pub unique : IsDistinct eq items
-      pub bounded : length items ≤ N
-      pub lawful : Lawful eq
+module _ {T : Type 0} (eq : T → T → Bool) where
+  -- what a set of capacity N may hold: no two items are equal
+  pub record IsItems (N : ℕ) (items : List T) : Type 0 where
+    pub unique : IsDistinct eq items
+    pub bounded : length items ≤ N
+    pub lawful : Lawful eq
 
-    -- the stored item that equals x
-    abbrev pub item : List T → T → Option T
-    item items x = find (eq x) items
+  -- the stored item that equals x
+  abbrev pub find_item : List T → T → Option T
+  find_item items x = find (eq x) items
 
-    -- whether some item equals x
-    abbrev pub contains : List T → T → Bool
-    contains items x = list_any (eq x) items
+  -- whether x can be put: an equal item is stored, or there is room
+  abbrev pub item_fits : ℕ → List T → T → Bool
+  item_fits N items x = is_member eq items x || nat_lt (length items) N
 
-    -- whether x can be put: an equal item is stored, or there is room
-    abbrev pub item_fits : ℕ → List T → T → Bool
-    item_fits N items x = contains items x || nat_lt (length items) N
+  -- x goes last if it is no member
+  unfoldable pub put_item : List T → T → List T
+  put_item items x = if is_member eq items x then items else items ++ x ∷ []
 
-    -- x is in the set; a stored item stays, and a new one goes last
-    unfoldable pub add : List T → T → List T
-    add items x = if contains items x then items else items ++ x ∷ []
+  -- the same where x fits
+  abbrev pub put_item_if_fits : ℕ → List T → T → List T
+  put_item_if_fits N items x = if item_fits N items x then put_item items x else items
 
-    -- x is in the set, in the place of an equal item or last
-    unfoldable pub exchange : List T → T → List T
-    exchange [] x = x ∷ []
-    exchange (y ∷ ys) x = if eq x y then x ∷ ys else y ∷ exchange ys x
+  -- `swap_key` of a stored item, and a new one goes last
+  unfoldable pub replace_item : List T → T → List T
+  replace_item items x = if is_member eq items x then swap_key (eq x) items x else items ++ x ∷ []
 
-    -- without the item that equals x; the others keep their order
-    unfoldable pub take_item : List T → T → List T
-    take_item items x = remove_key (eq x) items
+  -- `remove_key` of the item that equals x; the others keep their order
+  unfoldable pub take_item : List T → T → List T
+  take_item items x = remove_key (eq x) items
 
 -- f may be called at each item in turn
 abbrev pub MayRetainItems : {F T : Type 0} → Mut F (Bor T × Unit {0}) Bool → F → List T → Type 0

@@ -63,21 +63,21 @@ all_texts (item value items) = option_and_then (λ text. option_map (λ texts. t
 abbrev pub items_for : {X : Type 0} → ℕ → List X → Result (List X) JsonFault
 items_for N xs = if nat_lt N (length xs) then Err TooMany else Ok xs
 
--- the pairs of the object that a text is; its names are distinct
-abbrev pub object_pairs : Bytes → Result (List (Bytes × ℤ)) JsonFault
-object_pairs text = and_then (ok_or (read text) BadText) (λ value. and_then (ok_or (as_object value) NotObject) (λ members. ok_or (whole_members members) NotWhole))
+-- an object's members as the pairs of a map of capacity N; its names are distinct
+abbrev pub pairs_in : ℕ → Members → Result (List (Bytes × ℤ)) JsonFault
+pairs_in N members = and_then (ok_or (whole_members members) NotWhole) (items_for N)
 
--- the same for a map of capacity N
+-- the pairs of the object that a text is, for a map of capacity N, or the first fault
 abbrev pub pairs_for : ℕ → Bytes → Result (List (Bytes × ℤ)) JsonFault
-pairs_for N text = and_then (object_pairs text) (items_for N)
+pairs_for N text = and_then (ok_or (read text) BadText) (λ value. and_then (ok_or (as_object value) NotObject) (pairs_in N))
 
--- the texts of the array that a text is
-abbrev pub array_texts : Bytes → Result (List Bytes) JsonFault
-array_texts text = and_then (ok_or (read text) BadText) (λ value. and_then (ok_or (as_array value) NotArray) (λ items. ok_or (all_texts items) NotText))
+-- an array's texts for a set of capacity N, each distinct one as it came first
+abbrev pub texts_in : ℕ → Items → Result (List Bytes) JsonFault
+texts_in N items = and_then (ok_or (all_texts items) NotText) (λ texts. items_for N (distinct bytes_eq texts))
 
--- each distinct one as it came first, for a set of capacity N
+-- the texts of the array that a text is, each distinct one as it came first, for a set of capacity N, or the first fault
 abbrev pub texts_for : ℕ → Bytes → Result (List Bytes) JsonFault
-texts_for N text = and_then (array_texts text) (λ texts. items_for N (distinct bytes_eq texts))
+texts_for N text = and_then (ok_or (read text) BadText) (λ value. and_then (ok_or (as_array value) NotArray) (texts_in N))
 
 -- the fault that a text has, or want of memory
 abbrev pub IsFault : {X : Type 0} → Result X JsonFault → JsonFault → Type 0

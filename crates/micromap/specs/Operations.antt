@@ -1,30 +1,11 @@
 -- The operations on two sets as lists of items, what an iterator over one has left from call to call, and its hints.
 -- Items are compared by eq; each list says which of two equal items it has.
+use Rattle.std.specs.Set.{is_member}
 use Rattle.std.specs.Prelude.{◌≡◌, ℕ, ◌+◌, ◌-◌, ◌^◌, min, Bool, not, List, [], ◌∷◌, ◌++◌, length, drop, filter, Option, Some, None, if◌then◌else◌, nat_lt}
 use Rattle.std.specs.Iterator.{YieldsFirstBy}
+use Rattle.std.specs.Iterator.Runs.{YieldsRefsInOrder}
 use Rattle.std.specs.List.{after_first}
-use Rattle.micromap.specs.Items.{contains}
-
-module _ {T : Type 0} (eq : T → T → Bool) where
-  -- the items of xs without an equal one in ys
-  abbrev pub difference : List T → List T → List T
-  difference xs ys = filter (λ x. not (contains eq ys x)) xs
-
-  -- the items of xs with an equal one in ys
-  abbrev pub intersection : List T → List T → List T
-  intersection xs ys = filter (contains eq ys) xs
-
-  -- the items of ys, then those of xs without an equal one there
-  unfoldable pub union : List T → List T → List T
-  union xs ys = ys ++ difference xs ys
-
-  -- the items of xs without an equal one in ys, then the other way round
-  unfoldable pub symmetric_difference : List T → List T → List T
-  symmetric_difference xs ys = difference xs ys ++ difference ys xs
-
-  -- each item has an equal one in xs where it has one in ys, and the other way round
-  abbrev pub HaveEquals : List T → List T → Type 0
-  HaveEquals xs ys = (x : T) → contains eq xs x ≡ contains eq ys x
+use Rattle.std.specs.Map.Iter.{deref}
 
 -- where an iterator stands. Of a difference or an intersection: the items not walked yet, and the other set, which is
 -- seen as the list of its items
@@ -48,12 +29,32 @@ if_empty [] x y = x
 if_empty (_ ∷ _) x y = y
 
 module _ {T : Type 0} (eq : T → T → Bool) where
+  -- the items of xs without an equal one in ys
+  abbrev pub difference : List T → List T → List T
+  difference xs ys = filter (λ x. not (is_member eq ys x)) xs
+
+  -- the items of xs with an equal one in ys
+  abbrev pub intersection : List T → List T → List T
+  intersection xs ys = filter (is_member eq ys) xs
+
+  -- the items of ys, then those of xs without an equal one there
+  unfoldable pub union : List T → List T → List T
+  union xs ys = ys ++ difference xs ys
+
+  -- the items of xs without an equal one in ys, then the other way round
+  unfoldable pub symmetric_difference : List T → List T → List T
+  symmetric_difference xs ys = difference xs ys ++ difference ys xs
+
+  -- each item has an equal one in xs where it has one in ys, and the other way round
+  abbrev pub HaveEquals : List T → List T → Type 0
+  HaveEquals xs ys = (x : T) → is_member eq xs x ≡ is_member eq ys x
+
   -- the members that are left
   unfoldable pub difference_left : Walk T (List T) → List T
-  difference_left w = difference eq w.rest w.other
+  difference_left w = difference w.rest w.other
 
   unfoldable pub intersection_left : Walk T (List T) → List T
-  intersection_left w = intersection eq w.rest w.other
+  intersection_left w = intersection w.rest w.other
 
   unfoldable pub union_left : UnionWalk T (List T) → List T
   union_left w = w.others ++ difference_left w.beyond
@@ -63,10 +64,10 @@ module _ {T : Type 0} (eq : T → T → Bool) where
 
   -- where a call of `next` leads: past the next member, or to the end where there is none
   unfoldable pub difference_on : Walk T (List T) → Walk T (List T)
-  difference_on w = record w { rest = after_first (λ x. not (contains eq w.other x)) w.rest }
+  difference_on w = record w { rest = after_first (λ x. not (is_member eq w.other x)) w.rest }
 
   unfoldable pub intersection_on : Walk T (List T) → Walk T (List T)
-  intersection_on w = record w { rest = after_first (contains eq w.other) w.rest }
+  intersection_on w = record w { rest = after_first (is_member eq w.other) w.rest }
 
   unfoldable pub union_on : UnionWalk T (List T) → UnionWalk T (List T)
   union_on w = record { others = drop 1 w.others; beyond = if_empty w.others (difference_on w.beyond) w.beyond }
@@ -74,11 +75,14 @@ module _ {T : Type 0} (eq : T → T → Bool) where
   unfoldable pub symmetric_on : TwoWalks T (List T) (List T) → TwoWalks T (List T) (List T)
   symmetric_on w = record { first = difference_on w.first; second = if_empty (difference_left w.first) (difference_on w.second) w.second }
 
--- a call of `next` at s gave the first of what is left, or nothing where nothing is, and led to t; shows is what a
--- contract sees of what is given
+-- a call of `next` at s gave the first of what is left, as shows sees it, or nothing where nothing is, and led to t
 pub record GivesNext {S A T : Type 0} (shows : A → T) (left : S → List T) (on : S → S) (s : S) (r : Option A) (t : S) : Type 0 where
   pub member : YieldsFirstBy shows left s r t
   pub led : t ≡ on s
+
+-- each run of an iterator over references gives what is left, in order
+abbrev pub GivesMembers : {S T : Type 0} → (S → List T) → (S → S) → Type 0
+GivesMembers left on = YieldsRefsInOrder (GivesNext deref left on) left
 
 -- the sum of two numbers, either of which may be missing, where it is a `usize`
 abbrev pub sum_of : Option ℕ → Option ℕ → Option ℕ
@@ -91,15 +95,14 @@ abbrev pub both_hints : ℕ × Option ℕ → ℕ × Option ℕ → ℕ × Optio
 both_hints a b = (min (a.0 + b.0) (2 ^ 64 - 1), sum_of a.1 b.1)
 
 -- the hints: a lower bound of the number of members left, and an upper one
-module _ {T : Type 0} where
-  abbrev pub difference_hint : Walk T (List T) → ℕ × Option ℕ
-  difference_hint w = (length w.rest - length w.other, Some (length w.rest))
+abbrev pub difference_hint : {T : Type 0} → Walk T (List T) → ℕ × Option ℕ
+difference_hint w = (length w.rest - length w.other, Some (length w.rest))
 
-  abbrev pub intersection_hint : Walk T (List T) → ℕ × Option ℕ
-  intersection_hint w = (0, Some (min (length w.rest) (length w.other)))
+abbrev pub intersection_hint : {T : Type 0} → Walk T (List T) → ℕ × Option ℕ
+intersection_hint w = (0, Some (min (length w.rest) (length w.other)))
 
-  abbrev pub union_hint : UnionWalk T (List T) → ℕ × Option ℕ
-  union_hint w = both_hints (length w.others, Some (length w.others)) (difference_hint w.beyond)
+abbrev pub union_hint : {T : Type 0} → UnionWalk T (List T) → ℕ × Option ℕ
+union_hint w = both_hints (length w.others, Some (length w.others)) (difference_hint w.beyond)
 
-  abbrev pub symmetric_hint : TwoWalks T (List T) (List T) → ℕ × Option ℕ
-  symmetric_hint w = both_hints (difference_hint w.first) (difference_hint w.second)
+abbrev pub symmetric_hint : {T : Type 0} → TwoWalks T (List T) (List T) → ℕ × Option ℕ
+symmetric_hint w = both_hints (difference_hint w.first) (difference_hint w.second)

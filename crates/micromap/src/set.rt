@@ -1,7 +1,8 @@
 //! The set: a list of at most `N` items, stored as the keys of a map.
 ghost use Rattle.std.specs.Prelude.{◌≡◌, ◌==◌, [], length, Some, IsTrue};
 ghost use Rattle.std.specs.Option.{option_copied, option_map};
-ghost use Rattle.micromap.specs.Items.{IsItems, item, contains, item_fits};
+ghost use Rattle.std.specs.Set.{is_member};
+ghost use Rattle.micromap.specs.Items.{IsItems, find_item, item_fits};
 
 mod capacity;
 mod change;
@@ -59,7 +60,8 @@ impl<T: Eq, const N: usize> Set<T, N> {
 
     /// Returns the number of items.
     ///
-    /// Its clause `content` says what is true of every set's content.
+    /// The clause `content` states three facts of the set: no two items are equal, there are at most `N` items, and the
+    /// equality of items is lawful (reflexive, symmetric and transitive).
     #[inline]
     pub fn len(&self) -> usize
         ensures answer { result ≡ length self.now }
@@ -88,26 +90,26 @@ impl<T: Eq, const N: usize> Set<T, N> {
     ///
     /// Compares no item if there is room. Else it makes one scan.
     #[inline]
-    pub fn fits(&self, x: &T) -> bool
-        ensures { result ≡ item_fits T.eq N self.now x.now }
+    pub fn fits(&self, item: &T) -> bool
+        ensures { result ≡ item_fits T.eq N self.now item.now }
     {
-        self.map.fits(x)
+        self.map.fits(item)
     }
 
-    /// Returns `true` if a stored item equals `x`. Makes one scan.
+    /// Returns `true` if a stored item equals `item`. Makes one scan.
     #[inline]
-    pub fn contains(&self, x: &T) -> bool
-        ensures { result ≡ contains T.eq self.now x.now }
+    pub fn contains(&self, item: &T) -> bool
+        ensures { result ≡ is_member T.eq self.now item.now }
     {
-        self.map.contains_key(x)
+        self.map.contains_key(item)
     }
 
-    /// Returns a reference to the stored item that equals `x`, or `None` if there is none. Makes one scan.
+    /// Returns a reference to the stored item that equals `item`, or `None` if there is none. Makes one scan.
     #[inline]
-    pub fn get(&self, x: &T) -> Option<&T>
-        ensures { option_copied result ≡ item T.eq self.now x.now }
+    pub fn get(&self, item: &T) -> Option<&T>
+        ensures { option_copied result ≡ find_item T.eq self.now item.now }
     {
-        match self.map.get_key_value(x) {
+        match self.map.get_key_value(item) {
             Some((stored, _)) => Some(stored),
             None => None,
         }

@@ -1,15 +1,15 @@
 -- Items that are put one after the other: one more, and all of them. A content that is built has one key for each
 -- distinct key of its items, so they all fit where there are few of those.
-use Rattle.std.proofs.Common.{◌≡◌, ℕ, zero, suc, ◌+◌, ◌<◌, ◌≤◌, nat_lt, Bool, true, false, ◌&&◌, ◌||◌, not, List, [], ◌∷◌, ◌++◌, length, get_or, take, Option, Some, if◌then◌else◌, IsTrue, refl, ap, sym, subst, ◌∙◌, arith, nat_le, ◌⊎◌, inl, inr, map}
+use Rattle.std.proofs.Common.{◌≡◌, ℕ, zero, suc, ◌+◌, ◌<◌, ◌≤◌, nat_lt, Bool, true, false, ◌&&◌, ◌||◌, not, List, [], ◌∷◌, ◌++◌, length, get_or, take, Option, Some, None, is_some, if◌then◌else◌, IsTrue, refl, ap, sym, subst, ◌∙◌, arith, nat_le, ◌⊎◌, inl, inr, map}
 use Rattle.std.specs.Cmp.{first_so, second_so, IsEquivalence}
 use Rattle.std.specs.Cmp.Derive.{both_true}
 use Rattle.std.specs.Iterator.{Drains, YieldsThen}
 use Rattle.std.specs.Iterator.Runs.{SomeRun, WholeRun}
-use Rattle.std.specs.List.{fold, list_any, IsDistinct}
-use Rattle.std.proofs.Math.Bool.{and-true, and_assoc, and-false, or-true, or-false, or_assoc}
+use Rattle.std.specs.List.{fold, IsDistinct}
+use Rattle.std.proofs.Math.Bool.{and-true, and_assoc, or-false, or_assoc}
 use Rattle.std.proofs.iter.runs.Consumers.{total_runs}
 use Rattle.std.proofs.iter.runs.Made.{run_of_turn}
-use Rattle.std.proofs.lemmas.Bool.{ltb-false, lt-leb, le-leb, leb-true, leb-false, not-true}
+use Rattle.std.proofs.lemmas.Bool.{cases_Bool, ltb-false, lt-leb, le-leb, leb-true, leb-false, not-true}
 use Rattle.std.proofs.lemmas.List.{length_push, take_all, take_at, take_more, length-map, length-take}
 use Rattle.std.proofs.lemmas.List.Sums.{fold_push}
 use Rattle.micromap_core.specs.Build.{each_fits, StopsAt, pair_fits, put_pair}
@@ -19,17 +19,22 @@ use Rattle.std.proofs.lemmas.Bool.Decides.{leb_tells}
 use Rattle.std.proofs.lemmas.List.Folds.{list_any-append}
 use Rattle.std.proofs.lemmas.Map.Entries.{length-keys_of}
 use Rattle.std.proofs.lemmas.Map.Keys.{IsDistinct-push}
+use Rattle.std.proofs.lemmas.Map.Steps.{list_any_congr}
 use Rattle.std.proofs.lemmas.Map.Made.{is_some-lookup, distinct_count-le, length-from_keys, length-le_from_is_member}
-use Rattle.micromap_core.specs.Pairs.{has, has_room}
+use Rattle.micromap_core.specs.Pairs.{at, fits, has, has_room}
+use Rattle.micromap_core.proofs.Lists.{is_some-if}
 use Rattle.micromap_core.proofs.PairsLemmas.{keys_of-put_stored, keys_of-put_new}
-
-not_both : (a b : Bool) → IsTrue (not b) → IsTrue (not (a && b))
-not_both false b not_b = refl
-not_both true b not_b = not_b
 
 -- what has no room for one more, and has at most as many as there is room for, is full
 pub full_is : (stored : Bool) (n N : ℕ) → (stored || nat_lt n N) ≡ false → n ≤ N → n ≡ N
 full_is stored n N misfit bounded = grind (arith, misfit, bounded, ltb-false n N)
+
+or_absorbs : (a b : Bool) → (b ≡ true → a ≡ true) → a ≡ (a || b)
+or_absorbs a b implied = grind arith
+
+-- what an insertion answers tells whether the key fits
+pub fits_checked : {K V : Type 0} (eq : K → K → Bool) (N : ℕ) (pairs : List (K × V)) (k : K) {answer : Option (Option V)} {b : Bool} → answer ≡ (if fits eq N pairs k then Some (at eq pairs k) else None) → is_some answer ≡ b → fits eq N pairs k ≡ b
+fits_checked eq N pairs k answer tells = sym (is_some-if (fits eq N pairs k) (at eq pairs k)) ∙ ap is_some (sym answer) ∙ tells
 
 module _ {C X : Type 0} (fits : C → X → Bool) (put : C → X → C) where
   fits_within : (old : C) (items : List X) (index : ℕ) (d : X) → index < length items → IsTrue (each_fits fits put old items) → fits (fold put old (take index items)) (get_or items index d) ≡ true
@@ -64,7 +69,7 @@ module _ {C X : Type 0} (fits : C → X → Bool) (put : C → X → C) where
         let front : take position turn.0.items ≡ items = ap (take position) turn.2.0 ∙ take_at items (x ∷ []) position (sym has.position_is) in
         let whole : take (position + 1) turn.0.items ≡ items ++ x ∷ [] = ap (take (position + 1)) turn.2.0 ∙ take_all (position + 1) (items ++ x ∷ []) (omega (arith, length_push items x, has.position_is)) in
         let last : fits (fold put old items) x ≡ false = ap (λ c. fits c x) (sym has.made) ∙ misfit in
-        let stops : IsTrue (not (each_fits fits put old (items ++ x ∷ []))) = ap not (each_fits-push old items x) ∙ not_both (each_fits fits put old items) _ (ap not last) in (
+        let stops : IsTrue (not (each_fits fits put old (items ++ x ∷ []))) = grind (arith, each_fits-push old items x, last) in (
           (turn.0, turn.1, (long, (ap (each_fits fits put old) front ∙ has.fit, ap (λ l. not (each_fits fits put old l)) whole ∙ stops))),
           (turn.0, turn.1, (long, next ∙ ap (λ b. if b then put now x else now) misfit ∙ has.made ∙ sym (ap (fold put old) front))),
         )
@@ -96,13 +101,9 @@ module _ {C X K : Type 0} {eq : K → K → Bool} (laws : IsEquivalence eq) {N :
   -- the keys after a put are distinct, and are those before it and the item's
   keys-put : (c : C) (x : X) → IsDistinct eq (keys c) → IsDistinct eq (keys (put c x)) × ((q : K) → is_member eq (keys (put c x)) q ≡ (is_member eq (keys c) q || eq q (key x)))
   keys-put c x distinct = elim (keyed.cases c x) [
-    | inl h ↦ subst (λ ks. IsDistinct eq ks × ((q : K) → is_member eq ks q ≡ (is_member eq (keys c) q || eq q (key x)))) (sym h.2) (distinct, λ q. member q (eq q (key x)) refl h.0)
+    | inl h ↦ subst (λ ks. IsDistinct eq ks × ((q : K) → is_member eq ks q ≡ (is_member eq (keys c) q || eq q (key x)))) (sym h.2) (distinct, λ q. or_absorbs (is_member eq (keys c) q) (eq q (key x)) (λ same. list_any_congr laws q (key x) (keys c) same ∙ h.0))
     | inr h ↦ subst (λ ks. IsDistinct eq ks × ((q : K) → is_member eq ks q ≡ (is_member eq (keys c) q || eq q (key x)))) (sym h.2) (IsDistinct-push laws (keys c) (key x) distinct h.0, λ q. list_any-append (eq q) (keys c) (key x ∷ []) ∙ ap (λ b. is_member eq (keys c) q || b) (or-false (eq q (key x))))
   ]
-    where
-      member : (q : K) (b : Bool) → eq q (key x) ≡ b → is_member eq (keys c) (key x) ≡ true → is_member eq (keys c) q ≡ (is_member eq (keys c) q || b)
-      member q true same there = ap (λ test. list_any test (keys c)) (λ i k. laws.congr q (key x) k same i) ∙ there ∙ sym (or-true _)
-      member q false other there = sym (or-false _)
 
   pub keys-fold : (c : C) (items : List X) → IsDistinct eq (keys c) → IsDistinct eq (keys (fold put c items)) × ((q : K) → is_member eq (keys (fold put c items)) q ≡ (is_member eq (keys c) q || is_member eq (map key items) q))
   keys-fold c [] distinct = (distinct, λ q. sym (or-false _))
@@ -145,7 +146,7 @@ module _ {C X K : Type 0} {eq : K → K → Bool} (laws : IsEquivalence eq) {N :
 
   pub many_distinct : (items : List X) (x : X) → IsTrue (not (fits (fold put empty items) x)) → N < count (items ++ x ∷ [])
   many_distinct items x misfit =
-      let many : each_fits fits put empty (items ++ x ∷ []) ≡ false = each_fits-push fits put empty items x ∙ ap (λ b. each_fits fits put empty items && b) (not-true _ misfit) ∙ and-false _ in
+      let many : each_fits fits put empty (items ++ x ∷ []) ≡ false = grind (arith, each_fits-push fits put empty items x, not-true _ misfit) in
       leb-false _ N (sym (all_fit-count (items ++ x ∷ [])) ∙ many)
 
   -- where not even the first of the items all fit, there are too many distinct ones
@@ -168,8 +169,11 @@ module _ {C X K : Type 0} {eq : K → K → Bool} (laws : IsEquivalence eq) {N :
 
 -- a map's pairs
 pub pairs_keyed : {K V : Type 0} (eq : K → K → Bool) (N : ℕ) → IsKeyed eq N (pair_fits {V = V} eq N) (put_pair eq) keys_of (λ p. p.0) [] (λ items. distinct_count eq (keys_of items))
-pairs_keyed {K} {V} eq N = record { cases = λ pairs p. by pairs p (has eq pairs p.0) refl; none = refl; counts = λ items. refl }
-  where
-    by : (pairs : List (K × V)) (p : K × V) (b : Bool) → has eq pairs p.0 ≡ b → ((is_member eq (keys_of pairs) p.0 ≡ true) × (pair_fits eq N pairs p ≡ true) × (keys_of (put_pair eq pairs p) ≡ keys_of pairs)) ⊎ ((is_member eq (keys_of pairs) p.0 ≡ false) × (pair_fits eq N pairs p ≡ nat_lt (length (keys_of pairs)) N) × (keys_of (put_pair eq pairs p) ≡ keys_of pairs ++ p.0 ∷ []))
-    by pairs p true stored = inl (sym (is_some-lookup (eq p.0) pairs) ∙ stored, ap (λ b. b || has_room N pairs) stored, keys_of-put_stored eq pairs p.0 p.1 stored)
-    by pairs p false new = inr (sym (is_some-lookup (eq p.0) pairs) ∙ new, ap (λ b. b || has_room N pairs) new ∙ ap (λ n. nat_lt n N) (sym (length-keys_of pairs)), keys_of-put_new eq pairs p.0 p.1 new)
+pairs_keyed {K} {V} eq N = record {
+  cases = λ pairs p. elim (cases_Bool (has eq pairs p.0)) [
+    | inl stored ↦ inl (sym (is_some-lookup (eq p.0) pairs) ∙ stored, ap (λ b. b || has_room N pairs) stored, keys_of-put_stored eq pairs p.0 p.1 stored)
+    | inr new ↦ inr (sym (is_some-lookup (eq p.0) pairs) ∙ new, ap (λ b. b || has_room N pairs) new ∙ ap (λ n. nat_lt n N) (sym (length-keys_of pairs)), keys_of-put_new eq pairs p.0 p.1 new)
+  ];
+  none = refl;
+  counts = λ items. refl;
+}

@@ -1,5 +1,5 @@
--- The loops that call a closure, a moment of each and its end. For callers: the order of the keys after `retain`, and the
--- plain list that comes of `update_all` or `update_disjoint` with a closure that stays as it was.
+-- One step of each loop that calls a closure, and its end. For callers: the order of the keys after `retain`, and the
+-- plain list after `update_all` or `update_disjoint` with a closure that changes nothing that it captures.
 use Rattle.std.proofs.Common.{◌≡◌, ℕ, suc, ◌+◌, ◌≤◌, Bool, true, false, cond, List, [], ◌∷◌, ◌++◌, length, take, drop, set, slice_get, refl, ap, sym, ◌∙◌, append-nil, append_assoc, arith, add-one, ◌<◌, get_or, map, Some, None, is_some, zero-add, Option, MatchOption, subst}
 use Rattle.std.specs.Borrow.{Bor, MutBor}
 use Rattle.std.specs.Fn.{Mut}
@@ -9,7 +9,7 @@ use Rattle.std.specs.Option.{IfSome, option_map_or}
 use Rattle.std.proofs.lemmas.List.{drop-set-lt, drop_all, length-set, take-set-le, take-append-drop, take_more, take_more_set, map_push, take_all}
 use Rattle.std.proofs.lemmas.List.Edits.{length-swap}
 use Rattle.std.proofs.lemmas.Option.{slice_get_within, get_or_from_slice_get, slice_get-get_or}
-use Rattle.micromap_core.specs.Closures.{AcceptsPair, CalledOnPair, VisitsAt, AcceptsValue, AtEachTurn, CalledOnValue, MayUpdateAll, MayUpdateDisjoint, UpdateAllTurn, UpdateDisjointTurn, UpdatesAll, UpdatesDisjoint, updated_disjoint, written_by}
+use Rattle.micromap_core.specs.Closures.{AcceptsPair, CalledOnPair, VisitsAt, AcceptsValue, AtEachTurn, CalledOnValue, IsSublist, MayUpdateAll, MayUpdateDisjoint, UpdateAllTurn, UpdateDisjointTurn, UpdatesAll, UpdatesDisjoint, updated_disjoint, written_by}
 use Rattle.micromap_core.proofs.Lists.{IfSome-from, drop-here, slice_get-set_same, swap-behind, swap-front, slice_get-drop}
 use Rattle.std.specs.Map.{keys_of}
 use Rattle.std.proofs.lemmas.Fn.{FoldsTo-push, chained_keeps}
@@ -19,7 +19,6 @@ use Rattle.micromap_core.specs.Pairs.{at, has, put}
 use Rattle.micromap_core.proofs.PairsLemmas.{keys_of-put_stored}
 use Rattle.std.specs.List.Retain.{IsFiltered}
 use Rattle.std.proofs.lemmas.List.Sums.{fold-append}
-use Rattle.micromap_core.specs.Closures.{IsSublist}
 
 module _ {F K V : Type 0} (g : Mut F (Bor K × (MutBor V × Unit {0})) (Bool × (MutBor V × Unit {0}))) (f : F) (pairs : List (K × V)) where
   -- a moment of the loop

@@ -1,14 +1,14 @@
 -- For callers: how many distinct keys a list has with one more, that a map has one key for each distinct key that was put,
 -- and what a counter has. The ruleset `count_laws` is for a counter.
-use Rattle.std.proofs.Common.{◌≡◌, ℕ, ◌+◌, ◌<◌, ◌≤◌, ◌||◌, not, Bool, true, false, List, [], ◌∷◌, ◌++◌, length, get_or, take, drop, unwrap_or, cond, if◌then◌else◌, refl, ap, sym, subst, ◌∙◌, append_assoc, arith}
-use Rattle.std.specs.List.{AllByRecursion, IsDistinct, count_by, fold, list_any}
+use Rattle.std.proofs.Common.{◌≡◌, ℕ, ◌+◌, ◌<◌, ◌≤◌, ◌||◌, Bool, true, false, List, [], ◌∷◌, ◌++◌, length, get_or, take, drop, unwrap_or, cond, if◌then◌else◌, refl, ap, sym, subst, ◌∙◌, append_assoc, arith}
+use Rattle.std.specs.List.{count_by, fold, list_any}
 use Rattle.std.specs.Map.{keys_of}
 use Rattle.std.specs.Set.{distinct_count, is_member}
 use Rattle.std.proofs.Math.Bool.{or-false}
 use Rattle.std.proofs.lemmas.Grind.{common_steps}
 use Rattle.std.proofs.lemmas.List.{append-nil, length-take, map-append, take_all, take_more, take-append-drop}
 use Rattle.std.proofs.lemmas.List.Folds.{list_any-append}
-use Rattle.std.proofs.lemmas.List.Sums.{count_by-le-length, fold_more, fold_push, sum_by-cons}
+use Rattle.std.proofs.lemmas.List.Sums.{count_by-le-length, fold_more, fold_push}
 use Rattle.std.proofs.lemmas.Map.Entries.{length-keys_of}
 use Rattle.std.proofs.lemmas.Map.Made.{is_some-lookup, length-from_keys}
 use Rattle.micromap_core.specs.Build.{put_all, count_one, counts, put_pair}
@@ -45,11 +45,6 @@ module _ {K V : Type 0} (eq : K → K → Bool) where
   pub length_keys : (pairs : List (K × V)) (xs : List K) → Lawful eq → IsUnique eq pairs → ((q : K) → has eq pairs q ≡ list_any (eq q) xs) → length pairs ≡ distinct_count eq xs
   length_keys pairs xs laws unique keys = sym (length-keys_of pairs) ∙ length-from_keys (of_lawful eq laws) _ xs unique (λ q. sym (is_some-lookup (eq q) pairs) ∙ keys q)
 
-  -- the same with one more that is put
-  pub length_put_more : (pairs : List (K × V)) (k : K) (v : V) (xs : List K) → Lawful eq → has eq pairs k ≡ list_any (eq k) xs → length pairs ≡ distinct_count eq xs → length (put eq pairs k v) ≡ distinct_count eq (xs ++ k ∷ [])
-  length_put_more pairs k v xs laws stored count =
-      length_put eq pairs k v ∙ (λ i. if stored i then count i else count i + 1) ∙ sym (distinct_push eq xs k laws)
-
   -- and after items are put
   pub length_put_all : (pairs items : List (K × V)) → Lawful eq → IsUnique eq pairs → length (put_all eq pairs items) ≡ distinct_count eq (keys_of pairs ++ keys_of items)
   length_put_all pairs items laws unique =
@@ -62,20 +57,6 @@ module _ {K V : Type 0} (eq : K → K → Bool) where
   put_all_grows pairs items i laws unique =
       let all : keys_of (take i items) ++ keys_of (drop i items) ≡ keys_of items = sym (map-append (λ (e : K × V). e.0) (take i items) (drop i items)) ∙ ap keys_of (take-append-drop i items) in
       omega (arith, length_put_all pairs (take i items) laws unique, length_put_all pairs items laws unique, distinct_grows eq (keys_of pairs ++ keys_of (take i items)) (keys_of (drop i items)) laws, ap (distinct_count eq) (append_assoc (keys_of pairs) (keys_of (take i items)) (keys_of (drop i items)) ∙ ap (λ l. keys_of pairs ++ l) all))
-
-  -- a put at another key leaves how many of the items are new
-  count_apart : (pairs : List (K × V)) (k : K) (v : V) (items : List (K × V)) → Lawful eq → AllByRecursion (λ y. eq k y ≡ false) (keys_of items) → count_by (λ e. not (has eq (put eq pairs k v) e.0)) items ≡ count_by (λ e. not (has eq pairs e.0)) items
-  count_apart pairs k v [] laws apart = refl
-  count_apart pairs k v (e ∷ items) laws apart =
-      let a = apart.0 in
-      grind (arith, count_apart pairs k v items laws apart.1, has_put eq pairs k v e.0 laws, sum_by-cons (λ x. cond (not (has eq (put eq pairs k v) x.0)) 1 0) e items, sum_by-cons (λ x. cond (not (has eq pairs x.0)) 1 0) e items)
-
-  -- of items with unequal keys each new one is one more
-  pub length_put_all_unequal : (pairs items : List (K × V)) → Lawful eq → IsUnique eq items → length (put_all eq pairs items) ≡ length pairs + count_by (λ e. not (has eq pairs e.0)) items
-  unfolding IsDistinct
-  length_put_all_unequal pairs [] laws unequal = omega arith
-  length_put_all_unequal pairs (e ∷ items) laws unequal =
-      grind (arith, length_put_all_unequal (put eq pairs e.0 e.1) items laws unequal.1, length_put eq pairs e.0 e.1, count_apart pairs e.0 e.1 items laws unequal.0, sum_by-cons (λ x. cond (not (has eq pairs x.0)) 1 0) e items)
 
   -- an item that is put when it is new is one more
   pub put_all_beyond : (pairs items : List (K × V)) (i : ℕ) (d : K × V) → i < length items → Lawful eq → IsUnique eq pairs → has eq (put_all eq pairs (take i items)) (get_or items i d).0 ≡ false → length (put_all eq pairs (take i items)) < length (put_all eq pairs items)

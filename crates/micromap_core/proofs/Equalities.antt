@@ -9,8 +9,7 @@ use Rattle.std.specs.Ordering.{int_eq, on}
 use Rattle.std.specs.String.{string_eq, string_eq_equiv}
 use Rattle.std.proofs.lemmas.Cmp.{int_eq_equiv, nat_eq_equiv, nat_list_eq_equiv, on_equiv}
 use Rattle.micromap_core.specs.Equalities.{IsProbe, Lawful, Probes}
-use Rattle.micromap_core.specs.Probe.{is_str, is_text}
-use Rattle.micromap_core.specs.Probe.{alike, equal}
+use Rattle.micromap_core.specs.Probe.{alike, equal, is_str, is_text}
 
 -- a lawful probe tests the keys as the one that it matches does
 pub same_test : {K : Type 0} (eq : K → K → Bool) (test : K → Bool) (alike : (x y : K) → eq x y ≡ true → test x ≡ test y) (single : (x y : K) → test x ≡ true → test y ≡ true → eq x y ≡ true) (k : K) → test k ≡ true → test ≡ eq k

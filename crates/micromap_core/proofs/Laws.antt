@@ -1,34 +1,31 @@
 -- For callers: what the lengths of two lists with unequal items, or with unequal keys, tell of the two, and that sameness
 -- is an equivalence. `Lawful` and the unequal items or keys come from a map's or a set's `content`.
-use Rattle.std.proofs.Common.{◌≡◌, ◌<◌, ◌≤◌, ◌↔◌, Bool, true, false, not, ◌&&◌, ◌||◌, IsTrue, List, [], ◌∷◌, filter, length, refl, ap, ◌∙◌, arith}
+use Rattle.std.proofs.Common.{◌≡◌, ◌<◌, ◌≤◌, ◌↔◌, Bool, true, false, not, ◌&&◌, ◌||◌, IsTrue, List, [], ◌∷◌, filter, length, ap, ◌∙◌, inl, inr, arith}
 use Rattle.std.specs.Cmp.{IsEquivalence, first_so, second_so}
 use Rattle.std.specs.Cmp.Derive.{both_true}
 use Rattle.std.specs.List.{IsDistinct, list_all}
 use Rattle.std.specs.Map.{keys_of}
-use Rattle.std.specs.Option.{option_eq}
 use Rattle.std.specs.Set.{is_member}
-use Rattle.std.proofs.Math.Bool.{or-true}
-use Rattle.std.proofs.lemmas.Bool.{true≢false}
+use Rattle.std.proofs.lemmas.Bool.{cases_Bool, true≢false}
 use Rattle.std.proofs.lemmas.Map.Entries.{length-keys_of}
 use Rattle.std.proofs.lemmas.Map.Made.{is_some-lookup}
 use Rattle.micromap_core.specs.Equalities.{Lawful}
-use Rattle.micromap_core.specs.Pairs.{at, has, IsUnique}
+use Rattle.micromap_core.specs.Pairs.{has, IsUnique}
 use Rattle.micromap_core.specs.Same.{have_equal_items, has_value, is_same, Same}
 use Rattle.micromap_core.specs.SameLaws.{have_equal_items_equiv, is_same_equiv}
 use Rattle.micromap_core.proofs.DistinctLemmas.{length-filter_members, members_turned, missing_in_shorter}
 use Rattle.micromap_core.proofs.Equalities.{lawful, of_lawful}
-use Rattle.micromap_core.proofs.SameLemmas.{long_from_same, same_from_long, alike_from_same, filters_empty, same_from_alike, same_from_filters}
+use Rattle.micromap_core.proofs.SameLemmas.{long_from_same, same_from_long, filters_empty, same_from_filters, values_within}
 
 -- where not all items pass a test, one fails it
 some_fails : {T : Type 0} {eq : T → T → Bool} (laws : IsEquivalence eq) (test : T → Bool) (xs : List T) → list_all test xs ≡ false → (x : T) × (is_member eq xs x ≡ true) × (test x ≡ false)
 some_fails laws test [] fails = absurd (true≢false fails)
-some_fails {T = T} {eq = eq} laws test (x ∷ xs) fails = by (test x) refl (some_fails laws test xs) fails
-  where
-    by : (b : Bool) → test x ≡ b → (list_all test xs ≡ false → (y : T) × (is_member eq xs y ≡ true) × (test y ≡ false)) → (b && list_all test xs) ≡ false → (y : T) × (is_member eq (x ∷ xs) y ≡ true) × (test y ≡ false)
-    by true passes rest more =
-        let there = rest more in
-        (there.0, ap (λ b. eq there.0 x || b) there.1 ∙ or-true (eq there.0 x), there.2)
-    by false here rest more = (x, ap (λ b. b || is_member eq xs x) (laws.refl x), here)
+some_fails {eq = eq} laws test (x ∷ xs) fails = elim (cases_Bool (test x)) [
+  | inl passes ↦
+      let there = some_fails laws test xs (grind (arith, passes, fails)) in
+      (there.0, grind (arith, there.1), there.2)
+  | inr here ↦ (x, ap (λ b. b || is_member eq xs x) (laws.refl x), here)
+]
 
 -- of items
 module _ {T : Type 0} (eq : T → T → Bool) (equality : Lawful eq) where
@@ -71,23 +68,14 @@ module _ {K V : Type 0} (eq : K → K → Bool) (equality : Lawful eq) where
       pub length-same : Same eq same first second → length first ≡ length second
       length-same = long_from_same eq same (of_lawful eq equality) (of_lawful same values) first second unique_first unique_second
 
-      -- they are the same exactly where each key finds equal values in both, or none in either
-      pub same_iff_at : Same eq same first second ↔ ((k : K) → option_eq same (at eq first k) (at eq second k) ≡ true)
-      same_iff_at =
-          let keys = of_lawful eq equality in
-          let equal = of_lawful same values in (
-            λ are. (alike_from_same eq same keys equal first second unique_first unique_second are).each,
-            λ each. same_from_alike eq same keys equal first second unique_first unique_second (record { each = each }),
-          )
-
-      -- and exactly where no key is in one alone, and none has unequal values
+      -- they are the same exactly where no key is in one alone, and none has unequal values
       pub same_iff_filters : Same eq same first second ↔ ((filter (λ p. not (has eq second p.0)) first ≡ []) × (filter (λ p. not (has eq first p.0)) second ≡ []) × (filter (λ p. has eq second p.0 && not (has_value eq same second p)) first ≡ []))
       same_iff_filters =
           let keys = of_lawful eq equality in
           let equal = of_lawful same values in (
             λ are.
-                let one = filters_empty eq same keys equal first second unique_first unique_second first (first_so _ _ are) in
-                let other = filters_empty eq same keys equal second first unique_second unique_first second (second_so _ _ are) in
+                let one = filters_empty eq same keys equal first second unique_first unique_second first (values_within eq same keys equal first second unique_second (first_so _ _ are)) in
+                let other = filters_empty eq same keys equal second first unique_second unique_first second (values_within eq same keys equal second first unique_first (second_so _ _ are)) in
                 (one.0, other.0, one.1),
             λ none. same_from_filters eq same keys equal first second unique_first unique_second none.0 none.1 none.2,
           )

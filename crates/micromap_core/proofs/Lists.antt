@@ -1,6 +1,6 @@
 -- Facts about lists and options alone.
 use Rattle.std.proofs.Common.{Bool, false, if◌then◌else◌, Option, Some, None, is_some, slice_get, ◌++◌, ◌≡◌, ℕ, suc, zero, ◌<◌, ◌≤◌, List, [], ◌∷◌, length, get_or, set, take, drop, map, refl, ap, sym, ◌∙◌, arith}
-use Rattle.std.specs.Option.{ForSome, IfSome, option_map}
+use Rattle.std.specs.Option.{ForSome, IfSome}
 use Rattle.std.specs.List.{remove, swap, refill}
 use Rattle.std.proofs.Math.ListN.{get_or-map}
 use Rattle.std.proofs.lemmas.List.{get_or-set_same, drop-map, drop-set-lt, map-set, map-append, take-map, take-set, length-set, take_at}
@@ -10,10 +10,6 @@ use Rattle.std.proofs.Math.Seq.{drop-cons}
 -- written back whole, a list of the same length is what it was written as
 pub refill-same : {X : Type 0} (xs ws : List X) → length ws ≡ length xs → refill (length xs) xs ws ≡ ws
 refill-same xs ws same = take_at ws _ (length xs) same
-
--- a function of the value leaves whether there is one
-pub is_some-option_map : {X Y : Type 0} (f : X → Y) (o : Option X) → is_some (option_map f o) ≡ is_some o
-is_some-option_map f o = grind arith
 
 -- where there is no value
 pub none_is : {X : Type 0} (o : Option X) → is_some o ≡ false → o ≡ None

@@ -1,14 +1,13 @@
 -- The inductions behind `MapLaws`: what a probe finds in a list that a word on pairs makes.
-use Rattle.std.proofs.Common.{◌≡◌, ℕ, ◌+◌, ◌&&◌, ◌||◌, Bool, true, false, not, List, [], ◌∷◌, ◌++◌, filter, length, reverse, Option, Some, None, is_some, if◌then◌else◌, refl, arith}
+use Rattle.std.proofs.Common.{◌≡◌, ℕ, ◌+◌, Bool, true, false, not, List, [], ◌∷◌, ◌++◌, filter, length, reverse, Option, Some, None, is_some, if◌then◌else◌, refl, arith}
 use Rattle.std.specs.List.{IsDistinct, AllByRecursion}
 use Rattle.std.specs.Map.{keys_of, lookup, lookup_entry, remove_entry, set_value, set_key}
 use Rattle.std.specs.Option.{option_map_or, option_or}
 use Rattle.std.proofs.lemmas.Bool.{false≢true}
 use Rattle.std.proofs.lemmas.List.{reverse-append}
-use Rattle.std.proofs.lemmas.Map.Entries.{option_filter}
 use Rattle.micromap_core.specs.Equalities.{IsProbe}
 use Rattle.micromap_core.specs.Found.{FoundAt, NotFound}
-use Rattle.micromap_core.specs.Pairs.{pair, first_index, has, put, take_out, IsUnique}
+use Rattle.micromap_core.specs.Pairs.{pair, first_index, has, put, IsUnique}
 use Rattle.micromap_core.proofs.ScanLemmas.{found_at, not_found}
 use Rattle.micromap_core.proofs.PairsLemmas.{lookup-entry}
 
@@ -20,7 +19,7 @@ others eq test p x passes (y ∷ ks) apart = let a = apart.0 in grind (arith, ot
 module _ {K V : Type 0} (eq : K → K → Bool) (test : K → Bool) (p : IsProbe eq test) where
   module _ (k : K) (v : V) where
     -- a put at a stored key, and at a new one
-    entry_set : (pairs : List (K × V)) → has eq pairs k ≡ true → lookup_entry test (set_value (eq k) pairs v) ≡ (if test k then Some (option_map_or (λ e. e.0) (pair eq pairs k) k, v) else lookup_entry test pairs)
+    pub entry_set : (pairs : List (K × V)) → has eq pairs k ≡ true → lookup_entry test (set_value (eq k) pairs v) ≡ (if test k then Some (option_map_or (λ e. e.0) (pair eq pairs k) k, v) else lookup_entry test pairs)
     entry_set [] stored = absurd (false≢true stored)
     entry_set (e ∷ es) stored = grind (arith, entry_set es, p.alike_keys k e.0, p.equal_keys k e.0)
 
@@ -28,36 +27,21 @@ module _ {K V : Type 0} (eq : K → K → Bool) (test : K → Bool) (p : IsProbe
     entry_push [] missing = refl
     entry_push (e ∷ es) missing = grind (arith, entry_push es, p.equal_keys k e.0)
 
-    pub entry_put : (pairs : List (K × V)) → lookup_entry test (put eq pairs k v) ≡ (if test k then Some (option_map_or (λ e. e.0) (pair eq pairs k) k, v) else lookup_entry test pairs)
-    unfolding put
-    entry_put pairs = grind (arith, entry_set pairs, entry_push pairs)
-
     -- a put that replaces the key
     pub entry_set_key : (pairs : List (K × V)) → has eq pairs k ≡ true → lookup_entry test (set_key (eq k) (set_value (eq k) pairs v) k) ≡ (if test k then Some (k, v) else lookup_entry test pairs)
     entry_set_key [] stored = absurd (false≢true stored)
     entry_set_key (e ∷ es) stored = grind (arith, entry_set_key es, p.alike_keys k e.0, p.equal_keys k e.0)
 
   -- where all keys are apart from one that passes, none passes
-  none_apart : (x : K) (es : List (K × V)) → test x ≡ true → AllByRecursion (λ y. eq x y ≡ false) (keys_of es) → lookup_entry test es ≡ None
+  pub none_apart : (x : K) (es : List (K × V)) → test x ≡ true → AllByRecursion (λ y. eq x y ≡ false) (keys_of es) → lookup_entry test es ≡ None
   none_apart x [] passes apart = refl
   none_apart x (e ∷ es) passes apart = let a = apart.0 in grind (arith, none_apart x es passes apart.1, p.equal_keys x e.0)
-
-  pub entry_take_out : (k : K) (pairs : List (K × V)) → IsUnique eq pairs → lookup_entry test (take_out eq pairs k) ≡ (if test k then None else lookup_entry test pairs)
-  unfolding take_out IsDistinct
-  entry_take_out k [] unique = grind arith
-  entry_take_out k (e ∷ es) unique = let apart = unique.0 in grind (arith, entry_take_out k es unique.1, none_apart e.0 es, p.alike_keys k e.0, p.equal_keys k e.0)
 
   -- the keys that a removal leaves stand in the order that they had
   pub keys_removed : (pairs : List (K × V)) → IsUnique eq pairs → keys_of (remove_entry test pairs) ≡ filter (λ q. not (test q)) (keys_of pairs)
   unfolding IsDistinct
   keys_removed [] unique = refl
   keys_removed (e ∷ es) unique = grind (arith, keys_removed es unique.1, others eq test p e.0)
-
-  -- the pairs that pass another test
-  pub entry_filter : (keep : K × V → Bool) (pairs : List (K × V)) → IsUnique eq pairs → lookup_entry test (filter keep pairs) ≡ option_filter keep (lookup_entry test pairs)
-  unfolding IsDistinct
-  entry_filter keep [] unique = refl
-  entry_filter keep (e ∷ es) unique = let apart = unique.0 in grind (arith, entry_filter keep es unique.1, none_apart e.0 es)
 
 pub lookup-append : {K V : Type 0} (test : K → Bool) (first second : List (K × V)) → lookup test (first ++ second) ≡ option_or (lookup test first) (lookup test second)
 lookup-append test [] second = refl
@@ -70,15 +54,6 @@ lookup-reverse eq test p [] unique = refl
 lookup-reverse eq test p (e ∷ es) unique =
     let apart = unique.0 in
     grind (arith, lookup-reverse eq test p es unique.1, reverse-append (e ∷ []) es, lookup-append test (reverse es) (e ∷ []), none_apart eq test p e.0 es, lookup-entry test es)
-
-pub some_if : {X : Type 0} (b : Bool) (x : X) (o : Option X) → is_some (if b then Some x else o) ≡ (b || is_some o)
-some_if b x o = grind arith
-
-pub some_unless : {X : Type 0} (b : Bool) (o : Option X) → is_some (if b then None else o) ≡ (not b && is_some o)
-some_unless b o = grind arith
-
-pub or_none : {X : Type 0} (o : Option X) → option_or o None ≡ o
-or_none o = grind arith
 
 -- the key of a pair that a put adds
 pub entry_new : {K V : Type 0} (eq : K → K → Bool) (k : K) (pairs : List (K × V)) → has eq pairs k ≡ false → option_map_or (λ e. e.0) (pair eq pairs k) k ≡ k

@@ -22,15 +22,17 @@ use Rattle.micromap_core.specs.Equalities.{Lawful, Probes}
 use Rattle.micromap_core.specs.Pairs.{at, pair, has, put, put_key, take_out, without_at, IsUnique, fits}
 use Rattle.micromap_core.specs.Same.{has_value}
 use Rattle.micromap_core.proofs.Equalities.{equalities, lawful, lawful_nat, lawful_on, of_lawful, of_probes, probes_key, same_test, probes_text}
+use Rattle.micromap_core.proofs.DistinctLemmas.{IsDistinct-filter}
 use Rattle.micromap_core.proofs.BuildLemmas.{keys-built, length-built, pairs_keyed}
 use Rattle.micromap_core.proofs.PairsLemmas.{lookup-entry, push-put, push-put_key, slice_set-put_key, IsUnique-push, IsUnique-set, IsUnique-set_key, IsUnique-remove, keys_of-put_new, keys_of-put_stored}
-use Rattle.micromap_core.proofs.MapLawLemmas.{entry_push, entry_put, entry_set_key, entry_take_out, entry_filter, some_if, some_unless, or_none, lookup-append, entry_new, length-remove_entry, length-set_key, keys_removed, by_test, lookup-set, no_value, set_put, lookup-reverse}
+use Rattle.micromap_core.proofs.MapLawLemmas.{entry_push, entry_set, entry_set_key, none_apart, lookup-append, entry_new, length-remove_entry, length-set_key, keys_removed, by_test, lookup-set, no_value, set_put, lookup-reverse}
 use Rattle.micromap_core.specs.Probe.{is_text}
 
 -- by a test: the pair that is found, and its value
 module _ {K V : Type 0} (eq : K → K → Bool) (test : K → Bool) where
   pub pair_put : (pairs : List (K × V)) (k : K) (v : V) → Probes eq test → lookup_entry test (put eq pairs k v) ≡ (if test k then Some (option_map_or (λ e. e.0) (pair eq pairs k) k, v) else lookup_entry test pairs)
-  pair_put pairs k v probes = entry_put eq test (of_probes eq test probes) k v pairs
+  unfolding put
+  pair_put pairs k v probes = let p = of_probes eq test probes in grind (arith, entry_set eq test p k v pairs, entry_push eq test p k v pairs)
 
   pub lookup_put : (pairs : List (K × V)) (k : K) (v : V) → Probes eq test → lookup test (put eq pairs k v) ≡ (if test k then Some v else lookup test pairs)
   lookup_put pairs k v probes = grind (arith, lookup-entry test (put eq pairs k v), pair_put pairs k v probes, lookup-entry test pairs)
@@ -43,13 +45,20 @@ module _ {K V : Type 0} (eq : K → K → Bool) (test : K → Bool) where
   lookup_put_key pairs k v probes = grind (arith, lookup-entry test (put_key eq pairs k v), pair_put_key pairs k v probes, lookup-entry test pairs)
 
   pub pair_take_out : (pairs : List (K × V)) (k : K) → Probes eq test → IsUnique eq pairs → lookup_entry test (take_out eq pairs k) ≡ (if test k then None else lookup_entry test pairs)
-  pair_take_out pairs k probes unique = entry_take_out eq test (of_probes eq test probes) k pairs unique
+  unfolding take_out IsDistinct
+  pair_take_out [] k probes unique = grind arith
+  pair_take_out (e ∷ es) k probes unique =
+      let p = of_probes eq test probes in
+      let apart = unique.0 in
+      grind (arith, pair_take_out es k probes unique.1, none_apart eq test p e.0 es, p.alike_keys k e.0, p.equal_keys k e.0)
 
   pub lookup_take_out : (pairs : List (K × V)) (k : K) → Probes eq test → IsUnique eq pairs → lookup test (take_out eq pairs k) ≡ (if test k then None else lookup test pairs)
   lookup_take_out pairs k probes unique = grind (arith, lookup-entry test (take_out eq pairs k), pair_take_out pairs k probes unique, lookup-entry test pairs)
 
   pub pair_filter : (keep : K × V → Bool) (pairs : List (K × V)) → Probes eq test → IsUnique eq pairs → lookup_entry test (filter keep pairs) ≡ option_filter keep (lookup_entry test pairs)
-  pair_filter keep pairs probes unique = entry_filter eq test (of_probes eq test probes) keep pairs unique
+  unfolding IsDistinct
+  pair_filter keep [] probes unique = refl
+  pair_filter keep (e ∷ es) probes unique = let apart = unique.0 in grind (arith, pair_filter keep es probes unique.1, none_apart eq test (of_probes eq test probes) e.0 es)
 
   pub lookup_filter : (keep : K × V → Bool) (pairs : List (K × V)) → Probes eq test → IsUnique eq pairs → lookup test (filter keep pairs) ≡ option_map (λ e. e.1) (option_filter keep (lookup_entry test pairs))
   lookup_filter keep pairs probes unique = lookup-entry test (filter keep pairs) ∙ ap (option_map (λ e. e.1)) (pair_filter keep pairs probes unique)
@@ -60,7 +69,7 @@ module _ {K V : Type 0} (eq : K → K → Bool) (test : K → Bool) where
   lookup_put_all pairs (e ∷ items) probes = grind (arith, lookup_put_all (put eq pairs e.0 e.1) items probes, lookup_put pairs e.0 e.1 probes, reverse-append (e ∷ []) items, lookup-append test (reverse items) (e ∷ []))
 
   pub lookup_build : (items : List (K × V)) → Probes eq test → lookup test (build eq items) ≡ lookup test (reverse items)
-  lookup_build items probes = lookup_put_all [] items probes ∙ or_none (lookup test (reverse items))
+  lookup_build items probes = grind (arith, lookup_put_all [] items probes)
 
   -- which is the only one where the items have unequal keys
   pub lookup_put_all_unequal : (pairs items : List (K × V)) → Probes eq test → IsUnique eq items → lookup test (put_all eq pairs items) ≡ option_or (lookup test items) (lookup test pairs)
@@ -121,7 +130,7 @@ module _ {K V : Type 0} (eq : K → K → Bool) where
   at_take_out_same pairs k laws unique = at_take_out pairs k k laws unique ∙ ap (λ b. if b then None else at eq pairs k) ((of_lawful eq laws).refl k)
 
   pub has_put : (pairs : List (K × V)) (k : K) (v : V) (q : K) → Lawful eq → has eq (put eq pairs k v) q ≡ (eq k q || has eq pairs q)
-  has_put pairs k v q laws = ap is_some (at_put pairs k v q laws) ∙ some_if (eq k q) v (at eq pairs q)
+  has_put pairs k v q laws = grind (arith, at_put pairs k v q laws)
 
   pub at_put_all : (pairs items : List (K × V)) (q : K) → Lawful eq → at eq (put_all eq pairs items) q ≡ option_or (at eq (reverse items) q) (at eq pairs q)
   at_put_all pairs items q laws = lookup_put_all eq (eq q) pairs items (probes_key eq q laws)
@@ -168,17 +177,10 @@ module _ {K V : Type 0} (eq : K → K → Bool) where
       (λ i f. subst (IsUnique eq) (slice_set-put_key eq k pairs i f v) (IsUnique-set_key eq (of_lawful eq laws) pairs unique i f.pair k v f.here f.passes))
 
   pub unique_take_out : (pairs : List (K × V)) (k : K) → Lawful eq → IsUnique eq pairs → IsUnique eq (take_out eq pairs k)
-  unfolding take_out without_at
-  unique_take_out pairs k laws unique =
-      by_test (eq k) pairs (IsUnique eq (take_out eq pairs k))
-      (λ n. subst (IsUnique eq) (sym n.taken) unique)
-      (λ i f. subst (IsUnique eq) (sym f.taken) (IsUnique-remove eq (of_lawful eq laws) pairs unique i f.pair f.here))
+  unique_take_out pairs k laws unique = subst (IsDistinct eq) (sym (keys_take_out pairs k laws unique)) (IsDistinct-filter eq (λ q. not (eq k q)) (keys_of pairs) unique)
 
   pub unique_build : (items : List (K × V)) → Lawful eq → IsUnique eq (build eq items)
   unique_build items laws = (keys-built (of_lawful eq laws) (pairs_keyed eq 0) items).0
-
-  pub unique_filter : (keep : K × V → Bool) (pairs : List (K × V)) → Lawful eq → IsUnique eq pairs → IsUnique eq (filter keep pairs)
-  unique_filter keep pairs laws unique = IsDistinct-keys_filter eq keep pairs unique
 
   -- what changes nothing: a put of the value that is stored, and a removal of a key that isn't
   pub put_back : (pairs : List (K × V)) (k : K) (v : V) → at eq pairs k ≡ Some v → put eq pairs k v ≡ pairs
@@ -275,7 +277,7 @@ module _ {K V : Type 0} (eq : K → K → Bool) where
       ap (list_all (has eq pairs)) all
       ∙ list_all-from_AllPass (has eq pairs) (keys_of pairs) (λ i d within. is_some-lookup (eq (get_or (keys_of pairs) i d)) pairs ∙ All-is_member (of_lawful eq laws) (keys_of pairs) i d within)
 
-pub ruleset map_laws = (keys_put, put_new, put_stored, not_fits, at_first, has_behind, take_out_first, lookup_put_all, lookup_put_all_unequal, is_some-lookup, pair_put, lookup_put, pair_put_key, lookup_put_key, pair_take_out, lookup_take_out, pair_build, lookup_build, pair_filter, lookup_filter, length_put, length_put_key, length_take_out, keys_take_out, length_build, unique_put, unique_put_key, unique_take_out, unique_build, unique_filter, put_back, put_again, take_out_missing, set_value_missing, remove_entry_missing, length-set_value, length-remove_entry, lookup-set, keys_remove_entry, lookup_remove_entry, lookup_remove_text, unique_set_value, unique_remove_entry, found_put, found_put_key, found_take_out, at_walked, has_walked, equalities)
+pub ruleset map_laws = (keys_put, put_new, put_stored, not_fits, at_first, has_behind, take_out_first, lookup_put_all, lookup_put_all_unequal, is_some-lookup, pair_put, lookup_put, pair_put_key, lookup_put_key, pair_take_out, lookup_take_out, pair_build, lookup_build, pair_filter, lookup_filter, length_put, length_put_key, length_take_out, keys_take_out, length_build, unique_put, unique_put_key, unique_take_out, unique_build, IsDistinct-keys_filter, put_back, put_again, take_out_missing, set_value_missing, remove_entry_missing, length-set_value, length-remove_entry, lookup-set, keys_remove_entry, lookup_remove_entry, lookup_remove_text, unique_set_value, unique_remove_entry, found_put, found_put_key, found_take_out, at_walked, has_walked, equalities)
 
 -- what each key finds, by the word alone: for a search that doesn't see the equality in what it computes to
 module _ {K V : Type 0} (eq : K → K → Bool) (pairs : List (K × V)) (k : K) where

@@ -6,13 +6,13 @@ use Rattle.std.specs.Iterator.Runs.{EveryRun, ItemsAre, Run, SomeRun}
 use Rattle.std.proofs.lemmas.Bool.{leb-false, not-true}
 use Rattle.std.proofs.lemmas.Grind.{common_steps}
 use Rattle.std.proofs.lemmas.List.{same_lists, take-map}
+use Rattle.std.proofs.lemmas.Result.{IfErr-weaker}
 use Rattle.std.specs.Map.{keys_of}
 use Rattle.std.specs.Set.{distinct_count}
 use Rattle.micromap_core.specs.Build.{pair_fits, put_pair, MisfitIn, StopsAt, put_all}
 use Rattle.micromap_core.specs.Equalities.{Lawful}
 use Rattle.micromap_core.proofs.CountLaws.{distinct_prefix, put_all_grows}
 use Rattle.micromap_core.proofs.BuildLemmas.{many_prefix, pairs_keyed, each_fits-count}
-use Rattle.std.proofs.lemmas.List.{take-map}
 use Rattle.std.proofs.lemmas.Map.Entries.{length-keys_of}
 use Rattle.micromap_core.specs.Pairs.{IsContent}
 use Rattle.micromap_core.proofs.Equalities.{of_lawful}
@@ -49,8 +49,7 @@ module _ {K V : Type 0} (eq : K → K → Bool) (N : ℕ) where
 
   -- the facts are those of `misfit_in`, and that the equality is lawful
   pub many_in : {S E Y : Type 0} {steps : S → Option (K × V) → S → Type 0} (rest : S → List (K × V)) {s : S} {xs : List (K × V)} (at : E → ℕ) (r : Result Y E) → Lawful eq → EveryRun steps (λ q. ItemsAre q (rest q.from)) → rest s ≡ xs → IfErr r (λ e. SomeRun steps s (λ p. (p.len ≡ at e + 1) × MisfitIn eq N p.items (at e))) → IfErr r (λ e. N < distinct_count eq (keys_of xs))
-  many_in rest at (Ok y) laws reads left stops = tt
-  many_in rest {xs = xs} at (Err e) laws reads left stops = misfit_many xs (at e) laws (stops_in (pair_fits eq N) (put_pair eq) [] rest (at e) stops.0 stops.1 reads left stops.2.0 stops.2.1)
+  many_in rest {xs = xs} at r laws reads left stops = IfErr-weaker r (λ e. MisfitIn eq N xs (at e)) (λ e. N < distinct_count eq (keys_of xs)) (λ e. misfit_many xs (at e) laws) (misfit_in (pair_fits eq N) (put_pair eq) [] rest at r reads left stops)
 
 -- where an iterator's items are known, and one of them is refused: what would be put is more than there is room for. The
 -- facts are those of `misfit_in`, and the content of the map that they are put into
@@ -63,5 +62,4 @@ module _ {K V : Type 0} {eq : K → K → Bool} {N : ℕ} {pairs : List (K × V)
       omega (arith, many, length-keys_of (put_all eq pairs first), put_all_grows eq pairs items (at + 1) content.lawful content.unique)
 
   pub refused_is_many : {S E Y : Type 0} {steps : S → Option (K × V) → S → Type 0} (rest : S → List (K × V)) {s : S} {xs : List (K × V)} (at : E → ℕ) (r : Result Y E) → EveryRun steps (λ q. ItemsAre q (rest q.from)) → rest s ≡ xs → IfErr r (λ e. SomeRun steps s (λ p. (p.len ≡ at e + 1) × StopsAt (pair_fits eq N) (put_pair eq) pairs p.items (at e))) → IfErr r (λ e. N < length (put_all eq pairs xs))
-  refused_is_many rest at (Ok y) reads left stops = tt
-  refused_is_many rest {xs = xs} at (Err e) reads left stops = stopped_many xs (at e) (stops_in (pair_fits eq N) (put_pair eq) pairs rest (at e) stops.0 stops.1 reads left stops.2.0 stops.2.1)
+  refused_is_many rest {xs = xs} at r reads left stops = IfErr-weaker r (λ e. StopsAt (pair_fits eq N) (put_pair eq) pairs xs (at e)) (λ e. N < length (put_all eq pairs xs)) (λ e. stopped_many xs (at e)) (misfit_in (pair_fits eq N) (put_pair eq) pairs rest at r reads left stops)

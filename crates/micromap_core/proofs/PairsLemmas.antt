@@ -1,15 +1,14 @@
 -- Facts about lists of pairs: what a look-up, an insertion and a removal do where a key passes a test and where none
 -- does, and that keys stay pairwise unequal.
-use Rattle.std.proofs.Common.{◌≡◌, ℕ, ◌<◌, Bool, true, false, List, [], ◌∷◌, ◌++◌, length, get_or, set, Some, None, slice_get, slice_set, if◌then◌else◌, refl, ap, sym, subst, ◌∙◌, inl, inr, arith}
-use Rattle.std.specs.List.{IsDistinct, remove}
+use Rattle.std.proofs.Common.{◌≡◌, ℕ, zero, suc, Bool, true, false, List, [], ◌∷◌, ◌++◌, get_or, set, Some, None, slice_get, slice_set, if◌then◌else◌, refl, ap, sym, subst, ◌∙◌, arith}
+use Rattle.std.specs.List.{AllByRecursion, IsDistinct, remove}
 use Rattle.std.specs.Cmp.{IsEquivalence}
 use Rattle.std.specs.Option.{option_map, option_map_or}
 use Rattle.std.specs.Map.{keys_of, lookup, lookup_entry, set_value}
-use Rattle.std.proofs.lemmas.List.{map_push, length-map, map-set, get_or-map, set-get_or, length-set, get_or-set_same, get_or-set_other, get_or_default}
-use Rattle.std.proofs.lemmas.Bool.{cases_eq}
+use Rattle.std.proofs.lemmas.List.{map_push, map-set, get_or-map, set-get_or}
 use Rattle.std.proofs.lemmas.List.Sorted.{IsPermutation-map, IsPermutation-remove}
 use Rattle.std.proofs.lemmas.Map.{keys-set_value}
-use Rattle.std.proofs.lemmas.Map.Keys.{IsDistinct-push, IsDistinct-tail, IsDistinct-IsPermutation, IsDistinct-from_apart, apart_from_distinct}
+use Rattle.std.proofs.lemmas.Map.Keys.{IsDistinct-push, IsDistinct-tail, IsDistinct-IsPermutation}
 use Rattle.std.proofs.lemmas.Option.{get_or_from_slice_get, slice_get_within}
 use Rattle.micromap_core.specs.Found.{FoundAt, NotFound}
 use Rattle.micromap_core.specs.Pairs.{has, has_room, fits, put, put_key, IsUnique, with_value_at}
@@ -60,24 +59,23 @@ keys_of-set {K} {V} pairs i p v here =
     let read = get_or-map key pairs i p p.0 (slice_get_within pairs i p here) ∙ ap key (get_or_from_slice_get pairs i p p here) in
     map-set key pairs i (p.0, v) ∙ ap (λ q. set (keys_of pairs) i q) (sym read) ∙ set-get_or (keys_of pairs) i p.0
 
--- an equal key in the index of a key
-IsDistinct-set_equal : {K : Type 0} (eq : K → K → Bool) (laws : IsEquivalence eq) (ks : List K) (i : ℕ) (k old : K) → IsDistinct eq ks → i < length ks → get_or ks i old ≡ old → eq k old ≡ true → IsDistinct eq (set ks i k)
-IsDistinct-set_equal eq laws ks i k old distinct within read same =
-    IsDistinct-from_apart eq (set ks i k) (λ a b d lt bounded.
-    let b_within : b < length ks = rw length-set at bounded in
-    let here : get_or (set ks i k) i d ≡ k = get_or-set_same ks i k d within in
-    let was : get_or ks i d ≡ old = get_or_default ks i d old within ∙ read in
-    elim (cases_eq a i) [
-      | inl a_here ↦
-          let other = get_or-set_other ks i b k d (λ e. omega arith) in
-          rw (a_here, here, other, laws.congr k old (get_or ks b d) same, ← was) (apart_from_distinct eq ks i b d distinct (omega arith) b_within)
-      | inr a_other ↦ elim (cases_eq b i) [
-        | inl b_here ↦
-            let other = get_or-set_other ks i a k d a_other in
-            rw (b_here, here, other, laws.symm (get_or ks a d) k, laws.congr k old (get_or ks a d) same, laws.symm old (get_or ks a d), ← was) (apart_from_distinct eq ks a i d distinct (omega arith) within)
-        | inr b_other ↦ rw (get_or-set_other ks i a k d a_other, get_or-set_other ks i b k d b_other) (apart_from_distinct eq ks a b d distinct lt b_within)
-      ]
-    ])
+module _ {K : Type 0} (eq : K → K → Bool) (laws : IsEquivalence eq) (k old : K) (same : eq k old ≡ true) where
+  -- what differs from a key differs from an equal one
+  apart_equal : (ks : List K) → AllByRecursion (λ y. eq old y ≡ false) ks → AllByRecursion (λ y. eq k y ≡ false) ks
+  apart_equal [] apart = tt
+  apart_equal (y ∷ ks) apart = (laws.congr k old y same ∙ apart.0, apart_equal ks apart.1)
+
+  apart_set : (x : K) (ks : List K) (i : ℕ) → get_or ks i old ≡ old → AllByRecursion (λ y. eq x y ≡ false) ks → AllByRecursion (λ y. eq x y ≡ false) (set ks i k)
+  apart_set x [] i read apart = tt
+  apart_set x (y ∷ ks) zero read apart = (laws.symm x k ∙ laws.congr k old x same ∙ laws.symm old x ∙ ap (eq x) (sym read) ∙ apart.0, apart.1)
+  apart_set x (y ∷ ks) (suc i) read apart = (apart.0, apart_set x ks i read apart.1)
+
+  -- an equal key at the index of a key
+  IsDistinct-set_equal : (ks : List K) (i : ℕ) → get_or ks i old ≡ old → IsDistinct eq ks → IsDistinct eq (set ks i k)
+  unfolding IsDistinct
+  IsDistinct-set_equal [] i read distinct = tt
+  IsDistinct-set_equal (x ∷ ks) zero read distinct = (apart_equal ks (subst (λ y. AllByRecursion (λ z. eq y z ≡ false) ks) read distinct.0), distinct.1)
+  IsDistinct-set_equal (x ∷ ks) (suc i) read distinct = (apart_set x ks i read distinct.0, IsDistinct-set_equal ks i read distinct.1)
 
 module _ {K V : Type 0} (eq : K → K → Bool) (laws : IsEquivalence eq) (pairs : List (K × V)) (unique : IsUnique eq pairs) where
   -- another value at the index of a pair
@@ -95,9 +93,8 @@ module _ {K V : Type 0} (eq : K → K → Bool) (laws : IsEquivalence eq) (pairs
   pub IsUnique-set_key : (i : ℕ) (p : K × V) (k : K) (v : V) → slice_get pairs i ≡ Some p → eq k p.0 ≡ true → IsUnique eq (set pairs i (k, v))
   IsUnique-set_key i p k v here same =
       let key : K × V → K = λ e. e.0 in
-      let within = slice_get_within pairs i p here in
-      let read = get_or-map key pairs i p p.0 within ∙ ap key (get_or_from_slice_get pairs i p p here) in
-      subst (IsDistinct eq) (sym (map-set key pairs i (k, v))) (IsDistinct-set_equal eq laws (keys_of pairs) i k p.0 unique (rw (length-map pairs key) within) read same)
+      let read = get_or-map key pairs i p p.0 (slice_get_within pairs i p here) ∙ ap key (get_or_from_slice_get pairs i p p here) in
+      subst (IsDistinct eq) (sym (map-set key pairs i (k, v))) (IsDistinct-set_equal eq laws k p.0 same (keys_of pairs) i read unique)
 
   -- a pair whose key is new
   pub IsUnique-push : (k : K) (v : V) → NotFound (eq k) pairs → IsUnique eq (pairs ++ (k, v) ∷ [])

@@ -1,4 +1,4 @@
--- What is written of a list in braces at a moment of its printing.
+-- One step of printing a list in braces.
 use Rattle.std.proofs.Common.{◌≡◌, ℕ, List, [], ◌∷◌, Option, Some, None, Result, Ok, Err, IsErr, codes, refl, ap, sym, subst, ◌∙◌, IfSome}
 use Rattle.std.specs.Fmt.{◌++?◌, DisplaysOnOk, DisplaysStyledOnOk, HasWrittenStyled, WritesStyledOnOk, WritesText, debug_items, comma_space, formatter_spec}
 use Rattle.std.specs.List.{FoldsTo, concat}

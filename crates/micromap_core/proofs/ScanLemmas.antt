@@ -1,5 +1,5 @@
--- What follows of the index of the first key that passes a test, and of there being none: one induction for all words.
--- And a scan that counts as it goes.
+-- What follows from the index of the first key that passes a test, or from there being none, by one induction for all
+-- words; and a scan that counts as it goes.
 use Rattle.std.proofs.Common.{◌≡◌, ℕ, zero, suc, ◌+◌, ◌<◌, ◌≤◌, Bool, true, false, not, cond, List, [], ◌∷◌, length, Some, None, refl, ap, arith, if◌then◌else◌}
 use Rattle.std.specs.List.{position_or_len, position}
 use Rattle.std.specs.Map.{keys_of}
@@ -22,7 +22,6 @@ module _ {K V : Type 0} (test : K → Bool) where
     here = refl;
     passes = h;
     entry = rw h refl;
-    key = rw h refl;
     value = rw h refl;
     written = λ v. rw h refl;
     replaced = λ k v. simp h;
@@ -37,7 +36,6 @@ module _ {K V : Type 0} (test : K → Bool) where
         here = f.here;
         passes = f.passes;
         entry = rw h f.entry;
-        key = rw h f.key;
         value = rw h f.value;
         written = λ v. rw h (ap (λ l. e ∷ l) (f.written v));
         replaced = λ k v. simp h (ap (λ l. e ∷ l) (f.replaced k v));
@@ -53,7 +51,6 @@ module _ {K V : Type 0} (test : K → Bool) where
   missing_step e es rest false h past =
       let n = rest (omega (arith, past)) in record {
         entry = rw h n.entry;
-        key = rw h n.key;
         value = rw h n.value;
         written = λ v. rw h (ap (λ l. e ∷ l) (n.written v));
         taken = rw h (ap (λ l. e ∷ l) n.taken);
@@ -61,7 +58,7 @@ module _ {K V : Type 0} (test : K → Bool) where
       }
 
   missing_from : (pairs : List (K × V)) → length pairs ≤ first pairs → NotFound test pairs
-  missing_from [] past = record { entry = refl; key = refl; value = refl; written = λ v. refl; taken = refl; none = refl }
+  missing_from [] past = record { entry = refl; value = refl; written = λ v. refl; taken = refl; none = refl }
   missing_from (e ∷ es) past = missing_step e es (missing_from es) (test e.0) refl past
 
   module _ (pairs : List (K × V)) where

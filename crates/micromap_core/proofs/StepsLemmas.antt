@@ -1,5 +1,5 @@
 -- Room for the steps of a look-up and of a comparison.
-use Rattle.std.proofs.Common.{◌≡◌, ◌≢◌, ℕ, ◌+◌, ◌*◌, ◌≤◌, Bool, true, false, ◌&&◌, if◌then◌else◌, List, [], ◌∷◌, length, ap, sym, ◌∙◌, arith, eq-eqb}
+use Rattle.std.proofs.Common.{◌≡◌, ◌≢◌, ℕ, ◌+◌, ◌*◌, ◌≤◌, Bool, ◌&&◌, if◌then◌else◌, List, [], ◌∷◌, length, refl, ap, sym, subst, ◌∙◌, arith, eq-eqb}
 use Rattle.std.proofs.lemmas.Bool.{ne_eqb}
 use Rattle.std.specs.List.{list_all}
 use Rattle.std.proofs.lemmas.Bool.Decides.{nat_tests}
@@ -21,10 +21,18 @@ module _ {K V : Type 0} (eq : K → K → Bool) where
   pub look_up_steps-bound : (pairs : List (K × V)) (k : K) → look_up_steps eq pairs k ≤ length pairs
   look_up_steps-bound pairs k = let long = length-keys_of pairs in grind (arith, nat_tests)
 
-  pub walk_steps-bound : (same : V → V → Bool) (other left : List (K × V)) → walk_steps eq same other left ≤ most_steps left (length other)
+  pub steps-bound : (pairs : List (K × V)) (k : K) (old new : ℕ) → new ≡ old + look_up_steps eq pairs k → new ≤ old + length pairs
+  steps-bound pairs k old new count = omega (arith, count, look_up_steps-bound pairs k)
+
+  walk_steps-bound : (same : V → V → Bool) (other left : List (K × V)) → walk_steps eq same other left ≤ most_steps left (length other)
   walk_steps-bound same other [] = omega arith
   walk_steps-bound same other (p ∷ left) =
       let here = look_up_steps-bound other p.0 in let rest = walk_steps-bound same other left in grind arith
+
+  -- a walk of two lists that are equally long takes at most the length times itself
+  pub walk_steps-square : (same : V → V → Bool) (other left : List (K × V)) → length left ≡ length other → walk_steps eq same other left ≤ length left * length left
+  walk_steps-square same other left long =
+      subst (λ n. walk_steps eq same other left ≤ length left * n) (sym long) (omega (arith, walk_steps-bound same other left, most_steps-product left (length other)))
 
 -- a comparison takes the steps of a walk where the lengths are equal, and else none
 module _ {K V : Type 0} (eq : K → K → Bool) (same : V → V → Bool) (first second : List (K × V)) (m n : ℕ) (one : m ≡ length first) (two : n ≡ length second) where
@@ -34,16 +42,10 @@ module _ {K V : Type 0} (eq : K → K → Bool) (same : V → V → Bool) (first
   pub comparison_short : m ≢ n → comparison_steps eq same first second ≡ 0
   comparison_short apart = ap (λ b. if b then walk_steps eq same second first else 0) (ne_eqb (length first) (length second) (λ long. apart (one ∙ long ∙ sym two)))
 
--- at the next pair of a walk: where the other list has no equal value there the walk ends, and else it goes on
-module _ {K V : Type 0} (eq : K → K → Bool) (same : V → V → Bool) (other : List (K × V)) (p : K × V) (left : List (K × V)) where
-  pub walk_ends : false ≡ has_value eq same other p → walk_steps eq same other (p ∷ left) ≡ look_up_steps eq other p.0
-  walk_ends unequal = ap (λ b. look_up_steps eq other p.0 + (if b then walk_steps eq same other left else 0)) (sym unequal) ∙ omega arith
+-- at the next of the pairs that are left, where it is known whether the other list has an equal value there
+module _ {K V : Type 0} (eq : K → K → Bool) (same : V → V → Bool) (other : List (K × V)) {p : K × V} {left rest : List (K × V)} (next : left ≡ p ∷ rest) {b : Bool} (tells : b ≡ has_value eq same other p) where
+  pub walk_step : walk_steps eq same other left ≡ look_up_steps eq other p.0 + (if b then walk_steps eq same other rest else 0)
+  walk_step = rw (next, tells) refl
 
-  pub walk_on : true ≡ has_value eq same other p → walk_steps eq same other (p ∷ left) ≡ look_up_steps eq other p.0 + walk_steps eq same other left
-  walk_on equal = ap (λ b. look_up_steps eq other p.0 + (if b then walk_steps eq same other left else 0)) (sym equal)
-
-  pub all_ends : false ≡ has_value eq same other p → list_all (has_value eq same other) (p ∷ left) ≡ false
-  all_ends unequal = ap (λ b. b && list_all (has_value eq same other) left) (sym unequal)
-
-  pub all_on : true ≡ has_value eq same other p → list_all (has_value eq same other) (p ∷ left) ≡ list_all (has_value eq same other) left
-  all_on equal = ap (λ b. b && list_all (has_value eq same other) left) (sym equal)
+  pub all_step : list_all (has_value eq same other) left ≡ (b && list_all (has_value eq same other) rest)
+  all_step = rw (next, tells) refl

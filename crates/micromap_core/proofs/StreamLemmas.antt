@@ -1,10 +1,9 @@
--- A moment of a writing to a sink and of a reading from a source, and their ends.
-use Rattle.std.proofs.Common.{◌≡◌, ◌<◌, ◌≤◌, ℕ, suc, Bool, true, false, not, List, [], ◌∷◌, ◌++◌, length, Option, Result, Ok, Err, if◌then◌else◌, IsTrue, refl, ap, sym, subst, ◌∙◌, append_assoc, arith}
+-- One step of writing to a sink and of reading from a source, and their ends.
+use Rattle.std.proofs.Common.{◌≡◌, ℕ, suc, Bool, true, false, not, List, [], ◌∷◌, ◌++◌, length, take, Option, Result, Ok, Err, if◌then◌else◌, IsTrue, refl, ap, sym, subst, ◌∙◌, append_assoc, arith}
 use Rattle.std.specs.Cmp.{IsEquivalence}
 use Rattle.std.specs.List.{fold, IsDistinct}
 use Rattle.std.specs.Map.{keys_of}
-use Rattle.std.specs.Set.{distinct_count}
-use Rattle.std.proofs.lemmas.List.{append-nil, length-append, length_push, map-append}
+use Rattle.std.proofs.lemmas.List.{append-nil, length-append, length_push, map-append, take_at}
 use Rattle.std.proofs.lemmas.Map.Entries.{length-keys_of}
 use Rattle.std.proofs.lemmas.Map.Made.{distinct_count-le, is_some-lookup}
 use Rattle.micromap_core.specs.Build.{all_fit, build, pair_fits, put_pair}
@@ -46,55 +45,64 @@ module _ {X : Type 0} {old entries left now : List X} (writing : Writing old ent
     }
 
     pub writing_fails : {new : List X} → new ≡ now → TakesBeginning old entries new
-    writing_fails kept = record { part = writing.part; next = x; rest = rest; split = writing.split ∙ ap (λ l. writing.part ++ l) next; taken = kept ∙ writing.taken }
-
--- of the entries these are left, and those before them all fit a new map and were put
-pub record Reading {K V : Type 0} (eq : K → K → Bool) (N : ℕ) (entries left now : List (K × V)) : Type 0 where
-  pub before : List (K × V)
-  pub split : entries ≡ before ++ left
-  pub fit : IsTrue (all_fit eq N before)
-  pub made : now ≡ build eq before
-
-pub reading_begins : {K V : Type 0} (eq : K → K → Bool) (N : ℕ) (entries : List (K × V)) → Reading eq N entries entries []
-reading_begins eq N entries = record { before = []; split = refl; fit = refl; made = refl }
-
-module _ {K V : Type 0} {eq : K → K → Bool} {N : ℕ} {entries left now : List (K × V)} (reading : Reading eq N entries left now) where
-  pub reading_ends : left ≡ [] → reading.before ≡ entries
-  reading_ends none = sym (reading.split ∙ ap (λ l. reading.before ++ l) none ∙ append-nil reading.before)
-
-  pub whole_read : IsEquivalence eq → left ≡ [] → IsTrue (all_fit eq N entries) × (distinct_count eq (keys_of entries) ≤ N) × (now ≡ build eq entries)
-  whole_read laws none =
-      let fit = subst (λ l. IsTrue (all_fit eq N l)) (reading_ends none) reading.fit in
-      (fit, few_distinct laws (pairs_keyed eq N) entries fit, reading.made ∙ ap (build eq) (reading_ends none))
-
-  module _ {x : K × V} {rest : List (K × V)} (next : left ≡ x ∷ rest) where
-    pub reading_seam : entries ≡ reading.before ++ x ∷ rest
-    reading_seam = reading.split ∙ ap (λ l. reading.before ++ l) next
-
-    pub reading_more : {new : List (K × V)} → pair_fits eq N now x ≡ true → new ≡ (if pair_fits eq N now x then put_pair eq now x else now) → Reading eq N entries rest new
-    reading_more fit step =
-        let has = has_put_more (pair_fits eq N) (put_pair eq) [] reading.before (length reading.before) now _ x (record { fit = reading.fit; made = reading.made; position_is = refl }) step fit in
-        record { before = reading.before ++ x ∷ []; split = reading_seam ∙ sym (append_assoc reading.before (x ∷ []) rest); fit = has.fit; made = has.made }
-
-    pub misfit_read : IsEquivalence eq → fits eq N now x.0 ≡ false → IsTrue (not (fits eq N (build eq reading.before) x.0)) × (N < distinct_count eq (keys_of (reading.before ++ x ∷ [])))
-    misfit_read laws refused =
-        let misfit : IsTrue (not (fits eq N (build eq reading.before) x.0)) = ap not (ap (λ c. fits eq N c x.0) (sym reading.made) ∙ refused) in
-        (misfit, many_distinct laws (pairs_keyed eq N) reading.before x misfit)
+    writing_fails kept =
+        let split = writing.split ∙ ap (λ l. writing.part ++ l) next in
+        (length writing.part, rw split (omega (arith, length-append writing.part (x ∷ rest))), kept ∙ writing.taken ∙ ap (λ l. old ++ l) (sym (ap (take (length writing.part)) split ∙ take_at writing.part (x ∷ rest) (length writing.part) refl)))
 
 -- pairs with pairwise unequal keys are built as they are
-module _ {K V : Type 0} {eq : K → K → Bool} (laws : IsEquivalence eq) where
-  built_in_turn : (built pairs : List (K × V)) → IsUnique eq (built ++ pairs) → fold (put_pair eq) built pairs ≡ built ++ pairs
-  built_in_turn built [] unique = sym (append-nil built)
-  built_in_turn built (p ∷ pairs) unique =
-      let new : has eq built p.0 ≡ false = is_some-lookup (eq p.0) built ∙ new_behind laws (keys_of built) p.0 (keys_of pairs) (subst (IsDistinct eq) (map-append (λ (q : K × V). q.0) built (p ∷ pairs)) unique) in
-      ap (λ l. fold (put_pair eq) l pairs) (put_new eq built p.0 p.1 new)
-      ∙ built_in_turn (built ++ p ∷ []) pairs (subst (IsUnique eq) (sym (append_assoc built (p ∷ []) pairs)) unique)
-      ∙ append_assoc built (p ∷ []) pairs
+pub built_in_turn : {K V : Type 0} {eq : K → K → Bool} (laws : IsEquivalence eq) (built pairs : List (K × V)) → IsUnique eq (built ++ pairs) → fold (put_pair eq) built pairs ≡ built ++ pairs
+built_in_turn {K = K} {V = V} {eq = eq} laws built [] unique = sym (append-nil built)
+built_in_turn {K = K} {V = V} {eq = eq} laws built (p ∷ pairs) unique =
+    let new : has eq built p.0 ≡ false = is_some-lookup (eq p.0) built ∙ new_behind laws (keys_of built) p.0 (keys_of pairs) (subst (IsDistinct eq) (map-append (λ (q : K × V). q.0) built (p ∷ pairs)) unique) in
+    ap (λ l. fold (put_pair eq) l pairs) (put_new eq built p.0 p.1 new)
+    ∙ built_in_turn laws (built ++ p ∷ []) pairs (subst (IsUnique eq) (sym (append_assoc built (p ∷ []) pairs)) unique)
+    ∙ append_assoc built (p ∷ []) pairs
 
-  -- without an error of the source they are read back
-  pub read_back : {S E : Type 0} (left : S → List (K × V)) (faults : S → ℕ) (last_fault : S → Option E) (old new : S) (N : ℕ) (r : Result (List (K × V)) (ReadFault E)) → MapReads eq N left faults last_fault old new r → IsContent eq N (left old) → faults new ≡ faults old → r ≡ Ok (left old)
-  read_back left faults last_fault old new N (Ok map) reads content none = ap Ok (reads.made ∙ built_in_turn [] (left old) content.unique)
-  read_back left faults last_fault old new N (Err (Source fault)) reads content none = absurd (omega (arith, reads.fault_is.count, none))
-  read_back left faults last_fault old new N (Err TooMany) reads content none =
+module _ {K V S E : Type 0} (eq : K → K → Bool) (N : ℕ) (left : S → List (K × V)) (faults : S → ℕ) (last_fault : S → Option E) (old : S) where
+  -- the entries taken so far all fit a new map and were put, and no fault came
+  pub record Reading (now : S) (map : List (K × V)) : Type 0 where
+    pub before : List (K × V)
+    pub split : left old ≡ before ++ left now
+    pub fit : IsTrue (all_fit eq N before)
+    pub made : map ≡ build eq before
+    pub faultless : Faultless faults last_fault old now
+
+  pub reading_begins : Reading old []
+  reading_begins = record { before = []; split = refl; fit = refl; made = refl; faultless = record { count = refl; last = refl } }
+
+  -- what a reading answers says how far it came, and without an error of the source the entries are read back
+  abbrev Reads : S → Result (List (K × V)) (ReadFault E) → Type 0
+  Reads new r = MapReads eq N left faults last_fault old new r × (IsContent eq N (left old) → faults new ≡ faults old → r ≡ Ok (left old))
+
+  read_back : IsEquivalence eq → (new : S) (r : Result (List (K × V)) (ReadFault E)) → MapReads eq N left faults last_fault old new r → Reads new r
+  read_back laws new (Ok map) reads = (reads, λ content none. ap Ok (reads.made ∙ built_in_turn laws [] (left old) content.unique))
+  read_back laws new (Err (Source fault)) reads = (reads, λ content none. absurd (omega (arith, reads.fault_is.count, none)))
+  read_back laws new (Err TooMany) reads =
       let taken = reads.before ++ reads.item ∷ [] in
-      absurd (omega (arith, reads.many, content.bounded, distinct_count-le eq (keys_of taken), length-keys_of taken, length_push reads.before reads.item, ap length reads.split, length-append reads.before (reads.item ∷ left new)))
+      (reads, λ content none. absurd (omega (arith, reads.many, content.bounded, distinct_count-le eq (keys_of taken), length-keys_of taken, length_push reads.before reads.item, ap length reads.split, length-append reads.before (reads.item ∷ left new))))
+
+module _ {K V S E : Type 0} {eq : K → K → Bool} {N : ℕ} {left : S → List (K × V)} {faults : S → ℕ} {last_fault : S → Option E} {old now : S} {map : List (K × V)} (reading : Reading eq N left faults last_fault old now map) where
+  seam : (new : S) (x : K × V) → left now ≡ x ∷ left new → left old ≡ reading.before ++ x ∷ left new
+  seam new x next = reading.split ∙ ap (λ l. reading.before ++ l) next
+
+  pub reading_more : (new : S) (x : K × V) {more : List (K × V)} → left now ≡ x ∷ left new → Faultless faults last_fault now new → pair_fits eq N map x ≡ true → more ≡ (if pair_fits eq N map x then put_pair eq map x else map) → Reading eq N left faults last_fault old new more
+  reading_more new x next step fit put =
+      let has = has_put_more (pair_fits eq N) (put_pair eq) [] reading.before (length reading.before) map _ x (record { fit = reading.fit; made = reading.made; position_is = refl }) put fit in
+      record { before = reading.before ++ x ∷ []; split = seam new x next ∙ sym (append_assoc reading.before (x ∷ []) (left new)); fit = has.fit; made = has.made; faultless = still_faultless reading.faultless step }
+
+  -- the ends
+  module _ (laws : IsEquivalence eq) (new : S) where
+    pub read_misfit : (x : K × V) → left now ≡ x ∷ left new → Faultless faults last_fault now new → fits eq N map x.0 ≡ false → Reads eq N left faults last_fault old new (Err TooMany)
+    read_misfit x next step refused =
+        let misfit : IsTrue (not (fits eq N (build eq reading.before) x.0)) = ap not (ap (λ c. fits eq N c x.0) (sym reading.made) ∙ refused) in
+        read_back eq N left faults last_fault old laws new (Err TooMany) (record { before = reading.before; item = x; split = seam new x next; fit = reading.fit; misfit = misfit; many = many_distinct laws (pairs_keyed eq N) reading.before x misfit; faultless = still_faultless reading.faultless step })
+
+    pub read_whole : (left now ≡ []) × (left new ≡ []) → Faultless faults last_fault now new → IsContent eq N map → Reads eq N left faults last_fault old new (Ok map)
+    read_whole end step content =
+        let all : reading.before ≡ left old = sym (reading.split ∙ ap (λ l. reading.before ++ l) end.0 ∙ append-nil reading.before) in
+        let fit = subst (λ l. IsTrue (all_fit eq N l)) all reading.fit in
+        read_back eq N left faults last_fault old laws new (Ok map) (record { fit = fit; few = few_distinct laws (pairs_keyed eq N) (left old) fit; made = reading.made ∙ ap (build eq) all; emptied = end.1; content = content; faultless = still_faultless reading.faultless step })
+
+    pub read_fault : (fault : E) → left new ≡ left now → Faults faults last_fault now new fault → Reads eq N left faults last_fault old new (Err (Source fault))
+    read_fault fault kept step =
+        read_back eq N left faults last_fault old laws new (Err (Source fault)) (record { before = reading.before; split = rw kept reading.split; fit = reading.fit; fault_is = first_fault reading.faultless step })

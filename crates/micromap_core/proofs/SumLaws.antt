@@ -1,8 +1,8 @@
 -- For callers: the sum of a map's values after a change, and of what a function makes of each value. No law has a
 -- premise. The ruleset `sum_laws` has what a search needs of them.
-use Rattle.std.proofs.Common.{◌≡◌, ℕ, ◌+◌, ◌≤◌, Bool, List, [], ◌∷◌, ◌++◌, Option, Some, None, is_some, unwrap_or, if◌then◌else◌, refl, ap, sym, ◌∙◌, arith}
+use Rattle.std.proofs.Common.{◌≡◌, ℕ, ◌+◌, ◌≤◌, Bool, List, Option, unwrap_or, refl, ap, sym, ◌∙◌, arith}
 use Rattle.std.specs.List.{sum, sum_by}
-use Rattle.std.specs.Map.{lookup, set_value, values_of}
+use Rattle.std.specs.Map.{lookup, values_of}
 use Rattle.std.specs.Option.{option_map}
 use Rattle.std.proofs.lemmas.List.{map_push}
 use Rattle.std.proofs.lemmas.List.Sums.{sum_by_push}
@@ -13,19 +13,14 @@ use Rattle.micromap_core.specs.Pairs.{at, put, take_out}
 module _ {K V : Type 0} (f : V → ℕ) (eq : K → K → Bool) (pairs : List (K × V)) (k : K) where
   pub sum_by_put : (v : V) → sum_by f (values_of (put eq pairs k v)) + unwrap_or (option_map f (at eq pairs k)) 0 ≡ sum_by f (values_of pairs) + f v
   unfolding put
-  sum_by_put v = by (at eq pairs k) refl
-    where
-      by : (o : Option V) → at eq pairs k ≡ o → sum_by f (values_of (if is_some o then set_value (eq k) pairs v else pairs ++ (k, v) ∷ [])) + unwrap_or (option_map f o) 0 ≡ sum_by f (values_of pairs) + f v
-      by None none = omega (arith, ap (sum_by f) (map_push (λ (e : K × V). e.1) pairs (k, v)) ∙ sum_by_push f (values_of pairs) v)
-      by (Some u) found = sum_by-set_value f (eq k) pairs u v found
+  sum_by_put v = grind (arith, map_push (λ (e : K × V). e.1) pairs (k, v), sum_by_push f (values_of pairs) v, λ (u : V). sum_by-set_value f (eq k) pairs u v)
 
   pub sum_by_take_out : sum_by f (values_of (take_out eq pairs k)) + unwrap_or (option_map f (at eq pairs k)) 0 ≡ sum_by f (values_of pairs)
   unfolding take_out
   sum_by_take_out = sum_by-remove_entry f (eq k) pairs
 
 same_number : (o : Option ℕ) → unwrap_or (option_map (λ n. n) o) 0 ≡ unwrap_or o 0
-same_number None = refl
-same_number (Some n) = refl
+same_number o = grind arith
 
 module _ {K : Type 0} (eq : K → K → Bool) (pairs : List (K × ℕ)) (k : K) where
   pub sum_put : (n : ℕ) → sum (values_of (put eq pairs k n)) + unwrap_or (at eq pairs k) 0 ≡ sum (values_of pairs) + n

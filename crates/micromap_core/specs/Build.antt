@@ -1,11 +1,16 @@
 -- What becomes of a content as items are put into it one after the other: of a map by pairs, of a set by its items.
-use Rattle.std.specs.Prelude.{ℕ, ◌+◌, ◌-◌, ◌^◌, Bool, true, not, ◌&&◌, List, [], ◌∷◌, take, IsTrue, unwrap_or}
+use Rattle.std.specs.Prelude.{◌≡◌, ℕ, ◌+◌, ◌-◌, ◌^◌, Bool, true, not, ◌&&◌, List, [], ◌∷◌, take, Option, IsTrue, unwrap_or}
+use Rattle.std.specs.Iterator.Runs.{SomeRun}
 use Rattle.std.specs.List.{fold}
 use Rattle.micromap_core.specs.Pairs.{at, fits, put}
 
 -- the most items that are counted: fewer than `usize::MAX`
 abbrev pub most_items : ℕ
 most_items = 2 ^ 64 - 2
+
+-- P holds of the first n items of the iterator
+abbrev pub FirstItems : {S A : Type 0} → (S → Option A → S → Type 0) → S → ℕ → (List A → Type 0) → Type 0
+FirstItems next_gives items n P = SomeRun next_gives items (λ p. (p.len ≡ n) × P p.items)
 
 module _ {C X : Type 0} (fits : C → X → Bool) (put : C → X → C) where
   -- whether each item fits when it is put
@@ -19,10 +24,11 @@ module _ {C X : Type 0} (fits : C → X → Bool) (put : C → X → C) where
 
 -- a map's pairs
 module _ {K V : Type 0} (eq : K → K → Bool) where
-  -- whether a pair fits, and the pairs once it is put
+  -- whether a pair fits
   abbrev pub pair_fits : ℕ → List (K × V) → K × V → Bool
   pair_fits N pairs p = fits eq N pairs p.0
 
+  -- the pairs once a pair is put
   abbrev pub put_pair : List (K × V) → K × V → List (K × V)
   put_pair pairs p = put eq pairs p.0 p.1
 

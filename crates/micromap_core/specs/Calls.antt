@@ -1,9 +1,8 @@
 -- The keyed calls of a map of capacity N, what each answers, and what a list of them does.
-use Rattle.std.specs.Prelude.{ℕ, Bool, true, false, ◌&&◌, List, [], ◌∷◌, length, Option, if◌then◌else◌, ◌==◌, IsTrue}
+use Rattle.std.specs.Prelude.{ℕ, Bool, true, false, ◌&&◌, List, [], ◌∷◌, length, Option, if◌then◌else◌, ◌==◌}
 use Rattle.std.specs.Bool.{beq}
 use Rattle.std.specs.Option.{option_eq}
-use Rattle.std.specs.Cmp.Lexicographic.{pointwise}
-use Rattle.micromap_core.specs.Pairs.{at, pair, has, fits, put, put_key, take_out}
+use Rattle.micromap_core.specs.Pairs.{at, pair, has, fits, put_if_fits, put_key, take_out}
 
 -- the calls that read or change a map by its keys
 pub data Call (K V : Type 0) : Type 0 where
@@ -43,16 +42,12 @@ module _ {K V : Type 0} (eq : K → K → Bool) (N : ℕ) where
 
   -- what the call leaves
   abbrev pub after : List (K × V) → Call K V → List (K × V)
-  after pairs (insert k v) = if fits eq N pairs k then put eq pairs k v else pairs
+  after pairs (insert k v) = put_if_fits eq N pairs k v
   after pairs (insert_key_value k v) = if fits eq N pairs k then put_key eq pairs k v else pairs
   after pairs (remove k) = take_out eq pairs k
   after pairs (remove_entry k) = take_out eq pairs k
   after pairs clear = []
-  after pairs (get k) = pairs
-  after pairs (get_key_value k) = pairs
-  after pairs (contains k) = pairs
-  after pairs len = pairs
-  after pairs is_empty = pairs
+  after pairs call = pairs
 
   -- the answers of the calls in turn, and the pairs that they leave
   abbrev pub run : List (K × V) → List (Call K V) → List (Answer K V) × List (K × V)
@@ -70,7 +65,3 @@ module _ {K V : Type 0} (eq : K → K → Bool) (same : V → V → Bool) where
   agree done done = true
   agree refused refused = true
   agree x y = false
-
-  -- two lists of answers agree one by one
-  abbrev pub Agree : List (Answer K V) → List (Answer K V) → Type 0
-  Agree xs ys = IsTrue (pointwise agree xs ys)

@@ -1,4 +1,4 @@
--- Clones of keys and values, of which C and D say what a clone may be.
+-- When two pairs are clones, and when clones are identical. C and D say what a clone of a key, or of a value, may be.
 use Rattle.std.specs.Prelude.{◌≡◌}
 
 -- a clone is the very same value

@@ -1,4 +1,4 @@
--- What two columns end as where a `&mut` to a value is returned. No contract of a public call cites this file.
+-- Two columns after a write through a `&mut` to a value. No contract of a public call cites this file.
 use Rattle.std.specs.Prelude.{ℕ, List}
 use Rattle.std.specs.Borrow.{Lends, Fml, RattleType, MutBor}
 use Rattle.micromap_core.specs.Pairs.{with_value_at}

@@ -1,4 +1,4 @@
--- What the contracts of an entry cite. The words serve its halves too, as `entry_value (Occupied o)`.
+-- What an entry has, and what its calls leave. The words serve its halves too, as `entry_value (Occupied o)`.
 pub use Rattle.micromap_core.specs.declared.entry.EntryIn.TheVariants.{Occupied, Vacant}
 use Rattle.std.specs.Prelude.{◌≡◌, ℕ, ◌<◌, Bool, true, false, ◌||◌, List, [], ◌∷◌, ◌++◌, length, Option, Some, None, slice_get}
 use Rattle.std.specs.Option.{option_map, option_map_or, IsSomeAnd}

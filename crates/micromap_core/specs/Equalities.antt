@@ -1,5 +1,4 @@
--- Equalities that are lawful, and tests that tell one class of equal keys from the others. Each is a word that doesn't
--- unfold, so that a law that asks it is found by a fact that states it.
+-- What a law requires of an equality, and of a test of keys: words that don't unfold, so that a search finds them.
 use Rattle.std.specs.Prelude.{◌≡◌, Bool, true}
 use Rattle.std.specs.Cmp.{IsEquivalence}
 

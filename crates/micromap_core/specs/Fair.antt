@@ -1,7 +1,8 @@
 -- Two lists of pairs, with capacities N and M, under one list of keyed calls: when the calls are fair to both, and when
 -- they tell the two apart.
-use Rattle.std.specs.Prelude.{◌≡◌, ℕ, Bool, List, [], ◌∷◌, Option, Some, None, IsFalse, IfSome, ⊤}
-use Rattle.micromap_core.specs.Calls.{Call, insert, insert_key_value, after, run, Agree}
+use Rattle.std.specs.Prelude.{◌≡◌, ℕ, Bool, List, [], ◌∷◌, Option, Some, None, IsTrue, IsFalse, IfSome, ⊤}
+use Rattle.std.specs.Cmp.Lexicographic.{pointwise}
+use Rattle.micromap_core.specs.Calls.{Call, insert, insert_key_value, after, run, agree}
 use Rattle.micromap_core.specs.Pairs.{has, has_room}
 use Rattle.micromap_core.specs.Same.{Same}
 
@@ -22,13 +23,9 @@ module _ {K V : Type 0} (eq : K → K → Bool) (N M : ℕ) where
   IsFair first second (call ∷ calls) = IsFairCall first second call × IsFair (after eq N first call) (after eq M second call) calls
 
 module _ {K V : Type 0} (eq : K → K → Bool) (same : V → V → Bool) (N M : ℕ) (first second : List (K × V)) where
-  -- the answers that the calls get from the two agree
+  -- the answers that the calls get from the two agree one by one
   abbrev pub AnswersAgree : List (Call K V) → Type 0
-  AnswersAgree calls = Agree eq same (run eq N first calls).0 (run eq M second calls).0
-
-  -- the two are the same once the calls have run
-  abbrev pub SameAfter : List (Call K V) → Type 0
-  SameAfter calls = Same eq same (run eq N first calls).1 (run eq M second calls).1
+  AnswersAgree calls = IsTrue (pointwise (agree eq same) (run eq N first calls).0 (run eq M second calls).0)
 
   -- some fair list of calls gets answers that don't agree
   pub record ToldApart : Type 0 where
@@ -38,4 +35,4 @@ module _ {K V : Type 0} (eq : K → K → Bool) (same : V → V → Bool) (N M :
 
   -- every fair list of calls gets answers that agree, and leaves the two the same
   abbrev pub SameForGood : Type 0
-  SameForGood = (calls : List (Call K V)) → IsFair eq N M first second calls → AnswersAgree calls × SameAfter calls
+  SameForGood = (calls : List (Call K V)) → IsFair eq N M first second calls → AnswersAgree calls × Same eq same (run eq N first calls).1 (run eq M second calls).1

@@ -1,8 +1,8 @@
--- What each word on pairs comes to where the index of the first key that passes a test is known, or that there is none.
--- No contract of a public call cites this file.
+-- What each word on pairs is if the index of the first key that passes a test is known, or if no key passes. No
+-- contract of a public call cites this file.
 use Rattle.std.specs.Prelude.{◌≡◌, ℕ, ◌<◌, Bool, true, false, List, length, Some, None, slice_get, slice_set}
 use Rattle.std.specs.List.{list_any}
-use Rattle.std.specs.Map.{keys_of, lookup, lookup_entry, lookup_key, remove_entry, set_value, set_key}
+use Rattle.std.specs.Map.{keys_of, lookup, lookup_entry, remove_entry, set_value, set_key}
 use Rattle.micromap_core.specs.Pairs.{without_at}
 
 module _ {K V : Type 0} (test : K → Bool) (pairs : List (K × V)) where
@@ -13,7 +13,6 @@ module _ {K V : Type 0} (test : K → Bool) (pairs : List (K × V)) where
     pub here : slice_get pairs index ≡ Some pair
     pub passes : test pair.0 ≡ true
     pub entry : lookup_entry test pairs ≡ Some pair
-    pub key : lookup_key test pairs ≡ Some pair.0
     pub value : lookup test pairs ≡ Some pair.1
     pub written : (v : V) → set_value test pairs v ≡ slice_set pairs index (pair.0, v)
     pub replaced : (k : K) (v : V) → set_key test (set_value test pairs v) k ≡ slice_set pairs index (k, v)
@@ -22,7 +21,6 @@ module _ {K V : Type 0} (test : K → Bool) (pairs : List (K × V)) where
   -- no key passes
   pub record NotFound : Type 0 where
     pub entry : lookup_entry test pairs ≡ None
-    pub key : lookup_key test pairs ≡ None
     pub value : lookup test pairs ≡ None
     pub written : (v : V) → set_value test pairs v ≡ pairs
     pub taken : remove_entry test pairs ≡ pairs

@@ -1,4 +1,4 @@
--- What a map ends as where a `&mut` to a value is returned.
+-- A map after a write through a `&mut` to a value.
 use Rattle.std.specs.Prelude.{ℕ, Bool, List, Option}
 use Rattle.std.specs.Borrow.{Lends, LendsIf, Fml, RattleType, MutBor}
 use Rattle.micromap_core.specs.Pairs.{put, with_value_at}
@@ -14,7 +14,7 @@ module _ (K V N : RattleType) (eq : K.Denot → K.Denot → Bool) (map : MutBor 
   abbrev pub lends_at : K.Denot → MutBor V.Denot → Fml
   lends_at k r = Lends (the_row K V N (record { eq = eq })) V map r (put eq map.now k)
 
-  -- the same where r is a reference, and at `None` the map stays as it is
+  -- once the borrow in r ends, the map has the last value written through it at the key; at `None` the map stays as it is
   abbrev pub lends_at_if : K.Denot → Option (MutBor V.Denot) → Fml
   lends_at_if k r = LendsIf (the_row K V N (record { eq = eq })) V map r (put eq map.now k) map.now
 
@@ -22,6 +22,6 @@ module _ (K V N : RattleType) (eq : K.Denot → K.Denot → Bool) (map : MutBor 
   abbrev pub lends_matched : (K.Denot → Bool) → MutBor V.Denot → Fml
   lends_matched test r = Lends (the_row K V N (record { eq = eq })) V map r (set_value test map.now)
 
-  -- the same where r is a reference, and at `None` the map stays as it is
+  -- once the borrow in r ends, the map has what was written at the key that matches; at `None` it stays as it is
   abbrev pub lends_matched_if : (K.Denot → Bool) → Option (MutBor V.Denot) → Fml
   lends_matched_if test r = LendsIf (the_row K V N (record { eq = eq })) V map r (set_value test map.now) map.now

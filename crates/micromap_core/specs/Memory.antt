@@ -1,5 +1,5 @@
--- That the iterators by value fit in memory. A caller that is generic in key and value, and holds one, requires it of its
--- own callers. Where key and value are known, it is computed.
+-- That the iterators by value, and a drain, fit in memory. A caller that is generic in key and value, and holds one,
+-- requires it of its own callers. Where key and value are known, it is computed.
 use Rattle.std.specs.Prelude.{◌<◌, ◌^◌}
 use Rattle.std.specs.Borrow.{RattleType}
 use Rattle.micromap_walk.specs.contracts.owning.IntoIter as into_iter
@@ -13,7 +13,6 @@ abbrev pub FitsInMemory : RattleType → Type 0
 FitsInMemory row = size (layout row) < 2 ^ 63
 
 module _ (K V N : RattleType) where
-  -- a drain too
   abbrev pub IntoIterFits : Type 0
   IntoIterFits = FitsInMemory (into_iter.the_row (param 0 K) (param 1 V) (param 2 N))
 

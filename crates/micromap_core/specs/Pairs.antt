@@ -54,14 +54,18 @@ module _ {K V : Type 0} where
     abbrev pub fits : ℕ → List (K × V) → K → Bool
     fits N pairs k = has pairs k || has_room N pairs
 
-    -- v is the value at k; a stored key stays, and a new pair goes last
+    -- `set_value` at a stored key; a new pair goes last
     unfoldable pub put : List (K × V) → K → V → List (K × V)
     put pairs k v = if has pairs k then set_value (eq k) pairs v else pairs ++ (k, v) ∷ []
 
-    -- the same, and k is the stored key
+    -- `put` at a key that fits
+    abbrev pub put_if_fits : ℕ → List (K × V) → K → V → List (K × V)
+    put_if_fits N pairs k v = if fits N pairs k then put pairs k v else pairs
+
+    -- `put`, and `set_key`: k takes the stored key's place
     unfoldable pub put_key : List (K × V) → K → V → List (K × V)
     put_key pairs k v = if has pairs k then set_key (eq k) (set_value (eq k) pairs v) k else pairs ++ (k, v) ∷ []
 
-    -- without the pair whose key equals k; the others keep their order
+    -- `remove_entry` of the pair whose key equals k; the others keep their order
     unfoldable pub take_out : List (K × V) → K → List (K × V)
     take_out pairs k = remove_entry (eq k) pairs

@@ -1,5 +1,4 @@
--- The texts of a set, of a map and of a reading's fault, from the texts of items, keys, values and the source's fault,
--- each of which may be unknown.
+-- The texts of a set, a map and a reading's fault. That of an item, key, value or source's fault may be unknown.
 use Rattle.std.specs.Prelude.{ℕ, List, [], Option, Some, codes}
 use Rattle.std.specs.Fmt.{◌++?◌, debug_items}
 use Rattle.micromap_core.specs.declared.stream.ReadFault.{ReadFault}
@@ -14,10 +13,11 @@ module _ {K V : Type 0} (key_text : K → Option (List ℕ)) (value_text : V →
   abbrev pub pair_text : K × V → Option (List ℕ)
   pair_text p = key_text p.0 ++? Some (codes ": ") ++? value_text p.1
 
-  -- the same of pairs
+  -- the pairs as `key: value`, joined by `, `, in braces
   abbrev pub map_text : List (K × V) → Option (List ℕ)
   map_text = set_text pair_text
 
+-- the text of a reading's fault, with that of the source's fault behind it
 abbrev pub read_fault_text : {E : Type 0} → (E → Option (List ℕ)) → ReadFault E → Option (List ℕ)
 read_fault_text fault_text (Source fault) = Some (codes "the source failed: ") ++? fault_text fault
 read_fault_text fault_text TooMany = Some (codes "a pair has a new key, and there is no room for it")

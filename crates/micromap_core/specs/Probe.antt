@@ -10,7 +10,7 @@ use Rattle.std.specs.Cmp.Lexicographic.{pointwise}
 abbrev pub is_text : {Z : Type 0} → List ℕ → String Z → Bool
 is_text bytes key = pointwise nat_eq bytes (string_bytes key)
 
--- the same of a key that is a `&str`
+-- the key, a `&str`, has the text of these bytes
 abbrev pub is_str : List ℕ → Bor (List ℕ) → Bool
 is_str bytes key = pointwise nat_eq bytes key.now
 

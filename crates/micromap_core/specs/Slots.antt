@@ -1,4 +1,4 @@
--- What the slots of a map end as where a `&mut` to an item is returned. No contract of a public call cites this file.
+-- The slots of a column after a write through a `&mut` to an item. No contract of a public call cites this file.
 use Rattle.std.specs.Prelude.{ℕ, List, slice_set}
 use Rattle.std.specs.Borrow.{Lends, Fml, RattleType, MutBor}
 use Rattle.micromap_core.specs.contracts.slots.Slots.{the_row}

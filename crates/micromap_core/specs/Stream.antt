@@ -1,5 +1,5 @@
 -- Streams of entries: what a call makes of the number of faults and the last one, and of the entries taken or left.
-use Rattle.std.specs.Prelude.{◌≡◌, ℕ, suc, ◌-◌, ◌^◌, ◌<◌, ◌≤◌, Bool, not, List, [], ◌∷◌, ◌++◌, Option, Some, Result, Ok, Err, IsTrue}
+use Rattle.std.specs.Prelude.{◌≡◌, ℕ, suc, ◌-◌, ◌^◌, ◌<◌, ◌≤◌, Bool, not, List, [], ◌∷◌, ◌++◌, length, take, Option, Some, Result, Ok, Err, IsTrue}
 use Rattle.std.specs.Map.{keys_of}
 use Rattle.std.specs.Set.{distinct_count}
 use Rattle.micromap_core.specs.Build.{all_fit, build}
@@ -24,18 +24,14 @@ module _ {S E : Type 0} (faults : S → ℕ) (last_fault : S → Option E) (old 
     pub count : faults new ≡ faults old
     pub last : last_fault new ≡ last_fault old
 
-  -- one fault came, and it is this one
+  -- one fault came between old and new, and it is this one
   pub record Faults (fault : E) : Type 0 where
     pub count : faults new ≡ suc (faults old)
     pub last : last_fault new ≡ Some fault
 
--- of these entries some that aren't all were appended to old
-pub record TakesBeginning {X : Type 0} (old entries new : List X) : Type 0 where
-  pub part : List X
-  pub next : X
-  pub rest : List X
-  pub split : entries ≡ part ++ next ∷ rest
-  pub taken : new ≡ old ++ part
+-- the first of these entries, but not all, were appended to old
+abbrev pub TakesBeginning : {X : Type 0} → List X → List X → List X → Type 0
+TakesBeginning old entries new = (n : ℕ) × (n < length entries) × (new ≡ old ++ take n entries)
 
 -- a reading of a map of capacity N from a source, old before it and new after it
 module _ {K V S E : Type 0} (eq : K → K → Bool) (N : ℕ) (left : S → List (K × V)) (faults : S → ℕ) (last_fault : S → Option E) (old new : S) where
@@ -65,7 +61,7 @@ module _ {K V S E : Type 0} (eq : K → K → Bool) (N : ℕ) (left : S → List
     pub many : N < distinct_count eq (keys_of (before ++ item ∷ []))
     pub faultless : Faultless faults last_fault old new
 
-  -- what it returns says how far it came
+  -- a reading of a map: what it returns says how far it came
   abbrev pub MapReads : Result (List (K × V)) (ReadFault E) → Type 0
   MapReads (Ok map) = ReadsWhole map
   MapReads (Err (Source fault)) = ReadsToFault fault

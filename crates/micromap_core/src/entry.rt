@@ -1,9 +1,8 @@
 //! The entry of a key in a map: the stored pair, or the key itself if it is new.
 //!
-//! The types are generic over the whole map. Callers write the aliases, which have the Rust crate's names. `Map::entry`
-//! makes an entry. Each call that returns one ensures that it is sound: an occupied entry has the index of a pair, and
-//! the key of a vacant entry is new. In a clause, `self.exit.0.now` is the map behind the reference that the entry
-//! held, after the entry is consumed.
+//! `Map::entry` makes an entry. Each call that returns one ensures that it is sound: an occupied entry has the index of
+//! a pair, and the key of a vacant entry is new. A call that needs this requires it. In a clause, `self.exit.0.now` is
+//! the map behind the reference that the entry held, after the entry is consumed.
 ghost use Rattle.std.specs.Prelude.{◌≡◌};
 
 mod methods;
@@ -21,20 +20,20 @@ pub type OccupiedEntry<'a, K, V, const N: usize> = OccupiedIn<'a, Map<K, V, N>>;
 /// An entry whose key is new. It holds the key.
 pub type VacantEntry<'a, K, V, const N: usize> = VacantIn<'a, K, Map<K, V, N>>;
 
-/// An `Entry` of the map `M`.
+/// Internal: write `Entry<'a, K, V, N>`.
 #[derive(Drop)]
 pub enum EntryIn<'a, K, M> {
     Occupied(OccupiedIn<'a, M>),
     Vacant(VacantIn<'a, K, M>),
 }
 
-/// An `OccupiedEntry` of the map `M`.
+/// Internal: write `OccupiedEntry<'a, K, V, N>`.
 pub struct OccupiedIn<'a, M> {
     map: &'a mut M,
     index: usize,
 }
 
-/// A `VacantEntry` of the map `M`.
+/// Internal: write `VacantEntry<'a, K, V, N>`.
 pub struct VacantIn<'a, K, M> {
     map: &'a mut M,
     key: K,

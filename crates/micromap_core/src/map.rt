@@ -65,7 +65,8 @@ impl<K: Eq, V, const N: usize> Map<K, V, N> {
 
     /// Returns the number of pairs.
     ///
-    /// Its clause `content` says what is true of every map's content.
+    /// The clause `content` states three facts of the map: no two keys are equal, there are at most `N` pairs, and the
+    /// equality of keys is lawful (reflexive, symmetric and transitive).
     #[inline]
     pub fn len(&self) -> usize
         ensures answer { result ≡ length self.now }

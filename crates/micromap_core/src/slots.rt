@@ -1,6 +1,6 @@
 //! The slots in which a map keeps its keys, and those in which it keeps its values. A slot is an `Option`, and each is
 //! filled: only this module, `columns`, `map::walk` and `micromap_walk` know that.
-ghost use Rattle.std.specs.Prelude.{◌≡◌, ◌<◌, ◌≤◌, [], ◌∷◌, ◌++◌, length, take, Some, slice_get, slice_index_or};
+ghost use Rattle.std.specs.Prelude.{◌≡◌, ◌-◌, ◌<◌, ◌≤◌, [], ◌∷◌, ◌++◌, length, take, Some, slice_get, slice_index_or};
 ghost use Rattle.std.specs.Borrow.{sem};
 ghost use Rattle.std.specs.List.{remove, swap};
 ghost use Rattle.micromap_core.specs.Slots.{lends_item_at};
@@ -104,12 +104,13 @@ impl<T, const N: usize> Slots<T, N> {
 }
 
 impl<T: Drop, const N: usize> Slots<T, N> {
-    /// Keeps the first `len` items, and drops the others.
+    /// Removes and drops the last item.
     #[inline]
-    pub(crate) fn truncate(&mut self, len: usize)
-        ensures { self.new ≡ take len self.old }
+    pub(crate) fn drop_last(&mut self)
+        requires { 0 < length self.old }
+        ensures { self.new ≡ take (length self.old - 1) self.old }
     {
-        self.slots.truncate(len);
+        let _last = into_item(self.slots.pop());
     }
 
     /// Returns the same items in `M` slots. Moves each once.

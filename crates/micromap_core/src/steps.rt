@@ -1,11 +1,12 @@
-//! Counting the comparisons of keys that a look-up or a comparison makes.
+//! A counter of comparisons of keys.
 ghost use Rattle.std.specs.Prelude.{◌≡◌, ℕ, ◌+◌, ◌*◌, ◌^◌, ◌<◌};
 
 use std::marker::Model;
 
-/// A counter of steps. A step is one comparison of two keys by `same`.
+/// Counts comparisons of keys.
 ///
-/// A contract sees it as the number of steps.
+/// A contract sees it as their number. `Map::get_counted` and `Map::eq_with_counted` make every comparison by `same`,
+/// so that the number is proved.
 #[derive(Debug, Drop)]
 pub struct Steps {
     counted: u128,
@@ -20,7 +21,7 @@ impl Model for Steps {
 }
 
 impl Steps {
-    /// Creates a counter at 0, which has room for a comparison of any two maps.
+    /// Creates a counter at 0, which meets the precondition of `eq_with_counted` for every map.
     pub fn new() -> Self
         ensures answer { result ≡ 0 }
         ensures room { (len : ℕ) → len < 2 ^ 64 → result + len * len < 2 ^ 128 }
@@ -28,14 +29,14 @@ impl Steps {
         Steps { counted: 0 }
     }
 
-    /// Returns the number of steps.
+    /// Returns the number of comparisons.
     pub fn count(&self) -> u128
         ensures { result ≡ self.now }
     {
         self.counted
     }
 
-    /// Returns `true` if the two keys are equal, and adds one step. Requires that the counter has room for one.
+    /// Returns `true` if the two keys are equal, and adds one. Requires `count() + 1 < 2^128`.
     pub fn same<K: Eq>(&mut self, first: &K, second: &K) -> bool
         requires { self.old + 1 < 2 ^ 128 }
         ensures answer { result ≡ K.eq first.now second.now }

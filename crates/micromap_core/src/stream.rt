@@ -1,7 +1,7 @@
 //! Streams of entries: a sink takes pairs one after the other, and a source yields them.
 //!
-//! Each counts the errors that it has returned and stores the last one, so that a caller can tell an error of this call
-//! from an older one.
+//! Both count the errors that they have returned in `faults`, and have the last of them, or `None`, in `last_fault`. So
+//! a caller can tell an error of this call from an older one.
 ghost use Rattle.std.specs.Prelude.{◌≡◌, ℕ, ◌<◌, ◌++◌, ◌∷◌, [], List, Option, IfOk, OnOk, IfErr, OnErr};
 ghost use Rattle.std.specs.Map.Iter.{TakesFirst};
 ghost use Rattle.micromap_core.specs.Print.{read_fault_text};
@@ -17,24 +17,21 @@ pub use vec_sink::VecSink;
 
 /// A type to which pairs can be written.
 pub trait EntrySink<K, V> {
+    /// The error of `entry`.
     type Error: Copy;
 
     /// The pairs taken, in the order in which they came.
     ghost taken: { Self → List (K × V) };
 
-    /// The number of errors returned.
     ghost faults: { Self → ℕ };
 
-    /// The last error, or `None` before any.
     ghost last_fault: { Self → Option Self.Error };
 
-    /// Returns the number of errors returned.
+    /// Returns the number of errors that the sink has returned.
     fn faults(&self) -> u128
         ensures { result ≡ faults self.now };
 
-    /// Takes a pair, or returns an error and takes nothing.
-    ///
-    /// Requires that fewer than `u128::MAX` errors were returned.
+    /// Takes a pair, or returns an error and takes nothing. Requires `faults() < u128::MAX`.
     fn entry(&mut self, key: &K, value: &V) -> Result<(), Self::Error>
         requires { faults self.old < most_faults }
         ensures taken { OnOk result (taken self.new ≡ taken self.old ++ (key.now, value.now) ∷ []) }
@@ -45,24 +42,22 @@ pub trait EntrySink<K, V> {
 
 /// A type from which pairs can be read.
 pub trait EntrySource<K, V> {
+    /// The error of `next_entry`.
     type Error: Copy;
 
     /// The pairs left, in the order in which they come.
     ghost left: { Self → List (K × V) };
 
-    /// The number of errors returned.
     ghost faults: { Self → ℕ };
 
-    /// The last error, or `None` before any.
     ghost last_fault: { Self → Option Self.Error };
 
-    /// Returns the number of errors returned.
+    /// Returns the number of errors that the source has returned.
     fn faults(&self) -> u128
         ensures { result ≡ faults self.now };
 
-    /// Returns the next pair, or `None` if none is left, or returns an error and yields nothing.
-    ///
-    /// Requires that fewer than `u128::MAX` errors were returned.
+    /// Yields the next pair, or `None` if none is left, or returns an error and yields nothing. Requires
+    /// `faults() < u128::MAX`.
     fn next_entry(&mut self) -> Result<Option<(K, V)>, Self::Error>
         requires { faults self.old < most_faults }
         ensures gave { IfOk result (λ entry. TakesFirst (λ p. p) (left self.old) entry (left self.new)) }

@@ -3,7 +3,7 @@ use Rattle.std.specs.Prelude.{ℕ, ℤ, Bool, List, Some, None, if◌then◌else
 use Rattle.std.specs.Int.{int_wrapping_add, w32}
 use Rattle.std.specs.Option.{option_map, option_map_or, unwrap_or}
 use Rattle.std.specs.Ordering.{on}
-use Rattle.micromap.specs.Pairs.{at, pair, has, fits, put, put_key, take_out}
+use Rattle.micromap.specs.Pairs.{at, pair, has, fits, put, put_if_fits, put_key, take_out}
 use Rattle.micromap_testing.specs.declared.marked.Marked.{Marked}
 use Rattle.micromap_replay.specs.declared.answer.Answer.{Answer}
 use Rattle.micromap_replay.specs.declared.answer.Answer.TheVariants.{Refused, Vacant, Occupied, Truth, Value, Key, Pair, MaybeValue, MaybePair, Checked}
@@ -21,19 +21,15 @@ abbrev pub as_pair : Marked × ℤ → answer_pair.Pair
 as_pair p = record { 0 = p.0; 1 = p.1 }
 
 module _ (N : ℕ) (pairs : List (Marked × ℤ)) where
-  -- with v as the value at k, where it fits
-  abbrev pub put_if_fits : Marked → ℤ → List (Marked × ℤ)
-  put_if_fits k v = if fits same_id N pairs k then put same_id pairs k v else pairs
-
   -- with c added to the value at k, where there is one
   abbrev pub raised : Marked → ℤ → List (Marked × ℤ)
   raised k c = option_map_or (λ v. put same_id pairs k (int_wrapping_add w32 v c)) (at same_id pairs k) pairs
 
   -- what a call that names its key leaves
   abbrev pub after_keyed : KeyedCall → List (Marked × ℤ)
-  after_keyed (Insert k v) = put_if_fits k v
+  after_keyed (Insert k v) = put_if_fits same_id N pairs k v
   after_keyed (InsertKeyValue k v) = if fits same_id N pairs k then put_key same_id pairs k v else pairs
-  after_keyed (CheckedInsert k v) = put_if_fits k v
+  after_keyed (CheckedInsert k v) = put_if_fits same_id N pairs k v
   after_keyed (Get k) = pairs
   after_keyed (GetKeyValue k) = pairs
   after_keyed (ContainsKey k) = pairs
@@ -44,13 +40,13 @@ module _ (N : ℕ) (pairs : List (Marked × ℤ)) where
 
   -- what a call of the entry of its key leaves
   abbrev pub after_entry : EntryCall → List (Marked × ℤ)
-  after_entry (OrInsert k v) = put_if_fits k (unwrap_or (at same_id pairs k) v)
-  after_entry (AndModifyOrInsert k c v) = if has same_id pairs k then raised k c else put_if_fits k v
-  after_entry (InsertEntry k v) = put_if_fits k v
+  after_entry (OrInsert k v) = put_if_fits same_id N pairs k (unwrap_or (at same_id pairs k) v)
+  after_entry (AndModifyOrInsert k c v) = if has same_id pairs k then raised k c else put_if_fits same_id N pairs k v
+  after_entry (InsertEntry k v) = put_if_fits same_id N pairs k v
   after_entry (OccupiedInsert k v) = if has same_id pairs k then put same_id pairs k v else pairs
   after_entry (OccupiedRemove k) = take_out same_id pairs k
   after_entry (OccupiedRemoveEntry k) = take_out same_id pairs k
-  after_entry (VacantInsert k v) = if has same_id pairs k then pairs else put_if_fits k v
+  after_entry (VacantInsert k v) = if has same_id pairs k then pairs else put_if_fits same_id N pairs k v
   after_entry (VacantIntoKey k) = pairs
 
   -- what a call that names its key answers

@@ -1,6 +1,6 @@
 -- A graph as the list of each node's neighbours, which are numbers of nodes.
+use Rattle.std.specs.Set.{is_member}
 use Rattle.std.specs.Prelude.{◌≡◌, ℕ, ◌<◌, Bool, true, false, ◌||◌, ◌&&◌, List, [], ◌∷◌, nat_eq, slice_index_or}
-use Rattle.micromap.specs.Items.{contains}
 
 -- none, where there is no such node
 abbrev pub neighbours : List (List ℕ) → ℕ → List ℕ
@@ -8,7 +8,7 @@ neighbours graph a = slice_index_or graph a []
 
 -- whether b is among the neighbours of a
 abbrev pub leads : List (List ℕ) → ℕ → ℕ → Bool
-leads graph a b = contains nat_eq (neighbours graph a) b
+leads graph a b = is_member nat_eq (neighbours graph a) b
 
 -- every edge goes both ways
 abbrev pub IsSymmetric : List (List ℕ) → Type 0
@@ -34,6 +34,6 @@ Path graph a b = (walk : List ℕ) × IsWalk graph a walk b
 -- what a search from a makes of the nodes that were met before: a is met, each new one by a path, and with it all to
 -- which edges lead from it
 pub record Searches (graph : List (List ℕ)) (a : ℕ) (old new : List ℕ) : Type 0 where
-  pub grows : (x : ℕ) → (nat_eq a x || contains nat_eq old x) ≡ true → contains nat_eq new x ≡ true
-  pub sound : (x : ℕ) → contains nat_eq new x ≡ true → contains nat_eq old x ≡ false → Path graph a x
-  pub closed : (x y : ℕ) → contains nat_eq new x ≡ true → contains nat_eq old x ≡ false → leads graph x y ≡ true → contains nat_eq new y ≡ true
+  pub grows : (x : ℕ) → (nat_eq a x || is_member nat_eq old x) ≡ true → is_member nat_eq new x ≡ true
+  pub sound : (x : ℕ) → is_member nat_eq new x ≡ true → is_member nat_eq old x ≡ false → Path graph a x
+  pub closed : (x y : ℕ) → is_member nat_eq new x ≡ true → is_member nat_eq old x ≡ false → leads graph x y ≡ true → is_member nat_eq new y ≡ true

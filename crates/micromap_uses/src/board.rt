@@ -2,7 +2,7 @@
 ghost use Rattle.std.specs.Prelude.{◌≡◌, IsFalse, None, Some, if◌then◌else◌};
 ghost use Rattle.std.specs.Bool.{OnTrue};
 ghost use Rattle.std.specs.Option.{option_map_or};
-ghost use Rattle.micromap.specs.Pairs.{at, fits, has, put, take_out};
+ghost use Rattle.micromap.specs.Pairs.{at, fits, has, put, put_if_fits, take_out};
 
 use micromap::Map;
 
@@ -23,7 +23,7 @@ pub type Board<const N: usize> = Map<Square, char, N>;
 #[tactic(auto, using(micromap_core::proofs::MapLaws::map_bound_laws))]
 pub fn put_piece<const N: usize>(board: &mut Board<N>, to: Square, piece: char) -> Option<char>
     ensures answer { result ≡ (if fits ⟦<Square as PartialEq>⟧.eq N board.old to then Some piece else None) }
-    ensures board { board.new ≡ (if fits ⟦<Square as PartialEq>⟧.eq N board.old to then put ⟦<Square as PartialEq>⟧.eq board.old to piece else board.old) }
+    ensures board { board.new ≡ put_if_fits ⟦<Square as PartialEq>⟧.eq N board.old to piece }
 {
     let _content = board.len();
     board.checked_insert(to, piece)?;

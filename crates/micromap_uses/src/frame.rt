@@ -3,7 +3,7 @@
 //! A number names a variable, as in an interpreter that has read its source once. A frame keeps at most `N` variables,
 //! in the order in which they came.
 ghost use Rattle.std.specs.Prelude.{◌≡◌, nat_eq, if◌then◌else◌, is_some, Ok};
-ghost use Rattle.micromap.specs.Pairs.{at, fits, has, put};
+ghost use Rattle.micromap.specs.Pairs.{at, fits, has, put, put_if_fits};
 ghost use Rattle.micromap_uses.specs.Frame.{value};
 
 use micromap::Map;
@@ -15,7 +15,7 @@ pub type Frame<const N: usize> = Map<u32, i64, N>;
 /// Gives a variable a value, and returns whether it has that value now. A new variable gets one only if there is room.
 pub fn assign<const N: usize>(frame: &mut Frame<N>, name: u32, value: i64) -> bool
     ensures answer { result ≡ fits nat_eq N frame.old name }
-    ensures frame { frame.new ≡ (if fits nat_eq N frame.old name then put nat_eq frame.old name value else frame.old) }
+    ensures frame { frame.new ≡ put_if_fits nat_eq N frame.old name value }
 {
     frame.checked_insert(name, value).is_some()
 }

@@ -3,7 +3,8 @@
 //! A contract sees it as the list of each node's neighbours.
 ghost use Rattle.std.specs.Prelude.{◌≡◌, ◌≢◌, ◌↔◌, ℕ, ◌<◌, ◌≤◌, ◌||◌, ◌&&◌, not, length, nat_eq, true, false, IsTrue};
 ghost use Rattle.std.specs.Bool.{OnTrue, OnFalse};
-ghost use Rattle.micromap.specs.Items.{contains, item_fits};
+ghost use Rattle.std.specs.Set.{is_member};
+ghost use Rattle.micromap.specs.Items.{item_fits};
 ghost use Rattle.micromap_uses.specs.Graph.{are_ends, leads, neighbours, IsSymmetric, LeadsBelow, Path, Searches};
 
 use micromap::Set;
@@ -105,7 +106,7 @@ impl Graph {
     /// Looks at each of their edges once from either end.
     pub fn reached(&self, from: u8) -> Set<u8, NODES>
         requires { from < NODES }
-        ensures { (x : ℕ) → IsTrue (contains nat_eq result x) ↔ Path self.now from x }
+        ensures { (x : ℕ) → IsTrue (is_member nat_eq result x) ↔ Path self.now from x }
     {
         let mut met = Set::new();
         self.search(from, &mut met);
@@ -116,8 +117,8 @@ impl Graph {
     #[tactic(auto, using(micromap::proofs::SetLaws::set_laws, crate::proofs::ReachLemmas::room))]
     fn search(&self, node: u8, met: &mut Set<u8, NODES>)
         requires node_is { node < NODES }
-        requires nodes { (x : ℕ) → contains nat_eq met.old x ≡ true → x < NODES }
-        ensures nodes { (x : ℕ) → contains nat_eq met.new x ≡ true → x < NODES }
+        requires nodes { (x : ℕ) → is_member nat_eq met.old x ≡ true → x < NODES }
+        ensures nodes { (x : ℕ) → is_member nat_eq met.new x ≡ true → x < NODES }
         ensures kept { length met.old ≤ length met.new }
         ensures searched { Searches self.now node met.old met.new }
     {

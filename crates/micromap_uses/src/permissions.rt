@@ -1,9 +1,10 @@
 //! What a role may do: a set of permissions, which are an enum with a derived `==`.
 //!
 //! A contract names that equality as `⟦<Permission as PartialEq>⟧.eq`.
-ghost use Rattle.std.specs.Prelude.{◌≡◌, ◌↔◌, ◌||◌, ◌&&◌, ◌<◌, IfOk, IsErr, IsFalse, IsTrue, Ok, if◌then◌else◌, length, not};
+ghost use Rattle.std.specs.Prelude.{◌≡◌, ◌↔◌, ◌||◌, ◌&&◌, ◌<◌, IfOk, IsErr, IsFalse, IsTrue, Ok, length, not};
 ghost use Rattle.std.specs.Bool.{OnTrue};
-ghost use Rattle.micromap.specs.Items.{add, contains, item_fits};
+ghost use Rattle.std.specs.Set.{is_member};
+ghost use Rattle.micromap.specs.Items.{item_fits, put_item_if_fits};
 ghost use Rattle.micromap.specs.Operations.{difference, intersection, union};
 
 use micromap::{Overfull, Set};
@@ -30,9 +31,9 @@ pub type Role<const N: usize> = Set<Permission, N>;
 #[tactic(auto, using(micromap::proofs::SetLaws::set_bound_laws))]
 pub fn grant<const N: usize>(role: &mut Role<N>, permission: Permission) -> bool
     ensures answer { result ≡ item_fits ⟦<Permission as PartialEq>⟧.eq N role.old permission }
-    ensures role { role.new ≡ (if item_fits ⟦<Permission as PartialEq>⟧.eq N role.old permission then add ⟦<Permission as PartialEq>⟧.eq role.old permission else role.old) }
-    ensures granted { OnTrue result (IsTrue (contains ⟦<Permission as PartialEq>⟧.eq role.new permission)) }
-    ensures others { OnTrue result ((p : _) → contains ⟦<Permission as PartialEq>⟧.eq role.new p ≡ (⟦<Permission as PartialEq>⟧.eq permission p || contains ⟦<Permission as PartialEq>⟧.eq role.old p)) }
+    ensures role { role.new ≡ put_item_if_fits ⟦<Permission as PartialEq>⟧.eq N role.old permission }
+    ensures granted { OnTrue result (IsTrue (is_member ⟦<Permission as PartialEq>⟧.eq role.new permission)) }
+    ensures others { OnTrue result ((p : _) → is_member ⟦<Permission as PartialEq>⟧.eq role.new p ≡ (⟦<Permission as PartialEq>⟧.eq permission p || is_member ⟦<Permission as PartialEq>⟧.eq role.old p)) }
 {
     let _content = role.len();
     let fits = role.fits(&permission);
@@ -43,9 +44,9 @@ pub fn grant<const N: usize>(role: &mut Role<N>, permission: Permission) -> bool
 /// Revokes a permission, and returns whether it was granted.
 #[tactic(auto, using(micromap::proofs::SetLaws::set_bound_laws))]
 pub fn revoke<const N: usize>(role: &mut Role<N>, permission: Permission) -> bool
-    ensures answer { result ≡ contains ⟦<Permission as PartialEq>⟧.eq role.old permission }
-    ensures revoked { IsFalse (contains ⟦<Permission as PartialEq>⟧.eq role.new permission) }
-    ensures others { (p : _) → contains ⟦<Permission as PartialEq>⟧.eq role.new p ≡ (not (⟦<Permission as PartialEq>⟧.eq permission p) && contains ⟦<Permission as PartialEq>⟧.eq role.old p) }
+    ensures answer { result ≡ is_member ⟦<Permission as PartialEq>⟧.eq role.old permission }
+    ensures revoked { IsFalse (is_member ⟦<Permission as PartialEq>⟧.eq role.new permission) }
+    ensures others { (p : _) → is_member ⟦<Permission as PartialEq>⟧.eq role.new p ≡ (not (⟦<Permission as PartialEq>⟧.eq permission p) && is_member ⟦<Permission as PartialEq>⟧.eq role.old p) }
 {
     let _content = role.len();
     role.remove(&permission)
@@ -58,7 +59,7 @@ pub fn merged<const N: usize, const M: usize, const L: usize>(
     second: &Role<M>,
 ) -> Result<Role<L>, Overfull>
     ensures answer { IfOk result (λ role. role ≡ union ⟦<Permission as PartialEq>⟧.eq first.now second.now) }
-    ensures members { IfOk result (λ role. (p : _) → contains ⟦<Permission as PartialEq>⟧.eq role p ≡ (contains ⟦<Permission as PartialEq>⟧.eq first.now p || contains ⟦<Permission as PartialEq>⟧.eq second.now p)) }
+    ensures members { IfOk result (λ role. (p : _) → is_member ⟦<Permission as PartialEq>⟧.eq role p ≡ (is_member ⟦<Permission as PartialEq>⟧.eq first.now p || is_member ⟦<Permission as PartialEq>⟧.eq second.now p)) }
     ensures refused { IsErr result ↔ (L < length (union ⟦<Permission as PartialEq>⟧.eq first.now second.now)) }
 {
     Set::try_from_iter(first.union(second).copied())
@@ -71,7 +72,7 @@ pub fn limited<const N: usize, const M: usize>(
     most: &Role<M>,
 ) -> Result<Role<N>, AllocError>
     ensures answer { result ≡ Ok (intersection ⟦<Permission as PartialEq>⟧.eq role.now most.now) }
-    ensures members { IfOk result (λ new. (p : _) → contains ⟦<Permission as PartialEq>⟧.eq new p ≡ (contains ⟦<Permission as PartialEq>⟧.eq role.now p && contains ⟦<Permission as PartialEq>⟧.eq most.now p)) }
+    ensures members { IfOk result (λ new. (p : _) → is_member ⟦<Permission as PartialEq>⟧.eq new p ≡ (is_member ⟦<Permission as PartialEq>⟧.eq role.now p && is_member ⟦<Permission as PartialEq>⟧.eq most.now p)) }
 {
     role.bitand(most)
 }
@@ -83,14 +84,14 @@ pub fn beyond<const N: usize, const M: usize>(
     other: &Role<M>,
 ) -> Result<Role<N>, AllocError>
     ensures answer { result ≡ Ok (difference ⟦<Permission as PartialEq>⟧.eq role.now other.now) }
-    ensures members { IfOk result (λ new. (p : _) → contains ⟦<Permission as PartialEq>⟧.eq new p ≡ (contains ⟦<Permission as PartialEq>⟧.eq role.now p && not (contains ⟦<Permission as PartialEq>⟧.eq other.now p))) }
+    ensures members { IfOk result (λ new. (p : _) → is_member ⟦<Permission as PartialEq>⟧.eq new p ≡ (is_member ⟦<Permission as PartialEq>⟧.eq role.now p && not (is_member ⟦<Permission as PartialEq>⟧.eq other.now p))) }
 {
     role.sub(other)
 }
 
 /// Returns `true` if two roles have the same permissions, whatever their capacities.
 pub fn may_the_same<const N: usize, const M: usize>(first: &Role<N>, second: &Role<M>) -> bool
-    ensures { IsTrue result ↔ ((p : _) → contains ⟦<Permission as PartialEq>⟧.eq first.now p ≡ contains ⟦<Permission as PartialEq>⟧.eq second.now p) }
+    ensures { IsTrue result ↔ ((p : _) → is_member ⟦<Permission as PartialEq>⟧.eq first.now p ≡ is_member ⟦<Permission as PartialEq>⟧.eq second.now p) }
 {
     first.eq_with(second)
 }

@@ -1,6 +1,6 @@
 //! The stock of a store: a map in a struct of its own, which a contract sees as the list of the map's pairs.
 ghost use Rattle.std.specs.Prelude.{◌≡◌, ◌+◌, ◌<◌, ◌^◌, [], if◌then◌else◌, length, nat_eq, unwrap_or};
-ghost use Rattle.micromap.specs.Pairs.{at, fits, put};
+ghost use Rattle.micromap.specs.Pairs.{at, fits, put_if_fits};
 
 use micromap::Map;
 use std::marker::Model;
@@ -44,7 +44,7 @@ impl<const N: usize> Stock<N> {
     // Sets the number of pieces of an article, and returns whether there was room for it.
     fn set(&mut self, article: u32, pieces: u32) -> bool
         ensures answer { result ≡ fits nat_eq N self.old article }
-        ensures stock { self.new ≡ (if fits nat_eq N self.old article then put nat_eq self.old article pieces else self.old) }
+        ensures stock { self.new ≡ put_if_fits nat_eq N self.old article pieces }
     {
         self.pieces.checked_insert(article, pieces).is_some()
     }
@@ -54,7 +54,7 @@ impl<const N: usize> Stock<N> {
     pub fn deliver(&mut self, article: u32, pieces: u32) -> u32
         requires { unwrap_or (at nat_eq self.old article) 0 + pieces < 2 ^ 32 }
         ensures answer { result ≡ (if fits nat_eq N self.old article then unwrap_or (at nat_eq self.old article) 0 + pieces else 0) }
-        ensures stock { self.new ≡ (if fits nat_eq N self.old article then put nat_eq self.old article (unwrap_or (at nat_eq self.old article) 0 + pieces) else self.old) }
+        ensures stock { self.new ≡ put_if_fits nat_eq N self.old article (unwrap_or (at nat_eq self.old article) 0 + pieces) }
     {
         let sum = self.pieces(article) + pieces;
         self.set(article, sum);

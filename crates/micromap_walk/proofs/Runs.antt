@@ -1,4 +1,4 @@
--- What a run of calls of `next` gives, at a walk that is seen as the list of what is left.
+-- What calls of `next` yield in turn, from an iterator that is seen as the list of the items left.
 use Rattle.std.proofs.Common.{List, length, Option, Some, None, ap, arith}
 use Rattle.std.proofs.iter.runs.Sources.{from_front, as_is}
 use Rattle.std.specs.Bool.{⊤}

@@ -1,4 +1,4 @@
--- What a slot ends as where a `&mut` to its item is returned.
+-- A slot after a write through a `&mut` to its item.
 use Rattle.std.specs.Prelude.{Option, Some}
 use Rattle.std.specs.Borrow.{Lends, Fml, RattleType, MutBor}
 use Rattle.std.specs.contracts.option.Option.{the_row as option_row}

@@ -1,17 +1,16 @@
 //! Reading a map from an object, and a set from an array.
-ghost use Rattle.std.specs.Prelude.{◌≡◌, ◌≢◌, ◌<◌, length, IfOk, IfErr, MatchResult, Ok, Err, ok_or, option_map, string_bytes, bytes_eq, if◌then◌else◌};
+ghost use Rattle.std.specs.Prelude.{◌≡◌, ◌≢◌, ◌<◌, length, IfOk, IfErr, MatchResult, Ok, Err, ok_or, option_map, string_bytes};
 ghost use Rattle.std.specs.Ordering.{int_eq};
 ghost use Rattle.std.specs.Result.{result_map_both};
 ghost use Rattle.std.specs.String.{string_eq};
 ghost use Rattle.serde_json.specs.Find.{as_str};
 ghost use Rattle.serde_json.specs.Read.{read as value_of};
 ghost use Rattle.serde_json.specs.View.{view, items_view, members_view};
-ghost use Rattle.micromap.specs.Extend.{distinct};
-ghost use Rattle.micromap.specs.Json.{pairs_for, texts_for, and_then, items_for, whole_number, whole_members, all_texts, in_bytes, texts_of, Pairs, HasPairs, IsFault};
+ghost use Rattle.micromap.specs.Json.{pairs_for, pairs_in, texts_for, texts_in, whole_number, in_bytes, texts_of, Pairs, HasPairs, IsFault};
 ghost use Rattle.micromap.specs.Items.{IsItems};
-ghost use Rattle.micromap.specs.Pairs.{IsContent, fits, put};
+ghost use Rattle.micromap.specs.Pairs.{IsContent, fits, put, put_if_fits};
 ghost use Rattle.micromap.specs.Same.{Same};
-ghost use Rattle.micromap.specs.declared.json.JsonFault.TheVariants.{BadText, NotWhole, NotText, Memory};
+ghost use Rattle.micromap.specs.declared.json.JsonFault.TheVariants.{BadText, Memory};
 
 use super::JsonFault;
 use crate::{Map, Set};
@@ -70,7 +69,7 @@ fn read(alloc: Global, text: &str) -> Result<Value, JsonFault>
 fn map_of_members<const N: usize>(
     members: serde_json::Map<String, Value>,
 ) -> Result<Map<String, i64, N>, JsonFault>
-    ensures answer { result_map_both in_bytes (λ fault. fault) result ≡ and_then (ok_or (whole_members (members_view members.entries)) NotWhole) (items_for N) }
+    ensures answer { result_map_both in_bytes (λ fault. fault) result ≡ pairs_in N (members_view members.entries) }
     ensures no_memory { IfErr result (λ fault. fault ≢ Memory) }
     ensures content { IfOk result (IsContent string_eq N) }
 {
@@ -80,9 +79,7 @@ fn map_of_members<const N: usize>(
         let Some(whole) = whole_of(value) else {
             return Err(JsonFault::NotWhole);
         };
-        if !put(&mut map, name, whole) {
-            all_fit = false;
-        }
+        all_fit &= put(&mut map, name, whole);
     }
     let _content = map.len();
     if all_fit {
@@ -101,15 +98,15 @@ fn whole_of(value: Value) -> Option<i64>
 // Inserts the pair if it fits, by one scan, and returns whether it did.
 fn put<const N: usize>(map: &mut Map<String, i64, N>, name: String, whole: i64) -> bool
     ensures answer { result ≡ fits string_eq N map.old name }
-    ensures pairs { map.new ≡ (if fits string_eq N map.old name then put string_eq map.old name whole else map.old) }
+    ensures pairs { map.new ≡ put_if_fits string_eq N map.old name whole }
 {
     map.checked_insert(name, whole).is_some()
 }
 
 // Creates the set of these elements. All are looked at before any is inserted.
 fn set_of_elements<const N: usize>(elements: Vec<Value>) -> Result<Set<String, N>, JsonFault>
-    ensures texts { IfOk result (λ set. and_then (ok_or (all_texts (items_view elements.items)) NotText) (λ texts. items_for N (distinct bytes_eq texts)) ≡ Ok (texts_of set)) }
-    ensures fault { IfErr result (λ fault. and_then (ok_or (all_texts (items_view elements.items)) NotText) (λ texts. items_for N (distinct bytes_eq texts)) ≡ Err fault) }
+    ensures texts { IfOk result (λ set. texts_in N (items_view elements.items) ≡ Ok (texts_of set)) }
+    ensures fault { IfErr result (λ fault. texts_in N (items_view elements.items) ≡ Err fault) }
     ensures no_memory { IfErr result (λ fault. fault ≢ Memory) }
     ensures content { IfOk result (IsItems string_eq N) }
 {
@@ -119,9 +116,7 @@ fn set_of_elements<const N: usize>(elements: Vec<Value>) -> Result<Set<String, N
         let Some(text) = text_of(element) else {
             return Err(JsonFault::NotText);
         };
-        if !set.put(text) {
-            all_fit = false;
-        }
+        all_fit &= set.put(text);
     }
     let _content = set.len();
     if all_fit {

@@ -1,9 +1,10 @@
 //! Writing a map as an object, and a set as an array.
 ghost use Rattle.std.specs.Prelude.{◌≡◌, ℕ, ◌≤◌, length, IfOk, IfErr, Ok, Some, string_bytes};
 ghost use Rattle.serde_json.specs.Data.{array, depth};
+ghost use Rattle.serde_json.specs.Read.{read};
 ghost use Rattle.serde_json.specs.View.{view};
 ghost use Rattle.serde_json.specs.Written.{compact_text};
-ghost use Rattle.micromap.specs.Json.{HasPairs, array_texts, elements, texts_for, texts_of, whole_number};
+ghost use Rattle.micromap.specs.Json.{HasPairs, elements, texts_for, texts_of, whole_number};
 ghost use Rattle.micromap.specs.declared.json.JsonFault.TheVariants.{Memory};
 
 use super::JsonFault;
@@ -33,7 +34,7 @@ pub fn map_to_json<const N: usize>(
 ///
 /// Allocates memory for a copy of each item and for the text.
 pub fn set_to_json<const N: usize>(alloc: Global, set: &Set<String, N>) -> Result<String, JsonFault>
-    ensures array { IfOk result (λ text. array_texts (string_bytes text) ≡ Ok (texts_of set.now)) }
+    ensures array { IfOk result (λ text. read (string_bytes text) ≡ Some (array (elements set.now))) }
     ensures again { IfOk result (λ text. (M : ℕ) → length set.now ≤ M → texts_for M (string_bytes text) ≡ Ok (texts_of set.now)) }
     ensures text { IfOk result (λ text. string_bytes text ≡ compact_text (array (elements set.now))) }
     ensures fault { IfErr result (λ fault. fault ≡ Memory) }

@@ -1,6 +1,7 @@
 //! Inserting and removing items.
 ghost use Rattle.std.specs.Prelude.{◌≡◌, [], Some, None, IsTrue, not, if◌then◌else◌, drop, slice_get};
-ghost use Rattle.micromap.specs.Items.{add, contains, exchange, item, item_fits, take_item};
+ghost use Rattle.std.specs.Set.{is_member};
+ghost use Rattle.micromap.specs.Items.{put_item, put_item_if_fits, replace_item, find_item, item_fits, take_item};
 
 use super::{Set, item_of};
 
@@ -17,75 +18,84 @@ impl<T: Eq + Drop, const N: usize> Set<T, N> {
     /// Requires that an equal item is stored or the set has room, which `fits` tests. A stored item stays. A new item
     /// goes last. Makes one scan.
     #[inline]
-    pub fn insert(&mut self, x: T) -> bool
-        requires { IsTrue (item_fits T.eq N self.old x) }
-        ensures answer { result ≡ not (contains T.eq self.old x) }
-        ensures items { self.new ≡ add T.eq self.old x }
+    pub fn insert(&mut self, item: T) -> bool
+        requires { IsTrue (item_fits T.eq N self.old item) }
+        ensures answer { result ≡ not (is_member T.eq self.old item) }
+        ensures items { self.new ≡ put_item T.eq self.old item }
     {
-        self.map.insert(x, ()).is_none()
+        self.map.insert(item, ()).is_none()
     }
 
-    /// Does what `insert` does, with the same precondition.
+    /// Inserts the item as `insert` does, with the same precondition. It is safe, and kept for ported code.
     #[inline]
-    pub fn insert_unchecked(&mut self, x: T) -> bool
-        requires { IsTrue (item_fits T.eq N self.old x) }
-        ensures answer { result ≡ not (contains T.eq self.old x) }
-        ensures items { self.new ≡ add T.eq self.old x }
+    pub fn insert_unchecked(&mut self, item: T) -> bool
+        requires { IsTrue (item_fits T.eq N self.old item) }
+        ensures answer { result ≡ not (is_member T.eq self.old item) }
+        ensures items { self.new ≡ put_item T.eq self.old item }
     {
-        self.insert(x)
+        self.insert(item)
     }
 
     /// Inserts the item in the place of an equal one or last, and returns the one that was there, or `None`.
     ///
     /// Requires that an equal item is stored or the set has room, which `fits` tests. Makes one scan.
     #[inline]
-    pub fn replace(&mut self, x: T) -> Option<T>
-        requires { IsTrue (item_fits T.eq N self.old x) }
-        ensures old { result ≡ item T.eq self.old x }
-        ensures items { self.new ≡ exchange T.eq self.old x }
+    pub fn replace(&mut self, item: T) -> Option<T>
+        requires { IsTrue (item_fits T.eq N self.old item) }
+        ensures old { result ≡ find_item T.eq self.old item }
+        ensures items { self.new ≡ replace_item T.eq self.old item }
     {
-        item_of(self.map.insert_key_value(x, ()))
+        item_of(self.map.insert_key_value(item, ()))
     }
 
-    /// Inserts the item if it is new and fits, and returns it if an equal one is stored.
+    /// Inserts the item if it fits. Returns `Some(item)` if an equal one is stored, else `None`, inserted or refused.
     ///
-    /// If an equal item is stored, the result is `Some(x)`, and the set is unchanged. If the item is new and there is
-    /// room, it goes last, and the result is `None`. If it is new and the set is full, the result is `None` too, the
-    /// set is unchanged, and the item is dropped. Makes one scan, and a second one for a stored item if the set isn't
-    /// full.
+    /// A stored item stays, and the one that was passed is returned. A new item goes last. A new item doesn't fit a
+    /// full set: then the set is unchanged, and the item is dropped. `fits` tells whether it fits. Makes one scan, and
+    /// a second one for a stored item if the set isn't full.
+    ///
+    /// ```
+    /// let mut seen: Set<u8, 2> = Set::new();
+    /// assert_eq!(rt; seen.checked_insert(1), None);
+    /// assert_eq!(rt; seen.checked_insert(1), Some(1));
+    /// ```
     #[inline]
-    pub fn checked_insert(&mut self, x: T) -> Option<T>
-        ensures answer { result ≡ (if contains T.eq self.old x then Some x else None) }
-        ensures items { self.new ≡ (if item_fits T.eq N self.old x then add T.eq self.old x else self.old) }
+    pub fn checked_insert(&mut self, item: T) -> Option<T>
+        ensures answer { result ≡ (if is_member T.eq self.old item then Some item else None) }
+        ensures items { self.new ≡ put_item_if_fits T.eq N self.old item }
     {
         if self.len() < N {
-            // `x` stands where the equal item was. Now that item goes back, and `x` comes out.
-            let stored = self.replace(x)?;
+            // `item` stands where the equal item was. Now that item goes back, and `item` comes out.
+            let stored = self.replace(item)?;
             return self.replace(stored);
         }
-        if self.contains(&x) { Some(x) } else { None }
+        if self.contains(&item) {
+            Some(item)
+        } else {
+            None
+        }
     }
 
-    /// Removes the item that equals `x`, and returns it, or `None` if there is none.
+    /// Removes the item that equals `item`, and returns it, or `None` if there is none.
     ///
     /// The others keep their order: those behind it move up by one. After `None` the set is unchanged. Makes one scan.
     #[inline]
-    pub fn take(&mut self, x: &T) -> Option<T>
-        ensures answer { result ≡ item T.eq self.old x.now }
-        ensures items { self.new ≡ take_item T.eq self.old x.now }
+    pub fn take(&mut self, item: &T) -> Option<T>
+        ensures answer { result ≡ find_item T.eq self.old item.now }
+        ensures items { self.new ≡ take_item T.eq self.old item.now }
     {
-        item_of(self.map.remove_entry(x))
+        item_of(self.map.remove_entry(item))
     }
 
-    /// Removes the item that equals `x`, and returns `true` if there was one.
+    /// Removes the item that equals `item`, and returns `true` if there was one.
     ///
     /// The others keep their order: those behind it move up by one. After `false` the set is unchanged. Makes one scan.
     #[inline]
-    pub fn remove(&mut self, x: &T) -> bool
-        ensures answer { result ≡ contains T.eq self.old x.now }
-        ensures items { self.new ≡ take_item T.eq self.old x.now }
+    pub fn remove(&mut self, item: &T) -> bool
+        ensures answer { result ≡ is_member T.eq self.old item.now }
+        ensures items { self.new ≡ take_item T.eq self.old item.now }
     {
-        self.map.remove(x).is_some()
+        self.map.remove(item).is_some()
     }
 
     /// Removes the first item, and returns it, or `None` if the set is empty.

@@ -1,11 +1,11 @@
 //! Inserting the items of an iterator, one after the other, as `insert` does. Each distinct item is stored as it first
 //! came, in that order.
-ghost use Rattle.std.specs.Prelude.{◌≡◌, ◌+◌, ◌≤◌, [], length, take, IfOk, IfErr, IsTrue, if◌then◌else◌};
+ghost use Rattle.std.specs.Prelude.{◌≡◌, ◌+◌, ◌≤◌, [], length, take, IfOk, IfErr, IsTrue};
 ghost use Rattle.std.specs.Iterator.{UpTo};
-ghost use Rattle.std.specs.Iterator.Runs.{SomeRun, WholeRun};
-ghost use Rattle.micromap.specs.Build.{most_items};
-ghost use Rattle.micromap.specs.Extend.{add_all, all_items_fit, distinct, ItemMisfitIn};
-ghost use Rattle.micromap.specs.Items.{IsItems, add, item_fits};
+ghost use Rattle.std.specs.Iterator.Runs.{WholeRun};
+ghost use Rattle.micromap.specs.Build.{FirstItems, most_items};
+ghost use Rattle.micromap.specs.Extend.{put_all_items, all_items_fit, distinct, ItemMisfitIn};
+ghost use Rattle.micromap.specs.Items.{IsItems, put_item_if_fits, item_fits};
 
 use super::Set;
 use crate::Overfull;
@@ -13,23 +13,30 @@ use crate::Overfull;
 impl<T: Eq + Drop, const N: usize> Set<T, N> {
     // Inserts the item if it fits, by one scan, and returns whether it did.
     #[inline]
-    pub(crate) fn put(&mut self, x: T) -> bool
-        ensures answer { result ≡ item_fits T.eq N self.old x }
-        ensures items { self.new ≡ (if item_fits T.eq N self.old x then add T.eq self.old x else self.old) }
+    pub(crate) fn put(&mut self, item: T) -> bool
+        ensures answer { result ≡ item_fits T.eq N self.old item }
+        ensures items { self.new ≡ put_item_if_fits T.eq N self.old item }
     {
-        self.map.checked_insert(x, ()).is_some()
+        self.map.checked_insert(item, ()).is_some()
     }
 
     /// Inserts the items of an iterator, or returns the position of the first item that doesn't fit, counted from 0.
     ///
     /// Requires that the iterator ends, after fewer than `usize::MAX` items. After an `Err`, the set is full, and has all
     /// items before that position. The item at it is dropped, and no later item is taken. Makes one scan for each item.
+    ///
+    /// ```
+    /// let mut seen: Set<u8, 2> = Set::new();
+    /// let ended = seen.try_extend([5, 5, 6, 7].into_iter());
+    /// assert_eq!(rt; ended, Err(Overfull { at: 3 }));
+    /// assert!(rt; seen.iter().eq(&[5, 6]));
+    /// ```
     pub fn try_extend<I: Iterator<Item = T>>(&mut self, items: I) -> Result<(), Overfull>
         requires can { I.can_next items }
         requires ends { UpTo (I.remaining items) most_items }
-        ensures runs { IfOk result (λ _. WholeRun I.next_gives items (λ p. self.new ≡ add_all T.eq self.old p.items)) }
-        ensures stops { IfErr result (λ e. SomeRun I.next_gives items (λ p. (p.len ≡ e.at + 1) × ItemMisfitIn T.eq N self.old p.items e.at)) }
-        ensures before { IfErr result (λ e. SomeRun I.next_gives items (λ p. (p.len ≡ e.at + 1) × (self.new ≡ add_all T.eq self.old (take e.at p.items)))) }
+        ensures runs { IfOk result (λ _. WholeRun I.next_gives items (λ p. self.new ≡ put_all_items T.eq self.old p.items)) }
+        ensures stops { IfErr result (λ e. FirstItems I.next_gives items (e.at + 1) (λ xs. ItemMisfitIn T.eq N self.old xs e.at)) }
+        ensures before { IfErr result (λ e. FirstItems I.next_gives items (e.at + 1) (λ xs. self.new ≡ put_all_items T.eq self.old (take e.at xs))) }
         ensures full { IfErr result (λ _. length self.new ≡ N) }
     {
         let mut at = 0;
@@ -54,7 +61,7 @@ impl<T: Eq + Drop, const N: usize> Set<T, N> {
         requires can { I.can_next items }
         requires ends { UpTo (I.remaining items) most_items }
         ensures runs { IfOk result (λ new. WholeRun I.next_gives items (λ p. new ≡ distinct T.eq p.items)) }
-        ensures stops { IfErr result (λ e. SomeRun I.next_gives items (λ p. (p.len ≡ e.at + 1) × ItemMisfitIn T.eq N [] p.items e.at)) }
+        ensures stops { IfErr result (λ e. FirstItems I.next_gives items (e.at + 1) (λ xs. ItemMisfitIn T.eq N [] xs e.at)) }
         ensures full { IfErr result (λ e. N ≤ e.at) }
         ensures content { IfOk result (IsItems T.eq N) }
     {

@@ -1,7 +1,7 @@
 //! Subsets and disjoint sets. The two sets may have different capacities.
 ghost use Rattle.std.specs.Prelude.{◌≡◌, ◌↔◌, [], not, IsTrue};
 ghost use Rattle.std.specs.List.{list_all};
-ghost use Rattle.micromap.specs.Items.{contains};
+ghost use Rattle.std.specs.Set.{is_member};
 ghost use Rattle.micromap.specs.Operations.{difference, intersection};
 
 use super::Set;
@@ -12,7 +12,7 @@ impl<T: Eq, const N: usize> Set<T, N> {
     /// Compares no item if this set has more items. Else it makes one scan of `other` for each item, up to the first
     /// that has no equal one.
     pub fn is_subset<const M: usize>(&self, other: &Set<T, M>) -> bool
-        ensures answer { result ≡ list_all (contains T.eq other.now) self.now }
+        ensures answer { result ≡ list_all (is_member T.eq other.now) self.now }
         ensures nothing_beyond { IsTrue result ↔ (difference T.eq self.now other.now ≡ []) }
     {
         // With fewer items in `other`, not each of these can have an equal one.
@@ -24,7 +24,7 @@ impl<T: Eq, const N: usize> Set<T, N> {
 
     /// Returns `true` if each item of `other` has an equal one in this set. It is `other.is_subset(self)`.
     pub fn is_superset<const M: usize>(&self, other: &Set<T, M>) -> bool
-        ensures { result ≡ list_all (contains T.eq self.now) other.now }
+        ensures { result ≡ list_all (is_member T.eq self.now) other.now }
     {
         other.is_subset(self)
     }
@@ -34,8 +34,8 @@ impl<T: Eq, const N: usize> Set<T, N> {
     /// Makes one scan of the longer set for each item of the shorter, up to the first that has an equal one. If both
     /// are equally long, it takes the items of this set.
     pub fn is_disjoint<const M: usize>(&self, other: &Set<T, M>) -> bool
-        ensures answer { result ≡ list_all (λ x. not (contains T.eq other.now x)) self.now }
-        ensures turned { result ≡ list_all (λ x. not (contains T.eq self.now x)) other.now }
+        ensures answer { result ≡ list_all (λ x. not (is_member T.eq other.now x)) self.now }
+        ensures turned { result ≡ list_all (λ x. not (is_member T.eq self.now x)) other.now }
         ensures nothing_common { IsTrue result ↔ (intersection T.eq self.now other.now ≡ []) }
     {
         if self.len() <= other.len() {
@@ -47,7 +47,7 @@ impl<T: Eq, const N: usize> Set<T, N> {
 
     // Returns `true` if each item has an equal one in `other`, by a scan for each.
     fn is_within<const M: usize>(&self, other: &Set<T, M>) -> bool
-        ensures { result ≡ list_all (contains T.eq other.now) self.now }
+        ensures { result ≡ list_all (is_member T.eq other.now) self.now }
     {
         for x in self {
             if !other.contains(x) {
@@ -59,7 +59,7 @@ impl<T: Eq, const N: usize> Set<T, N> {
 
     // Returns `true` if no item has an equal one in `other`, by a scan for each.
     fn is_apart_from<const M: usize>(&self, other: &Set<T, M>) -> bool
-        ensures { result ≡ list_all (λ x. not (contains T.eq other.now x)) self.now }
+        ensures { result ≡ list_all (λ x. not (is_member T.eq other.now x)) self.now }
     {
         for x in self {
             if other.contains(x) {

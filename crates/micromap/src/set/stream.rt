@@ -12,7 +12,7 @@ use crate::stream::{EntrySink, EntrySource, ReadFault};
 impl<T: Eq, const N: usize> Set<T, N> {
     /// Writes the items to the sink, from the front, up to the sink's first error, which is returned.
     ///
-    /// Requires that the sink has returned fewer than `u128::MAX` errors.
+    /// Requires `sink.faults() < u128::MAX`. Compares nothing.
     pub fn write_entries<S: EntrySink<T, ()>>(&self, sink: &mut S) -> Result<(), S::Error>
         requires { S.faults sink.old < most_faults }
         ensures whole { OnOk result (S.taken sink.new ≡ S.taken sink.old ++ entries_of self.now) }
@@ -27,10 +27,9 @@ impl<T: Eq, const N: usize> Set<T, N> {
 impl<T: Eq + Drop, const N: usize> Set<T, N> {
     /// Creates a set of the items left in the source, as `insert` inserts them.
     ///
-    /// Requires that the source has returned fewer than `u128::MAX` errors. Each distinct item is stored as it first
-    /// came, in that order. Reading ends at the end of the source, at its first error, or at the first item that
-    /// doesn't fit. Nothing after that is taken. After an `Err` the items taken are dropped. Makes one scan for each
-    /// item.
+    /// Requires `source.faults() < u128::MAX`. Each distinct item is stored as it first came, in that order. Reading
+    /// ends at the end of the source, at its first error, or at the first item that doesn't fit. Nothing after that is
+    /// taken. After an `Err` the items taken are dropped. Makes one scan for each item.
     pub fn read_entries<S: EntrySource<T, ()>>(source: &mut S) -> Result<Self, ReadFault<S::Error>>
         requires { S.faults source.old < most_faults }
         ensures reads { SetReads T.eq N S.left S.faults S.last_fault source.old source.new result }

@@ -14,6 +14,15 @@ impl<K: Eq, V, const N: usize> Map<K, V, N> {
     ///
     /// It is occupied if an equal key is stored; then `key` is dropped. Else it is vacant, and holds `key`. Makes one
     /// scan.
+    ///
+    /// ```
+    /// if counts.fits(&letter) {
+    ///     counts
+    ///         .entry(letter)
+    ///         .and_modify(|count| *count = count.saturating_add(1))
+    ///         .or_insert(1);
+    /// }
+    /// ```
     #[inline]
     pub fn entry(&mut self, key: K) -> Entry<'_, K, V, N>
     where

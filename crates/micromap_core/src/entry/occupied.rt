@@ -1,5 +1,4 @@
-//! The calls of `OccupiedEntry`. In a clause, `self.exit.0.now` is the map behind the reference that the entry held,
-//! after the entry is consumed.
+//! The calls of `OccupiedEntry`.
 ghost use Rattle.std.specs.Prelude.{◌≡◌, Some, slice_get};
 ghost use Rattle.std.specs.Borrow.{sem};
 ghost use Rattle.micromap_core.specs.Entry.{Occupied, entry_key, entry_value, entry_taken, IsSound, IsWritten, entry_lends, occupied_lends};

@@ -1,5 +1,4 @@
-//! The calls of `VacantEntry`. In a clause, `self.exit.0.now` is the map behind the reference that the entry held,
-//! after the entry is consumed.
+//! The calls of `VacantEntry`.
 ghost use Rattle.std.specs.Prelude.{◌≡◌, Some, IsTrue};
 ghost use Rattle.std.specs.Borrow.{sem};
 ghost use Rattle.micromap_core.specs.Entry.{Occupied, Vacant, entry_key, entry_pairs, entry_has_room, IsSound, IsWritten, entry_lends};

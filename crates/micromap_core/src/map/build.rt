@@ -2,8 +2,8 @@
 //! each distinct key first came. Each has the value of its last item.
 ghost use Rattle.std.specs.Prelude.{◌≡◌, ◌+◌, ◌≤◌, length, take, IsTrue, IfOk, IfErr};
 ghost use Rattle.std.specs.Iterator.{UpTo};
-ghost use Rattle.std.specs.Iterator.Runs.{SomeRun, WholeRun};
-ghost use Rattle.micromap_core.specs.Build.{all_fit, build, MisfitIn, most_items, pair_fits, put_all, put_pair, StopsAt};
+ghost use Rattle.std.specs.Iterator.Runs.{WholeRun};
+ghost use Rattle.micromap_core.specs.Build.{all_fit, build, FirstItems, MisfitIn, most_items, pair_fits, put_all, put_pair, StopsAt};
 ghost use Rattle.micromap_core.specs.Pairs.{IsContent};
 
 use super::Map;
@@ -56,8 +56,8 @@ impl<K: Eq + Drop, V: Drop, const N: usize> Map<K, V, N> {
         requires can { I.can_next items }
         requires ends { UpTo (I.remaining items) most_items }
         ensures runs { IfOk result (λ _. WholeRun I.next_gives items (λ p. self.new ≡ put_all K.eq self.old p.items)) }
-        ensures stops { IfErr result (λ e. SomeRun I.next_gives items (λ p. (p.len ≡ e.at + 1) × StopsAt (pair_fits K.eq N) (put_pair K.eq) self.old p.items e.at)) }
-        ensures before { IfErr result (λ e. SomeRun I.next_gives items (λ p. (p.len ≡ e.at + 1) × (self.new ≡ put_all K.eq self.old (take e.at p.items)))) }
+        ensures stops { IfErr result (λ e. FirstItems I.next_gives items (e.at + 1) (λ xs. StopsAt (pair_fits K.eq N) (put_pair K.eq) self.old xs e.at)) }
+        ensures before { IfErr result (λ e. FirstItems I.next_gives items (e.at + 1) (λ xs. self.new ≡ put_all K.eq self.old (take e.at xs))) }
         ensures full { IfErr result (λ _. length self.new ≡ N) }
     {
         let mut at = 0;
@@ -82,7 +82,7 @@ impl<K: Eq + Drop, V: Drop, const N: usize> Map<K, V, N> {
         requires can { I.can_next items }
         requires ends { UpTo (I.remaining items) most_items }
         ensures runs { IfOk result (λ map. WholeRun I.next_gives items (λ p. map ≡ build K.eq p.items)) }
-        ensures stops { IfErr result (λ e. SomeRun I.next_gives items (λ p. (p.len ≡ e.at + 1) × MisfitIn K.eq N p.items e.at)) }
+        ensures stops { IfErr result (λ e. FirstItems I.next_gives items (e.at + 1) (λ xs. MisfitIn K.eq N xs e.at)) }
         ensures full { IfErr result (λ e. N ≤ e.at) }
         ensures content { IfOk result (IsContent K.eq N) }
     {

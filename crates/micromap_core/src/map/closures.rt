@@ -6,9 +6,8 @@ ghost use Rattle.std.specs.Prelude.{◌≡◌, map};
 ghost use Rattle.std.specs.Map.{keys_of};
 ghost use Rattle.std.specs.Map.Calls.{CallableOnEachPair, RetainsPairs};
 ghost use Rattle.std.specs.Set.{distinct_count};
-ghost use Rattle.micromap_core.specs.Closures.{AcceptsPair, CalledOnPair, MayUpdateAll, MayUpdateDisjoint, UpdatesAll, UpdatesDisjoint};
+ghost use Rattle.micromap_core.specs.Closures.{AcceptsPair, CalledOnPair, IsSublist, MayUpdateAll, MayUpdateDisjoint, UpdatesAll, UpdatesDisjoint};
 ghost use Rattle.micromap_core.specs.Pairs.{has};
-ghost use Rattle.micromap_core.specs.Closures.{IsSublist};
 
 use super::Map;
 
@@ -41,8 +40,15 @@ impl<K: Eq, V, const N: usize> Map<K, V, N> {
 
     /// Calls `update` on the value of each of `keys` that is stored, and returns which of them are stored.
     ///
-    /// Requires pairwise unequal keys, which `==` of them tests. `update` is called with a key's position in `keys` and
-    /// a mutable reference to its value, in the order of `keys`. No other value changes. Makes one scan for each key.
+    /// No two of `keys` may be equal, stored or not, which `==` of them tests. `update` is called with a key's position
+    /// in `keys` and a mutable reference to its value, in the order of `keys`. No other value changes. Makes one scan
+    /// for each key.
+    ///
+    /// ```
+    /// let mut map: Map<u8, usize, 2> = Map::from([(1, 10), (2, 20)]);
+    /// let found = map.update_disjoint(&[2, 9], |position, value| *value = position);
+    /// assert_eq!(rt; found, [true, false]);
+    /// ```
     pub fn update_disjoint<const J: usize, F: FnMut(usize, &mut V)>(
         &mut self,
         keys: &[K; J],

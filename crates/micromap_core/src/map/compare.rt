@@ -15,8 +15,7 @@ impl<K: Eq, V: Eq, const N: usize> Map<K, V, N> {
     /// other. Neither order nor capacity matters.
     ///
     /// The result is `true` exactly if no fair list of keyed calls tells the two maps apart. After `true`, every fair
-    /// list of calls has results that agree, and leaves the two maps the same. A list of calls is fair if, at each
-    /// insertion of a key that neither map has at that moment, both have room or neither has.
+    /// list of calls has results that agree, and leaves the two maps the same. `specs/Fair` defines fair.
     ///
     /// Compares no key if the lengths differ. Else it makes one scan of `other` for each key of this map, up to and
     /// including the first that `other` lacks or has with an unequal value. At most as many keys are compared as the
@@ -37,6 +36,12 @@ impl<K: Eq, V: Eq, const N: usize> Map<K, V, N> {
     ///
     /// It is the first key of this map that `other` lacks or has with an unequal value. If there is none, it is the
     /// first key of `other` that this map lacks. Each key that is tried costs one scan of the other map.
+    ///
+    /// ```
+    /// let first = Map::from([(1, 10), (2, 20)]);
+    /// let second = Map::from([(2, 20), (1, 11)]);
+    /// assert_eq!(rt; first.differs_at(&second), Some(&1));
+    /// ```
     pub fn differs_at<'a, const M: usize>(&'a self, other: &'a Map<K, V, M>) -> Option<&'a K>
         ensures answer { option_copied result ≡ first_difference K.eq V.eq self.now other.now }
         ensures none { IsNone result ↔ Same K.eq V.eq self.now other.now }

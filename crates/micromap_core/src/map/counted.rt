@@ -14,7 +14,7 @@ use crate::steps::Steps;
 impl<K: Eq, V, const N: usize> Map<K, V, N> {
     /// Returns what `get` returns, and adds the number of keys compared to `steps`.
     ///
-    /// Requires that `steps` has room for the length. Adds the index of the key plus one, or the length if the key is
+    /// Requires `steps.count() + len() < 2^128`. Adds the index of the key plus one, or the length if the key is
     /// missing.
     pub fn get_counted(&self, key: &K, steps: &mut Steps) -> Option<&V>
         requires { steps.old + length self.now < 2 ^ 128 }
@@ -48,9 +48,9 @@ impl<K: Eq, V, const N: usize> Map<K, V, N> {
 impl<K: Eq, V: Eq, const N: usize> Map<K, V, N> {
     /// Returns what `eq_with` returns, and adds the number of keys compared to `steps`.
     ///
-    /// Requires that `steps` has room for the length times itself, even if the lengths differ. A new counter has it.
-    /// Adds nothing if the lengths differ. Else it adds what `get_counted` on `other` adds for each key of this map, up
-    /// to and including the first that `other` lacks or has with an unequal value.
+    /// Requires `steps.count() + len() * len() < 2^128`, at any length of `other`. Adds nothing if the lengths differ.
+    /// Else it adds what `get_counted` on `other` adds for each key of this map, up to and including the first that
+    /// `other` lacks or has with an unequal value.
     pub fn eq_with_counted<const M: usize>(&self, other: &Map<K, V, M>, steps: &mut Steps) -> bool
         requires { steps.old + length self.now * length self.now < 2 ^ 128 }
         ensures answer { IsTrue result ↔ Same K.eq V.eq self.now other.now }

@@ -1,6 +1,6 @@
 //! Inserting a pair.
 ghost use Rattle.std.specs.Prelude.{◌≡◌, Some, None, IsTrue, if◌then◌else◌};
-ghost use Rattle.micromap_core.specs.Pairs.{at, pair, fits, put, put_key};
+ghost use Rattle.micromap_core.specs.Pairs.{at, pair, fits, put, put_if_fits, put_key};
 
 use super::Map;
 
@@ -24,7 +24,7 @@ impl<K: Eq + Drop, V: Drop, const N: usize> Map<K, V, N> {
         }
     }
 
-    /// Does what `insert` does, with the same precondition.
+    /// Inserts the pair as `insert` does, with the same precondition. It is safe, and kept for ported code.
     #[inline]
     pub fn insert_unchecked(&mut self, key: K, value: V) -> Option<V>
         requires { IsTrue (fits K.eq N self.old key) }
@@ -53,16 +53,22 @@ impl<K: Eq + Drop, V: Drop, const N: usize> Map<K, V, N> {
         }
     }
 
-    /// Inserts the pair if it fits, and returns `None` if it doesn't.
+    /// Inserts the pair if it fits. Returns `Some(Some(old))` at a stored key, `Some(None)` at a new one, else `None`.
     ///
-    /// If an equal key is stored, it stays, its value is replaced, and the result is `Some(Some(old_value))`, at a full
-    /// map too. If the key is new and there is room, the pair goes last, and the result is `Some(None)`. If the key is
-    /// new and the map is full, the result is `None`, the map is unchanged, and `key` and `value` are dropped. Makes
-    /// one scan.
+    /// A stored key stays, and its value is replaced, in a full map too. A new pair goes last. A pair with a new key
+    /// doesn't fit a full map: then the map is unchanged, and the key and the value are dropped. Makes one scan.
+    ///
+    /// ```
+    /// let mut map: Map<u64, &str, 2> = Map::new();
+    /// assert_eq!(rt; map.checked_insert(1, "foo"), Some(None));
+    /// assert_eq!(rt; map.checked_insert(2, "bar"), Some(None));
+    /// assert_eq!(rt; map.checked_insert(1, "baz"), Some(Some("foo")));
+    /// assert_eq!(rt; map.checked_insert(3, "qux"), None);
+    /// ```
     #[inline]
     pub fn checked_insert(&mut self, key: K, value: V) -> Option<Option<V>>
         ensures answer { result ≡ (if fits K.eq N self.old key then Some (at K.eq self.old key) else None) }
-        ensures pairs { self.new ≡ (if fits K.eq N self.old key then put K.eq self.old key value else self.old) }
+        ensures pairs { self.new ≡ put_if_fits K.eq N self.old key value }
     {
         match self.index_of(&key) {
             Some(index) => Some(Some(self.put_at(index, &key, value))),

@@ -9,7 +9,7 @@ use crate::stream::{EntrySink, EntrySource, ReadFault};
 impl<K: Eq, V, const N: usize> Map<K, V, N> {
     /// Writes the pairs to the sink, from the front, up to the sink's first error, which is returned.
     ///
-    /// Requires that the sink has returned fewer than `u128::MAX` errors.
+    /// Requires `sink.faults() < u128::MAX`. Compares nothing.
     pub fn write_entries<S: EntrySink<K, V>>(&self, sink: &mut S) -> Result<(), S::Error>
         requires { S.faults sink.old < most_faults }
         ensures whole { OnOk result (S.taken sink.new ≡ S.taken sink.old ++ self.now) }
@@ -27,10 +27,10 @@ impl<K: Eq, V, const N: usize> Map<K, V, N> {
 impl<K: Eq + Drop, V: Drop, const N: usize> Map<K, V, N> {
     /// Creates a map of the pairs left in the source, as `insert` inserts them.
     ///
-    /// Requires that the source has returned fewer than `u128::MAX` errors. The keys are stored in the order in which
-    /// each distinct key first came. Each has the value of its last pair. Reading ends at the end of the source, at its
-    /// first error, or at the first pair that doesn't fit. Nothing after that is taken. After an `Err` the pairs taken
-    /// are dropped. Makes one scan for each pair.
+    /// Requires `source.faults() < u128::MAX`. The keys are stored in the order in which each distinct key first came.
+    /// Each has the value of its last pair. Reading ends at the end of the source, at its first error, or at the first
+    /// pair that doesn't fit. Nothing after that is taken. After an `Err` the pairs taken are dropped. Makes one scan
+    /// for each pair.
     pub fn read_entries<S: EntrySource<K, V>>(source: &mut S) -> Result<Self, ReadFault<S::Error>>
         requires { S.faults source.old < most_faults }
         ensures reads { MapReads K.eq N S.left S.faults S.last_fault source.old source.new result }

@@ -1,5 +1,5 @@
 //! The keys and the values of a map, each in slots of their own. A pair is a key and the value at the same index.
-ghost use Rattle.std.specs.Prelude.{◌≡◌, ◌<◌, ◌≤◌, [], ◌∷◌, ◌++◌, length, take, Some, slice_get, slice_set};
+ghost use Rattle.std.specs.Prelude.{◌≡◌, ◌-◌, ◌<◌, ◌≤◌, [], ◌∷◌, ◌++◌, length, take, Some, slice_get, slice_set};
 ghost use Rattle.std.specs.Borrow.{sem};
 ghost use Rattle.std.specs.List.{remove, swap, zip};
 ghost use Rattle.std.specs.Map.{keys_of, values_of};
@@ -11,7 +11,7 @@ ghost use Rattle.micromap_core.specs.Columns.{lends_value_in};
 
 use super::Slots;
 use arrayvec::ArrayVec;
-use micromap_walk::slot::hint_equal;
+use micromap_walk::slot::{hint_below, hint_equal};
 use std::marker::Model;
 use std::mem;
 
@@ -128,6 +128,7 @@ impl<K, V, const N: usize> Columns<K, V, N> {
         requires callable { IfSome (slice_get self.old index) (λ p. AcceptsPair F.FnMut visit.old p.0 p.1) }
         ensures { VisitsAt (CalledOnPair F.FnMut) visit.old self.old index result visit.new self.new }
     {
+        hint_below(index, self.values.len());
         visit(self.keys.item_at(index), self.values.item_at_mut(index))
     }
 
@@ -196,13 +197,24 @@ impl<K: Drop, V: Drop, const N: usize> Columns<K, V, N> {
         (key, value)
     }
 
-    /// Keeps the first `len` pairs, and drops the others.
+    /// Removes and drops the last pair.
     #[inline]
-    pub(crate) fn truncate(&mut self, len: usize)
+    fn drop_last(&mut self)
+        requires { 0 < length self.old }
+        ensures { self.new ≡ take (length self.old - 1) self.old }
+    {
+        self.keys.drop_last();
+        self.values.drop_last();
+    }
+
+    /// Keeps the first `len` pairs, and drops the others, from the end.
+    #[inline]
+    fn truncate(&mut self, len: usize)
         ensures { self.new ≡ take len self.old }
     {
-        self.keys.truncate(len);
-        self.values.truncate(len);
+        while self.len() > len {
+            self.drop_last();
+        }
     }
 
     /// Keeps the pairs for which `keep` returns `true`, in their order, and drops the others.

@@ -4,7 +4,7 @@ ghost use Rattle.std.specs.Int.{saturate_signed, w32};
 ghost use Rattle.std.specs.Option.{option_map_or, unwrap_or};
 ghost use Rattle.micromap.specs.Entry.{IsSound, entry_has_room};
 ghost use Rattle.micromap_core.specs.declared.entry.EntryIn.TheVariants.{Occupied, Vacant};
-ghost use Rattle.micromap.specs.Pairs.{at, fits, has, put, take_out};
+ghost use Rattle.micromap.specs.Pairs.{at, fits, has, put, put_if_fits, take_out};
 
 use micromap::Map;
 use micromap::map::{Entry, OccupiedEntry, VacantEntry};
@@ -33,7 +33,7 @@ fn get_or_insert<const N: usize>(map: &mut Map<u8, u8, N>, key: u8, value: u8) -
 // Writes `value` at `key` if there is room for it, and returns whether there was.
 fn overwrite<const N: usize>(map: &mut Map<u8, u8, N>, key: u8, value: u8) -> bool
     ensures answer { result ≡ fits nat_eq N map.old key }
-    ensures pairs { map.new ≡ (if fits nat_eq N map.old key then put nat_eq map.old key value else map.old) }
+    ensures pairs { map.new ≡ put_if_fits nat_eq N map.old key value }
 {
     let entry = map.entry(key);
     if entry.has_room() {

@@ -33,6 +33,7 @@ fn put_and_get<const N: usize>(map: &mut Map<u8, u8, N>, key: u8, value: u8) -> 
 fn take_and_get<const N: usize>(map: &mut Map<u8, u8, N>, key: u8) -> Option<u8>
     ensures { result ≡ None }
 {
+    let _content = map.len();
     map.remove(&key);
     map.get(&key).copied()
 }

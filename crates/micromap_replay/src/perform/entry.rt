@@ -1,9 +1,9 @@
 //! Performs the calls of entries.
 ghost use Rattle.std.specs.Prelude.{◌≡◌, if◌then◌else◌};
 ghost use Rattle.std.specs.Option.{unwrap_or};
-ghost use Rattle.micromap.specs.Pairs.{at, has};
+ghost use Rattle.micromap.specs.Pairs.{at, has, put_if_fits};
 ghost use Rattle.micromap_replay.specs.declared.calls.map.EntryCall.TheVariants.{OrInsert, AndModifyOrInsert, InsertEntry, VacantInsert};
-ghost use Rattle.micromap_replay.specs.KeyedCalls.{after_entry, answer_entry, put_if_fits, raised, same_id};
+ghost use Rattle.micromap_replay.specs.KeyedCalls.{after_entry, answer_entry, raised, same_id};
 
 use super::Numbers;
 use crate::answer::{Answer, Pair};
@@ -44,7 +44,7 @@ pub(super) fn perform_entry<const N: usize>(map: &mut Numbers<N>, call: &EntryCa
 
 fn or_insert<const N: usize>(map: &mut Numbers<N>, key: Marked, value: i32) -> Answer
     ensures answer { result ≡ answer_entry N map.old (OrInsert key value) }
-    ensures map { map.new ≡ put_if_fits N map.old key (unwrap_or (at same_id map.old key) value) }
+    ensures map { map.new ≡ put_if_fits same_id N map.old key (unwrap_or (at same_id map.old key) value) }
 {
     let entry = map.entry(key);
     if entry.has_room() {
@@ -61,7 +61,7 @@ fn and_modify_or_insert<const N: usize>(
     value: i32,
 ) -> Answer
     ensures answer { result ≡ answer_entry N map.old (AndModifyOrInsert key amount value) }
-    ensures map { map.new ≡ (if has same_id map.old key then raised N map.old key amount else put_if_fits N map.old key value) }
+    ensures map { map.new ≡ (if has same_id map.old key then raised N map.old key amount else put_if_fits same_id N map.old key value) }
 {
     let entry = map
         .entry(key)
@@ -75,7 +75,7 @@ fn and_modify_or_insert<const N: usize>(
 
 fn insert_entry<const N: usize>(map: &mut Numbers<N>, key: Marked, value: i32) -> Answer
     ensures answer { result ≡ answer_entry N map.old (InsertEntry key value) }
-    ensures map { map.new ≡ put_if_fits N map.old key value }
+    ensures map { map.new ≡ put_if_fits same_id N map.old key value }
 {
     let entry = map.entry(key);
     if entry.has_room() {
@@ -88,7 +88,7 @@ fn insert_entry<const N: usize>(map: &mut Numbers<N>, key: Marked, value: i32) -
 
 fn vacant_insert<const N: usize>(map: &mut Numbers<N>, key: Marked, value: i32) -> Answer
     ensures answer { result ≡ answer_entry N map.old (VacantInsert key value) }
-    ensures map { map.new ≡ (if has same_id map.old key then map.old else put_if_fits N map.old key value) }
+    ensures map { map.new ≡ (if has same_id map.old key then map.old else put_if_fits same_id N map.old key value) }
 {
     match map.entry(key) {
         Entry::Occupied(_entry) => Answer::Occupied,

@@ -1,6 +1,6 @@
 //! The set as a user meets it, and two callers' proofs over its items. The modules are those of its calls.
-ghost use Rattle.std.specs.Prelude.{◌≡◌, ◌==◌, ◌%◌, if◌then◌else◌, nat_eq};
-ghost use Rattle.micromap.specs.Items.{add, item_fits};
+ghost use Rattle.std.specs.Prelude.{◌≡◌, ◌==◌, ◌%◌, nat_eq};
+ghost use Rattle.micromap.specs.Items.{put_item_if_fits};
 ghost use Rattle.std.specs.List.{filter};
 
 mod bitand;
@@ -56,7 +56,7 @@ fn begins<'a, I: Iterator<Item = &'a i32>>(
 
 // Puts a number, where there is room for it.
 fn note<const N: usize>(seen: &mut Set<u8, N>, number: u8)
-    ensures { seen.new ≡ (if item_fits nat_eq N seen.old number then add nat_eq seen.old number else seen.old) }
+    ensures { seen.new ≡ put_item_if_fits nat_eq N seen.old number }
 {
     seen.checked_insert(number);
 }

@@ -4,8 +4,8 @@ ghost use Rattle.std.specs.Prelude.{◌≡◌, IfErr, IfOk, nat_eq};
 ghost use Rattle.std.specs.List.{filter, find};
 ghost use Rattle.std.specs.Map.{keys_of};
 ghost use Rattle.std.specs.Option.{option_map};
+ghost use Rattle.std.specs.Set.{is_member};
 ghost use Rattle.micromap.specs.Build.{put_all};
-ghost use Rattle.micromap.specs.Items.{contains};
 ghost use Rattle.std.specs.Str.{bytes_eq};
 
 use micromap::{Map, Overfull, Set};
@@ -27,7 +27,7 @@ fn merge<const N: usize, const M: usize>(
 
 // Keeps the pairs whose key is in the set.
 fn restrict<const N: usize>(pairs: &mut Map<u8, u8, N>, set: &Set<u8, 8>)
-    ensures { pairs.new ≡ filter (λ p. contains nat_eq set.now p.0) pairs.old }
+    ensures { pairs.new ≡ filter (λ p. is_member nat_eq set.now p.0) pairs.old }
 {
     pairs.retain(|key, _| set.contains(key));
 }
@@ -37,7 +37,7 @@ fn group_of<const N: usize, const M: usize>(
     groups: &Map<u8, Set<u8, M>, N>,
     member: u8,
 ) -> Option<u8>
-    ensures { result ≡ option_map (λ p. p.0) (find (λ p. contains nat_eq p.1 member) groups.now) }
+    ensures { result ≡ option_map (λ p. p.0) (find (λ p. is_member nat_eq p.1 member) groups.now) }
 {
     for (group, members) in groups {
         if members.contains(&member) {

@@ -5,9 +5,10 @@ ghost use Rattle.std.specs.List.{list_any};
 ghost use Rattle.std.specs.Map.{keys_of, values_of};
 ghost use Rattle.std.specs.Option.{option_or};
 ghost use Rattle.std.specs.Vec.{vec_items};
+ghost use Rattle.std.specs.Set.{is_member};
 ghost use Rattle.micromap.specs.Build.{put_all};
-ghost use Rattle.micromap.specs.Extend.{add_all};
-ghost use Rattle.micromap.specs.Items.{add, contains, item_fits};
+ghost use Rattle.micromap.specs.Extend.{put_all_items};
+ghost use Rattle.micromap.specs.Items.{put_item, item_fits};
 ghost use Rattle.micromap.specs.Memory.{IntoIterFits};
 ghost use Rattle.micromap.specs.Pairs.{at, fits, has, put, take_out};
 ghost use Rattle.micromap.specs.Same.{has_value};
@@ -20,7 +21,7 @@ use micromap::{Map, Overfull, Set};
 #[tactic(auto, using(std::proofs::lemmas::Grind::common_steps))]
 fn add_newest<T: Eq + Drop, const N: usize>(set: &mut Set<T, N>, item: T) -> Option<T>
     requires { 0 < N }
-    ensures { set.new ≡ add T.eq (if item_fits T.eq N set.old item then set.old else drop 1 set.old) item }
+    ensures { set.new ≡ put_item T.eq (if item_fits T.eq N set.old item then set.old else drop 1 set.old) item }
 {
     if set.fits(&item) {
         set.insert(item);
@@ -132,8 +133,8 @@ fn put_each_then_read<K: Eq + Copy + Drop, const N: usize>(
 // Adds items one after the other, up to the first that doesn't fit. If one doesn't, they would be more than `N`.
 #[tactic(auto, using(micromap::proofs::ItemCounts::item_counts, micromap::proofs::SetLaws::set_bound_laws))]
 fn add_each<T: Eq + Copy + Drop, const N: usize>(set: &mut Set<T, N>, items: &[T]) -> bool
-    ensures added { OnTrue result (set.new ≡ add_all T.eq set.old items.now) }
-    ensures refused { IsFalse result → N < length (add_all T.eq set.old items.now) }
+    ensures added { OnTrue result (set.new ≡ put_all_items T.eq set.old items.now) }
+    ensures refused { IsFalse result → N < length (put_all_items T.eq set.old items.now) }
 {
     let _content = set.len();
     for item in items {

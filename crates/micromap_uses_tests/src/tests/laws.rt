@@ -4,7 +4,8 @@ ghost use Rattle.std.specs.Map.{keys_of, lookup, remove_entry, set_value};
 ghost use Rattle.std.specs.Option.{option_map_or};
 ghost use Rattle.std.specs.Ordering.{on};
 ghost use Rattle.std.specs.String.{string_bytes, string_eq};
-ghost use Rattle.micromap.specs.Items.{add, contains, item_fits, take_item};
+ghost use Rattle.std.specs.Set.{is_member};
+ghost use Rattle.micromap.specs.Items.{put_item, item_fits, take_item};
 ghost use Rattle.micromap.specs.Pairs.{at, fits, has, put, take_out};
 ghost use Rattle.micromap.specs.Probe.{is_text};
 ghost use Rattle.std.specs.Str.{bytes_eq};
@@ -108,7 +109,7 @@ fn put_any<K: Eq + Drop>(map: &mut Map<K, u8, 8>, a: K, b: &K) -> Option<u8>
 #[tactic(auto, using(micromap::proofs::SetLaws::set_bound_laws))]
 fn insert_any<T: Eq + Drop>(set: &mut Set<T, 8>, a: T, b: &T) -> bool
     requires { IsTrue (item_fits T.eq 8 set.old a) }
-    ensures { result ≡ (T.eq a b.now || contains T.eq set.old b.now) }
+    ensures { result ≡ (T.eq a b.now || is_member T.eq set.old b.now) }
 {
     let _content = set.len();
     set.insert(a);
@@ -119,7 +120,7 @@ fn insert_any<T: Eq + Drop>(set: &mut Set<T, 8>, a: T, b: &T) -> bool
 #[tactic(auto, using(micromap::proofs::SetLaws::set_laws))]
 fn insert_word(set: &mut Set<String, 8>, word: String)
     requires { IsTrue (item_fits string_eq 8 set.old word) }
-    ensures { IsTrue (contains string_eq set.new word) }
+    ensures { IsTrue (is_member string_eq set.new word) }
 {
     set.insert(word);
 }
@@ -127,7 +128,7 @@ fn insert_word(set: &mut Set<String, 8>, word: String)
 // Takes a word out, which is then not there.
 #[tactic(auto, using(micromap::proofs::SetLaws::set_laws))]
 fn take_word(set: &mut Set<String, 8>, word: &String)
-    ensures { IsFalse (contains string_eq set.new word.now) }
+    ensures { IsFalse (is_member string_eq set.new word.now) }
 {
     let _content = set.len();
     set.take(word);
@@ -207,7 +208,7 @@ fn note<const N: usize>(
     word: &str,
 ) -> Result<bool, AllocError>
     ensures answer { IfOk result (λ fit. fit ≡ item_fits bytes_eq N (item_texts words.old) word.now) }
-    ensures texts { IfOk result (λ fit. item_texts words.new ≡ (if fit then add bytes_eq (item_texts words.old) word.now else item_texts words.old)) }
+    ensures texts { IfOk result (λ fit. item_texts words.new ≡ (if fit then put_item bytes_eq (item_texts words.old) word.now else item_texts words.old)) }
 {
     let word = String::from_str(alloc, word)?;
     if !words.fits(&word) {
@@ -220,7 +221,7 @@ fn note<const N: usize>(
 // Removes a word, and returns whether it was there.
 #[tactic(auto, using(micromap::proofs::SetTextViews::set_text_views))]
 fn unnote<const N: usize>(words: &mut Set<String, N>, word: &str) -> bool
-    ensures answer { result ≡ contains bytes_eq (item_texts words.old) word.now }
+    ensures answer { result ≡ is_member bytes_eq (item_texts words.old) word.now }
     ensures texts { item_texts words.new ≡ take_item bytes_eq (item_texts words.old) word.now }
 {
     let was_there = words.contains_by(&Text(word));

@@ -4,9 +4,9 @@ ghost use Rattle.std.specs.Bool.{OnTrue};
 ghost use Rattle.std.specs.List.{list_all};
 ghost use Rattle.std.specs.Option.{IfSome, option_copied, option_eq};
 ghost use Rattle.std.specs.String.{string_eq};
+ghost use Rattle.std.specs.Set.{is_member};
 ghost use Rattle.micromap.specs.Calls.{Call};
 ghost use Rattle.micromap.specs.Fair.{AnswersAgree, IsFair};
-ghost use Rattle.micromap.specs.Items.{contains};
 ghost use Rattle.micromap.specs.Operations.{intersection};
 ghost use Rattle.micromap.specs.Pairs.{fits, has};
 ghost use Rattle.micromap.specs.Same.{Same, has_value, have_equal_items};
@@ -56,7 +56,7 @@ fn put_both<const N: usize, const M: usize>(
 
 // Puts one pair with its own key into a list and its replica.
 #[tactic(auto, using(micromap_core::proofs::FairLemmas::same_laws))]
-fn exchange_both<const N: usize, const M: usize>(
+fn replace_item_both<const N: usize, const M: usize>(
     list: &mut Map<u8, u8, N>,
     replica: &mut Map<u8, u8, M>,
     key: u8,
@@ -170,7 +170,7 @@ fn share_items<const N: usize>(first: &Set<u8, N>, second: &Set<u8, N>, third: &
 
 // Whether the first set is longer. Then it has an item that the second lacks.
 fn has_more_items<const N: usize, const M: usize>(first: &Set<u8, N>, second: &Set<u8, M>) -> bool
-    ensures { OnTrue result ((x : _) × (contains nat_eq first.now x ≡ true) × (contains nat_eq second.now x ≡ false)) }
+    ensures { OnTrue result ((x : _) × (is_member nat_eq first.now x ≡ true) × (is_member nat_eq second.now x ≡ false)) }
 {
     first.len() > second.len()
 }

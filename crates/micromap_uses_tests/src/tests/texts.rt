@@ -2,7 +2,8 @@
 ghost use Rattle.std.specs.Prelude.{◌≡◌, IsTrue, Some, if◌then◌else◌};
 ghost use Rattle.std.specs.Option.{option_map};
 ghost use Rattle.std.specs.String.{string_bytes};
-ghost use Rattle.micromap.specs.Items.{contains, item, take_item};
+ghost use Rattle.std.specs.Set.{is_member};
+ghost use Rattle.micromap.specs.Items.{find_item, take_item};
 ghost use Rattle.micromap.specs.Pairs.{at, has, pair, put, take_out};
 ghost use Rattle.std.specs.Str.{bytes_eq};
 ghost use Rattle.micromap.specs.Texts.{item_texts, key_texts};
@@ -81,21 +82,21 @@ fn remove_stored<const N: usize>(map: &mut Map<String, u8, N>, name: &str) -> Op
 
 #[tactic(auto, using(micromap::proofs::SetTextViews::set_text_views))]
 fn has_word<const N: usize>(words: &Set<String, N>, word: &str) -> bool
-    ensures { result ≡ contains bytes_eq (item_texts words.now) word.now }
+    ensures { result ≡ is_member bytes_eq (item_texts words.now) word.now }
 {
     words.contains_by(&Text(word))
 }
 
 #[tactic(auto, using(micromap::proofs::SetTextViews::set_text_views))]
 fn stored_word<'a, const N: usize>(words: &'a Set<String, N>, word: &str) -> Option<&'a String>
-    ensures { option_map (λ x. string_bytes x.now) result ≡ item bytes_eq (item_texts words.now) word.now }
+    ensures { option_map (λ x. string_bytes x.now) result ≡ find_item bytes_eq (item_texts words.now) word.now }
 {
     words.get_by(&Text(word))
 }
 
 #[tactic(auto, using(micromap::proofs::SetTextViews::set_text_views))]
 fn take_word<const N: usize>(words: &mut Set<String, N>, word: &str) -> Option<String>
-    ensures answer { option_map (λ x. string_bytes x) result ≡ item bytes_eq (item_texts words.old) word.now }
+    ensures answer { option_map (λ x. string_bytes x) result ≡ find_item bytes_eq (item_texts words.old) word.now }
     ensures texts { item_texts words.new ≡ take_item bytes_eq (item_texts words.old) word.now }
 {
     words.take_by(&Text(word))
@@ -103,7 +104,7 @@ fn take_word<const N: usize>(words: &mut Set<String, N>, word: &str) -> Option<S
 
 #[tactic(auto, using(micromap::proofs::SetTextViews::set_text_views))]
 fn remove_word<const N: usize>(words: &mut Set<String, N>, word: &str) -> bool
-    ensures answer { result ≡ contains bytes_eq (item_texts words.old) word.now }
+    ensures answer { result ≡ is_member bytes_eq (item_texts words.old) word.now }
     ensures texts { item_texts words.new ≡ take_item bytes_eq (item_texts words.old) word.now }
 {
     words.remove_by(&Text(word))

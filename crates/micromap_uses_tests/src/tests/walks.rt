@@ -4,7 +4,7 @@ ghost use Rattle.std.specs.List.{find};
 ghost use Rattle.std.specs.Map.{keys_of};
 ghost use Rattle.std.specs.Option.{IfSome};
 ghost use Rattle.std.specs.String.{string_eq};
-ghost use Rattle.micromap.specs.Items.{contains};
+ghost use Rattle.std.specs.Set.{is_member};
 ghost use Rattle.micromap.specs.Pairs.{at, has};
 
 use micromap::{Map, Set};
@@ -71,7 +71,7 @@ fn key_other<const N: usize>(map: &Map<u8, u8, N>, other: u8) -> Option<u8>
 // An item over the limit, if there is one.
 #[tactic(auto, using(micromap::proofs::SetLaws::set_laws))]
 fn item_over<const N: usize>(set: &Set<u8, N>, limit: u8) -> Option<u8>
-    ensures stored { IfSome result (λ x. IsTrue (contains nat_eq set.now x)) }
+    ensures stored { IfSome result (λ x. IsTrue (is_member nat_eq set.now x)) }
     ensures over { IfSome result (λ x. limit < x) }
 {
     for item in set {
@@ -100,7 +100,7 @@ fn any_over<K: Eq, const N: usize>(map: &Map<K, u8, N>, limit: u8) -> Option<(&K
 // An item other than this one, if there is one, for items of any type.
 #[tactic(auto, using(micromap::proofs::SetLaws::set_bound_laws))]
 fn other_than<'a, T: Eq, const N: usize>(set: &'a Set<T, N>, item: &T) -> Option<&'a T>
-    ensures stored { IfSome result (λ x. IsTrue (contains T.eq set.now x.now)) }
+    ensures stored { IfSome result (λ x. IsTrue (is_member T.eq set.now x.now)) }
     ensures other { IfSome result (λ x. IsFalse (T.eq x.now item.now)) }
 {
     let _content = set.len();

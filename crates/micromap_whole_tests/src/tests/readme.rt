@@ -1,5 +1,5 @@
-//! The code of the README.
-use micromap::{Map, Set, Text};
+//! The code of the README, and the examples of doc comments.
+use micromap::{Map, Overfull, Set, Text};
 use std::alloc::AllocError;
 use std::io;
 
@@ -67,4 +67,26 @@ fn a_program(rt: HostRuntime) -> io::Result<()> {
         println!(rt; "{name} is {age}")?;
     }
     Ok(())
+}
+
+#[test]
+fn values_are_written_at_stored_keys(rt: HostRuntime) {
+    let mut map: Map<u8, usize, 2> = Map::from([(1, 10), (2, 20)]);
+    let found = map.update_disjoint(&[2, 9], |position, value| *value = position);
+    assert_eq!(rt; found, [true, false]);
+}
+
+#[test]
+fn two_maps_differ_at_a_key(rt: HostRuntime) {
+    let first = Map::from([(1, 10), (2, 20)]);
+    let second = Map::from([(2, 20), (1, 11)]);
+    assert_eq!(rt; first.differs_at(&second), Some(&1));
+}
+
+#[test]
+fn items_are_inserted_up_to_a_misfit(rt: HostRuntime) {
+    let mut seen: Set<u8, 2> = Set::new();
+    let ended = seen.try_extend([5, 5, 6, 7].into_iter());
+    assert_eq!(rt; ended, Err(Overfull { at: 3 }));
+    assert!(rt; seen.iter().eq(&[5, 6]));
 }

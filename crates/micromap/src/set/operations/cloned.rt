@@ -22,7 +22,6 @@ impl<T: Eq + Clone + Drop, const N: usize> Set<T, N> {
         ensures content { IfOk result (IsItems T.eq N) }
         ensures succeeds { All T.is_infallible (intersection T.eq self.now other.now) → IsOk result }
     {
-        let _content = self.len();
         let mut both: Self = Set::new();
         for x in self.intersection(other) {
             both.insert(x.clone()?);
@@ -43,7 +42,6 @@ impl<T: Eq + Clone + Drop, const N: usize> Set<T, N> {
         ensures content { IfOk result (IsItems T.eq N) }
         ensures succeeds { All T.is_infallible (difference T.eq self.now other.now) → IsOk result }
     {
-        let _content = self.len();
         let mut rest: Self = Set::new();
         for x in self.difference(other) {
             rest.insert(x.clone()?);

@@ -1,12 +1,11 @@
 //! The items of one set without an equal one in another.
-ghost use Rattle.std.specs.Prelude.{◌≡◌, ⊤, ◌≤◌, [], IfSome, length};
+ghost use Rattle.std.specs.Prelude.{◌≡◌, ⊤, ◌≤◌, IfSome, length};
 ghost use Rattle.std.specs.Iterator.{UpTo, item_count};
-ghost use Rattle.std.specs.Iterator.Runs.{YieldsRefsInOrder};
 ghost use Rattle.std.specs.Iterator.SizeHint.{IsWithinCount};
 ghost use Rattle.std.specs.List.{IsDistinct};
 ghost use Rattle.std.specs.Map.Iter.{deref};
-ghost use Rattle.micromap.specs.Extend.{add_all};
-ghost use Rattle.micromap.specs.Operations.{difference, difference_hint, difference_left, difference_on, GivesNext};
+ghost use Rattle.micromap.specs.Extend.{distinct};
+ghost use Rattle.micromap.specs.Operations.{difference, difference_hint, difference_left, difference_on, GivesMembers, GivesNext};
 
 use crate::Set;
 use crate::set::Iter;
@@ -21,7 +20,7 @@ use std::marker::Model;
 /// other set for each item passed: for a member a scan of the whole set.
 pub type Difference<'a, 'b, T, const M: usize> = DifferenceIn<'a, 'b, T, Set<T, M>>;
 
-/// A `Difference` from the set `O`.
+/// Internal: write `Difference<'a, 'b, T, M>`.
 #[derive(Drop)]
 pub struct DifferenceIn<'a, 'b, T: Eq, O> {
     rest: Iter<'a, T>,
@@ -102,8 +101,8 @@ impl<T: Eq, const N: usize> Set<T, N> {
         ensures items { difference_left T.eq result ≡ difference T.eq self.now other.now }
         ensures bounded { length (difference_left T.eq result) ≤ N }
         ensures unique { IsDistinct T.eq (difference T.eq self.now other.now) }
-        ensures builds { add_all T.eq [] (difference T.eq self.now other.now) ≡ difference T.eq self.now other.now }
-        ensures runs { YieldsRefsInOrder (GivesNext (deref {X = T}) (difference_left T.eq) (difference_on T.eq)) (difference_left T.eq) }
+        ensures builds { distinct T.eq (difference T.eq self.now other.now) ≡ difference T.eq self.now other.now }
+        ensures runs { GivesMembers (difference_left T.eq) (difference_on T.eq) }
     {
         let _content = self.len();
         DifferenceIn {

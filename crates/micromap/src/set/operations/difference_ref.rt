@@ -22,7 +22,7 @@ use std::marker::Model;
 /// It costs what a `Difference` costs.
 pub type DifferenceRef<'a, 's, T, const M: usize> = DifferenceRefIn<'s, &'a T, Set<&'a T, M>>;
 
-/// A `DifferenceRef` from the set `O`, of references `R`.
+/// Internal: write `DifferenceRef<'a, 's, T, M>`.
 #[derive(Drop)]
 pub struct DifferenceRefIn<'s, R: Eq, O> {
     items: DifferenceIn<'s, 's, R, O>,

@@ -1,12 +1,11 @@
 //! The items of one set with an equal one in another.
-ghost use Rattle.std.specs.Prelude.{◌≡◌, ⊤, ◌≤◌, [], IfSome, length};
+ghost use Rattle.std.specs.Prelude.{◌≡◌, ⊤, ◌≤◌, IfSome, length};
 ghost use Rattle.std.specs.Iterator.{UpTo, item_count};
-ghost use Rattle.std.specs.Iterator.Runs.{YieldsRefsInOrder};
 ghost use Rattle.std.specs.Iterator.SizeHint.{IsWithinCount};
 ghost use Rattle.std.specs.List.{IsDistinct};
 ghost use Rattle.std.specs.Map.Iter.{deref};
-ghost use Rattle.micromap.specs.Extend.{add_all};
-ghost use Rattle.micromap.specs.Operations.{intersection, intersection_hint, intersection_left, intersection_on, GivesNext, HaveEquals};
+ghost use Rattle.micromap.specs.Extend.{distinct};
+ghost use Rattle.micromap.specs.Operations.{intersection, intersection_hint, intersection_left, intersection_on, GivesMembers, GivesNext, HaveEquals};
 
 use crate::Set;
 use crate::set::Iter;
@@ -21,7 +20,7 @@ use std::marker::Model;
 /// other set for each item passed: for a member a scan up to the equal item.
 pub type Intersection<'a, T, const M: usize> = IntersectionIn<'a, T, Set<T, M>>;
 
-/// An `Intersection` with the set `O`.
+/// Internal: write `Intersection<'a, T, M>`.
 #[derive(Drop)]
 pub struct IntersectionIn<'a, T: Eq, O> {
     rest: Iter<'a, T>,
@@ -101,9 +100,9 @@ impl<T: Eq, const N: usize> Set<T, N> {
         ensures items { intersection_left T.eq result ≡ intersection T.eq self.now other.now }
         ensures bounded { length (intersection_left T.eq result) ≤ N }
         ensures unique { IsDistinct T.eq (intersection T.eq self.now other.now) }
-        ensures builds { add_all T.eq [] (intersection T.eq self.now other.now) ≡ intersection T.eq self.now other.now }
+        ensures builds { distinct T.eq (intersection T.eq self.now other.now) ≡ intersection T.eq self.now other.now }
         ensures turned { HaveEquals T.eq (intersection T.eq self.now other.now) (intersection T.eq other.now self.now) }
-        ensures runs { YieldsRefsInOrder (GivesNext (deref {X = T}) (intersection_left T.eq) (intersection_on T.eq)) (intersection_left T.eq) }
+        ensures runs { GivesMembers (intersection_left T.eq) (intersection_on T.eq) }
     {
         let _content = self.len();
         IntersectionIn {

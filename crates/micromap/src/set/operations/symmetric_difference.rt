@@ -1,12 +1,11 @@
 //! The items of either of two sets without an equal one in the other.
-ghost use Rattle.std.specs.Prelude.{◌≡◌, ⊤, ◌+◌, ◌≤◌, [], IfSome, length};
+ghost use Rattle.std.specs.Prelude.{◌≡◌, ⊤, ◌+◌, ◌≤◌, IfSome, length};
 ghost use Rattle.std.specs.Iterator.{UpTo, item_count};
-ghost use Rattle.std.specs.Iterator.Runs.{YieldsRefsInOrder};
 ghost use Rattle.std.specs.Iterator.SizeHint.{IsWithinCount};
 ghost use Rattle.std.specs.List.{IsDistinct};
 ghost use Rattle.std.specs.Map.Iter.{deref};
-ghost use Rattle.micromap.specs.Extend.{add_all};
-ghost use Rattle.micromap.specs.Operations.{symmetric_difference, symmetric_hint, symmetric_left, symmetric_on, GivesNext, HaveEquals};
+ghost use Rattle.micromap.specs.Extend.{distinct};
+ghost use Rattle.micromap.specs.Operations.{symmetric_difference, symmetric_hint, symmetric_left, symmetric_on, GivesMembers, GivesNext, HaveEquals};
 
 use super::difference::DifferenceIn;
 use super::hint_of_both;
@@ -27,7 +26,7 @@ pub type SymmetricDifference<'a, T, const N: usize, const M: usize> = SymmetricD
     Set<T, N>,
 >;
 
-/// A `SymmetricDifference` of the sets `P` and `O`.
+/// Internal: write `SymmetricDifference<'a, T, N, M>`.
 #[derive(Drop)]
 pub struct SymmetricDifferenceIn<'a, T: Eq, O, P> {
     first: DifferenceIn<'a, 'a, T, O>,
@@ -108,9 +107,9 @@ impl<T: Eq, const N: usize> Set<T, N> {
         ensures items { symmetric_left T.eq result ≡ symmetric_difference T.eq self.now other.now }
         ensures bounded { length (symmetric_left T.eq result) ≤ N + M }
         ensures unique { IsDistinct T.eq (symmetric_difference T.eq self.now other.now) }
-        ensures builds { add_all T.eq [] (symmetric_difference T.eq self.now other.now) ≡ symmetric_difference T.eq self.now other.now }
+        ensures builds { distinct T.eq (symmetric_difference T.eq self.now other.now) ≡ symmetric_difference T.eq self.now other.now }
         ensures turned { HaveEquals T.eq (symmetric_difference T.eq self.now other.now) (symmetric_difference T.eq other.now self.now) }
-        ensures runs { YieldsRefsInOrder (GivesNext (deref {X = T}) (symmetric_left T.eq) (symmetric_on T.eq)) (symmetric_left T.eq) }
+        ensures runs { GivesMembers (symmetric_left T.eq) (symmetric_on T.eq) }
     {
         SymmetricDifferenceIn {
             first: self.difference(other),

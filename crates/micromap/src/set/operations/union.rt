@@ -1,12 +1,11 @@
 //! The items of either of two sets.
-ghost use Rattle.std.specs.Prelude.{◌≡◌, ⊤, ◌+◌, ◌≤◌, [], IfSome, length};
+ghost use Rattle.std.specs.Prelude.{◌≡◌, ⊤, ◌+◌, ◌≤◌, IfSome, length};
 ghost use Rattle.std.specs.Iterator.{UpTo, item_count};
-ghost use Rattle.std.specs.Iterator.Runs.{YieldsRefsInOrder};
 ghost use Rattle.std.specs.Iterator.SizeHint.{IsWithinCount};
 ghost use Rattle.std.specs.List.{IsDistinct};
 ghost use Rattle.std.specs.Map.Iter.{deref};
-ghost use Rattle.micromap.specs.Extend.{add_all};
-ghost use Rattle.micromap.specs.Operations.{intersection, union, union_hint, union_left, union_on, GivesNext, HaveEquals};
+ghost use Rattle.micromap.specs.Extend.{distinct};
+ghost use Rattle.micromap.specs.Operations.{intersection, union, union_hint, union_left, union_on, GivesMembers, GivesNext, HaveEquals};
 
 use super::difference::DifferenceIn;
 use super::hint_of_both;
@@ -23,7 +22,7 @@ use std::marker::Model;
 /// them, which cost what they cost in a `Difference`.
 pub type Union<'a, T, const M: usize> = UnionIn<'a, T, Set<T, M>>;
 
-/// A `Union` with the set `O`.
+/// Internal: write `Union<'a, T, M>`.
 #[derive(Drop)]
 pub struct UnionIn<'a, T: Eq, O> {
     others: Iter<'a, T>,
@@ -98,10 +97,10 @@ impl<T: Eq, const N: usize> Set<T, N> {
         ensures items { union_left T.eq result ≡ union T.eq self.now other.now }
         ensures bounded { length (union_left T.eq result) ≤ N + M }
         ensures unique { IsDistinct T.eq (union T.eq self.now other.now) }
-        ensures builds { add_all T.eq [] (union T.eq self.now other.now) ≡ union T.eq self.now other.now }
+        ensures builds { distinct T.eq (union T.eq self.now other.now) ≡ union T.eq self.now other.now }
         ensures turned { HaveEquals T.eq (union T.eq self.now other.now) (union T.eq other.now self.now) }
         ensures lengths { length (union T.eq self.now other.now) + length (intersection T.eq self.now other.now) ≡ length self.now + length other.now }
-        ensures runs { YieldsRefsInOrder (GivesNext (deref {X = T}) (union_left T.eq) (union_on T.eq)) (union_left T.eq) }
+        ensures runs { GivesMembers (union_left T.eq) (union_on T.eq) }
     {
         let _content = other.len();
         UnionIn {

@@ -1,25 +1,28 @@
-use Rattle.std.proofs.Common.{◌≡◌, sym, ◌∙◌, rules}
-use Rattle.std.specs.String.{string_eq}
-use Rattle.micromap_core.specs.Pairs.{put}
-use Rattle.micromap.proofs.JsonReading.{no_members_yet, not_whole, member_fits, member_misfits, members_fit, members_misfit}
+use Rattle.std.proofs.Common.{ℤ, ok_or, sym, ap, ◌∙◌, string_bytes, bytes_eq, arith, rules}
+use Rattle.std.proofs.lemmas.List.{length-map}
+use Rattle.serde_json.specs.View.{members_view}
+use Rattle.micromap_core.specs.Build.{put_pair}
+use Rattle.micromap.specs.Json.{Bytes, and_then, items_for, whole_members}
+use Rattle.micromap.specs.declared.json.JsonFault.TheVariants.{NotWhole}
+use Rattle.micromap.proofs.JsonReading.{member_put, members_built, none_read, not_read, read_beyond, read_whole}
 use Rattle.micromap.proofs.json.read.map_of_members.Goals as goal
 
 pub loop-name-init : goal.loop-name-init
-loop-name-init g c = rw (c.into_iter-name-iterator.ensures.into_iter_gives.0, c.new-map.ensures) (no_members_yet g.row.N c.args.members.entries c.into_iter-name-iterator.ensures.into_iter_gives.5)
+loop-name-init g c = rw (c.into_iter-name-iterator.ensures.into_iter_gives.0, c.new-map.ensures) (none_read (put_pair bytes_eq) g.row.N (whole_members (members_view c.args.members.entries)))
 
 pub returns-in_default-clause-answer : goal.returns-in_default-clause-answer
-returns-in_default-clause-answer g c = sym (not_whole c.loop-name.invariant c.in-Some.ensures.steps (search rules))
-
-pub loop-name-preserved-then-not-put : goal.loop-name-preserved-then-not-put
-loop-name-preserved-then-not-put g c = member_misfits c.loop-name.invariant c.in-Some.ensures.steps c.in-Some-whole_of.whole (search rules) c.put.new.map (sym c.put.ensures.answer ∙ c.if-not-put.true)
+returns-in_default-clause-answer g c =
+    sym (ap (λ o. and_then (ok_or o NotWhole) (items_for g.row.N)) (not_read c.loop-name.invariant (λ i. (string_bytes c.in-Some.name, i)) _ _ (ap (λ es. whole_members (members_view es)) c.in-Some.ensures.steps) (search rules)))
 
 pub loop-name-preserved : goal.loop-name-preserved
-loop-name-preserved g c =
-    let made : c.put.new.map ≡ put string_eq c.loop-name.map c.in-Some.name c.in-Some-whole_of.whole = search rules in
-    member_fits c.loop-name.invariant c.in-Some.ensures.steps c.in-Some-whole_of.whole (search rules) c.put.new.map made
+loop-name-preserved g c = member_put _ c.loop-name.invariant c.in-Some.ensures.steps c.in-Some-whole_of.whole (search rules) c.put-all_fit.ensures.answer (search rules)
 
 pub returns-then-all_fit-clause-answer : goal.returns-then-all_fit-clause-answer
-returns-then-all_fit-clause-answer g c = sym (members_fit c.loop-name.invariant c.in-None.ensures.steps.0 c.if-all_fit.true c.len-content.ensures.content.bounded)
+returns-then-all_fit-clause-answer g c =
+    let last = ap (λ es. whole_members (members_view es)) c.in-None.ensures.steps.0 in
+    sym (read_whole c.loop-name.invariant last NotWhole c.if-all_fit.true (omega (arith, c.len-content.ensures.content.bounded, length-map {B = Bytes × ℤ} c.loop-name.map (λ p. (string_bytes p.0, p.1))))) ∙ members_built g.row.N c.args.members.entries c.into_iter-name-iterator.ensures.into_iter_gives.5
 
 pub returns-else-all_fit-clause-answer : goal.returns-else-all_fit-clause-answer
-returns-else-all_fit-clause-answer g c = sym (members_misfit c.loop-name.invariant c.in-None.ensures.steps.0 c.if-all_fit.false)
+returns-else-all_fit-clause-answer g c =
+    let last = ap (λ es. whole_members (members_view es)) c.in-None.ensures.steps.0 in
+    sym (read_beyond c.loop-name.invariant last NotWhole c.if-all_fit.false) ∙ members_built g.row.N c.args.members.entries c.into_iter-name-iterator.ensures.into_iter_gives.5

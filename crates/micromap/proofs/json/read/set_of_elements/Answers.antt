@@ -1,27 +1,27 @@
-use Rattle.std.proofs.Common.{sym, ap, ◌∙◌, if◌then◌else◌, rules}
-use Rattle.std.proofs.lemmas.List.{nil_from_length}
+use Rattle.std.proofs.Common.{ok_or, sym, ap, ◌∙◌, string_bytes, bytes_eq, arith, rules}
+use Rattle.std.proofs.lemmas.List.{length-map, nil_from_length}
 use Rattle.serde_json.specs.View.{items_view}
-use Rattle.micromap.specs.Items.{add}
-use Rattle.std.specs.String.{string_eq}
-use Rattle.micromap.proofs.JsonReading.{none_yet, not_text, text_fits, text_misfits, texts_fit, texts_misfit}
+use Rattle.micromap.specs.Extend.{distinct}
+use Rattle.micromap.specs.Items.{put_item}
+use Rattle.micromap.specs.Json.{all_texts, and_then, items_for}
+use Rattle.micromap.specs.declared.json.JsonFault.TheVariants.{NotText}
+use Rattle.micromap.proofs.JsonReading.{none_read, not_read, read_beyond, read_whole, text_put}
 use Rattle.micromap.proofs.json.read.set_of_elements.Goals as goal
 
 pub loop-element-init : goal.loop-element-init
-loop-element-init g c = rw (c.into_iter-element-iterator.ensures.into_iter_gives.0, c.new-set.ensures) (none_yet g.row.N (items_view c.args.elements.items))
+loop-element-init g c = rw (c.into_iter-element-iterator.ensures.into_iter_gives.0, c.new-set.ensures) (none_read (put_item bytes_eq) g.row.N (all_texts (items_view c.args.elements.items)))
 
 pub returns-in_default-clause-fault : goal.returns-in_default-clause-fault
-returns-in_default-clause-fault g c = not_text c.loop-element.invariant (ap items_view c.in-Some.ensures.steps.0) (search rules)
-
-pub loop-element-preserved-then-not-put : goal.loop-element-preserved-then-not-put
-loop-element-preserved-then-not-put g c = text_misfits c.loop-element.invariant (ap items_view c.in-Some.ensures.steps.0) c.in-Some-text_of.text (search rules) c.put.new.self (sym c.put.ensures.answer ∙ c.if-not-put.true)
+returns-in_default-clause-fault g c =
+    ap (λ o. and_then (ok_or o NotText) (λ texts. items_for g.row.N (distinct bytes_eq texts))) (not_read c.loop-element.invariant (λ t. t) _ _ (ap (λ vs. all_texts (items_view vs)) c.in-Some.ensures.steps.0) (search rules))
 
 pub loop-element-preserved : goal.loop-element-preserved
-loop-element-preserved g c =
-    text_fits c.loop-element.invariant (ap items_view c.in-Some.ensures.steps.0) c.in-Some-text_of.text (search rules) c.put.new.self
-    (c.put.ensures.items ∙ ap (λ b. if b then add string_eq c.loop-element.set c.in-Some-text_of.text else c.loop-element.set) (sym c.put.ensures.answer ∙ c.if-not-put.false))
+loop-element-preserved g c = text_put _ c.loop-element.invariant (ap items_view c.in-Some.ensures.steps.0) c.in-Some-text_of.text (search rules) c.put-all_fit.ensures.answer c.put-all_fit.ensures.items
 
 pub returns-then-all_fit-clause-texts : goal.returns-then-all_fit-clause-texts
-returns-then-all_fit-clause-texts g c = texts_fit c.loop-element.invariant (ap items_view (nil_from_length c.loop-element.element-iterator.rest.items (sym c.loop-element.element-iterator.rest.ok.0 ∙ c.in-None.ensures.steps.0))) c.if-all_fit.true c.len-content.ensures.content.bounded
+returns-then-all_fit-clause-texts g c =
+    read_whole c.loop-element.invariant (ap (λ vs. all_texts (items_view vs)) (nil_from_length c.loop-element.element-iterator.rest.items (sym c.loop-element.element-iterator.rest.ok.0 ∙ c.in-None.ensures.steps.0))) NotText c.if-all_fit.true
+    (omega (arith, c.len-content.ensures.content.bounded, length-map c.loop-element.set (λ s. string_bytes s)))
 
 pub returns-else-all_fit-clause-fault : goal.returns-else-all_fit-clause-fault
-returns-else-all_fit-clause-fault g c = texts_misfit c.loop-element.invariant (ap items_view (nil_from_length c.loop-element.element-iterator.rest.items (sym c.loop-element.element-iterator.rest.ok.0 ∙ c.in-None.ensures.steps.0))) c.if-all_fit.false
+returns-else-all_fit-clause-fault g c = read_beyond c.loop-element.invariant (ap (λ vs. all_texts (items_view vs)) (nil_from_length c.loop-element.element-iterator.rest.items (sym c.loop-element.element-iterator.rest.ok.0 ∙ c.in-None.ensures.steps.0))) NotText c.if-all_fit.false

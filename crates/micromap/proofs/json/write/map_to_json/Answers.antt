@@ -4,20 +4,18 @@ use Rattle.serde_json.specs.Read.{max_depth, read}
 use Rattle.serde_json.specs.View.{members_view, view}
 use Rattle.serde_json.proofs.Views.{view-Object}
 use Rattle.micromap.specs.Json.{whole_number}
-use Rattle.micromap.proofs.JsonWriting.{HasWritten, none_written, writes_one, written}
+use Rattle.micromap.proofs.JsonWriting.{none_written, writes_one, written}
 use Rattle.micromap.proofs.json.write.map_to_json.Goals as goal
 
 pub loop-name-init : goal.loop-name-init
-loop-name-init g c = rw (c.new-members.ensures.empty, c.into_iter-name-iterator.ensures.into_iter_gives.0) (none_written c.args.map.now c.len-content.ensures.content.unique)
+loop-name-init g c = rw (c.new-members.ensures.empty, c.into_iter-name-iterator.ensures.into_iter_gives.0) (none_written c.args.map.now)
 
 pub loop-name-preserved : goal.loop-name-preserved
 loop-name-preserved g c =
     let made : members_view c.put.new.map.entries ≡ put (string_bytes c.in-Some.name.now) (view c.value_of.result) (members_view c.loop-name.members.entries) = search rules in
     let is : whole_number (view c.value_of.result) ≡ Some c.in-Some.value.now = search rules in
-    writes_one (members_view c.loop-name.members.entries) (members_view c.put.new.map.entries) c.loop-name.name-iterator c.next.new.self c.args.map.now c.in-Some.name.now c.in-Some.value.now (view c.value_of.result) c.loop-name.invariant c.in-Some.ensures.steps is c.value_of.ensures.flat made
+    writes_one _ c.loop-name.invariant c.len-content.ensures.content.unique c.in-Some.ensures.steps is c.value_of.ensures.flat made
 
 pub returns-clause-object : goal.returns-clause-object
 returns-clause-object g c =
-    written (members_view c.loop-name.members.entries) c.args.map.now (string_bytes c.in_ok-to_string.field-0)
-    (subst (λ rest. HasWritten (members_view c.loop-name.members.entries) rest c.args.map.now) c.in-None.ensures.steps.0 c.loop-name.invariant)
-    (subst (λ d. depth d ≤ max_depth → read (string_bytes c.in_ok-to_string.field-0) ≡ Some d) (view-Object c.loop-name.members) (c.in_ok-to_string.ensures.reads_back))
+    written _ c.loop-name.invariant c.in-None.ensures.steps.0 (subst (λ d. depth d ≤ max_depth → read (string_bytes c.in_ok-to_string.field-0) ≡ Some d) (view-Object c.loop-name.members) (c.in_ok-to_string.ensures.reads_back))

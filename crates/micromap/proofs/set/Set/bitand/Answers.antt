@@ -1,8 +1,7 @@
-use Rattle.std.proofs.Common.{◌≤◌, length, refl, subst, arith}
+use Rattle.std.proofs.Common.{length, refl, subst}
 use Rattle.std.proofs.lemmas.List.Elements.{same_from_all_zip}
-use Rattle.micromap.specs.Operations.{intersection, intersection_left}
+use Rattle.micromap.specs.Operations.{intersection_left}
 use Rattle.micromap.proofs.AddedItems.{clone_fits, clones_end, clones_next, next_member}
-use Rattle.micromap.proofs.OperationSteps.{length-parts}
 use Rattle.micromap.proofs.set.Set.bitand.Goals as goal
 
 pub returns-in_err-clone-clause-succeeds : goal.returns-in_err-clone-clause-succeeds
@@ -13,7 +12,7 @@ returns-in_err-clone-clause-succeeds g c =
 
 pub insert-requires : goal.insert-requires
 insert-requires g c =
-    let short : length (intersection g.T.PartialEq.eq c.args.self.now c.args.other.now) ≤ g.row.N = omega (arith, c.len-content.ensures.content.bounded, length-parts g.T.PartialEq.eq c.args.self.now c.args.other.now) in
+    let short = rw c.intersection-x-items.ensures.items at c.intersection-x-items.ensures.bounded in
     (assumption, clone_fits g.met.T.Eq.laws c.requires c.loop-x.invariant c.in-Some.x.now (intersection_left g.T.PartialEq.eq c.next.new.self) c.in-Some.ensures.steps.member g.row.N c.in_ok-clone.field-0 short)
 
 pub loop-x-preserved : goal.loop-x-preserved
@@ -38,6 +37,3 @@ new-both-requires g c = assumption
 
 pub into_iter-x-iterator-requires-room-I-Iterator : goal.into_iter-x-iterator-requires-room-I-Iterator
 into_iter-x-iterator-requires-room-I-Iterator g c = assumption
-
-pub len-content-requires : goal.len-content-requires
-len-content-requires g c = assumption

@@ -1,7 +1,7 @@
 use Rattle.std.proofs.Common.{length, not, ap, arith}
 use Rattle.std.specs.Map.Iter.{deref}
 use Rattle.micromap_core.proofs.DistinctLemmas.{IsDistinct-filter}
-use Rattle.micromap.specs.Items.{contains}
+use Rattle.std.specs.Set.{is_member}
 use Rattle.micromap.specs.Operations.{difference, difference_left, difference_on}
 use Rattle.micromap.proofs.AddedItems.{added_all}
 use Rattle.micromap.proofs.OperationSteps.{left_in_order, length-parts}
@@ -13,7 +13,7 @@ returns g c =
     let eq = g.T.PartialEq.eq in
     let xs = c.args.self.now in
     let ys = c.args.other.now in
-    let unique = IsDistinct-filter eq (λ x. not (contains eq ys x)) xs c.len-content.ensures.content.unique in
+    let unique = IsDistinct-filter eq (λ x. not (is_member eq ys x)) xs c.len-content.ensures.content.unique in
     record {
       walk = λ i. record { rest = c.iter.ensures.answer i; other = ys };
       items = ap (λ l. difference eq l ys) c.iter.ensures.answer;

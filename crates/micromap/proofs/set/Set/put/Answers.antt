@@ -14,6 +14,6 @@ returns g c =
     let eq = g.T.PartialEq.eq in
     let pairs = c.self.inside.map in
     record {
-      answer = rw (← c.self.view_is) (c.is_some.ensures ∙ ap is_some c.checked_insert.ensures.answer ∙ is_some-if (fits eq g.row.N pairs c.args.x) (at eq pairs c.args.x) ∙ sym (fits-keys eq g.row.N pairs c.args.x));
+      answer = rw (← c.self.view_is) (c.is_some.ensures ∙ ap is_some c.checked_insert.ensures.answer ∙ is_some-if (fits eq g.row.N pairs c.args.item) (at eq pairs c.args.item) ∙ sym (fits-keys eq g.row.N pairs c.args.item));
       items = rw (← c.self.view_is, checked-keys) (ap keys_of c.checked_insert.ensures.pairs);
     }

@@ -1,8 +1,7 @@
-use Rattle.std.proofs.Common.{◌≤◌, length, refl, subst, arith}
+use Rattle.std.proofs.Common.{length, refl, subst}
 use Rattle.std.proofs.lemmas.List.Elements.{same_from_all_zip}
-use Rattle.micromap.specs.Operations.{difference, difference_left}
+use Rattle.micromap.specs.Operations.{difference_left}
 use Rattle.micromap.proofs.AddedItems.{clone_fits, clones_end, clones_next, next_member}
-use Rattle.micromap.proofs.OperationSteps.{length-parts}
 use Rattle.micromap.proofs.set.Set.sub.Goals as goal
 
 pub returns-in_err-clone-clause-succeeds : goal.returns-in_err-clone-clause-succeeds
@@ -13,7 +12,7 @@ returns-in_err-clone-clause-succeeds g c =
 
 pub insert-requires : goal.insert-requires
 insert-requires g c =
-    let short : length (difference g.T.PartialEq.eq c.args.self.now c.args.other.now) ≤ g.row.N = omega (arith, c.len-content.ensures.content.bounded, length-parts g.T.PartialEq.eq c.args.self.now c.args.other.now) in
+    let short = rw c.difference-x-items.ensures.items at c.difference-x-items.ensures.bounded in
     (assumption, clone_fits g.met.T.Eq.laws c.requires c.loop-x.invariant c.in-Some.x.now (difference_left g.T.PartialEq.eq c.next.new.self) c.in-Some.ensures.steps.member g.row.N c.in_ok-clone.field-0 short)
 
 pub loop-x-preserved : goal.loop-x-preserved
@@ -23,9 +22,6 @@ pub returns : goal.returns
 returns g c =
     let clones = clones_end c.loop-x.invariant c.in-None.ensures.steps.member.0 in
     record { clones = clones; same = λ identical. same_from_all_zip g.T.Clone.is_clone _ _ clones identical; content = c.len-made.ensures.content; succeeds = λ all. refl }
-
-pub len-content-requires : goal.len-content-requires
-len-content-requires g c = assumption
 
 pub next-requires : goal.next-requires
 next-requires g c = assumption

@@ -1,5 +1,6 @@
 use Rattle.std.proofs.Common.{◌≡◌, false, if◌then◌else◌, length, ap, sym, ◌∙◌, arith}
-use Rattle.micromap.specs.Items.{add, contains, item_fits}
+use Rattle.std.specs.Set.{is_member}
+use Rattle.micromap.specs.Items.{put_item, item_fits}
 use Rattle.micromap_core.proofs.BuildLemmas.{full_is, has_put_more, run_puts, run_stops}
 use Rattle.micromap.proofs.set.Set.try_extend.Goals as goal
 
@@ -12,7 +13,7 @@ loop-x-preserved g c =
       can = goes.0;
       finite = goes.1;
       counted = omega (arith, goes.2, l.invariant.counted);
-      put = has_put_more (item_fits eq g.row.N) (add eq) c.args.self.now l.yielded l.at l.self c.put.new.self c.in-Some.x l.invariant.put c.put.ensures.items (sym c.put.ensures.answer ∙ c.if-not-put.false);
+      put = has_put_more (item_fits eq g.row.N) (put_item eq) c.args.self.now l.yielded l.at l.self c.put.new.self c.in-Some.x l.invariant.put c.put.ensures.items (sym c.put.ensures.answer ∙ c.if-not-put.false);
     }
 
 -- the set is as it was before the item that didn't fit, and full
@@ -21,20 +22,18 @@ returns-then-not-put g c =
     let l = c.loop-x in
     let eq = g.T.PartialEq.eq in
     let misfit : item_fits eq g.row.N l.self c.in-Some.x ≡ false = sym c.put.ensures.answer ∙ c.if-not-put.true in
-    let ran = run_stops (item_fits eq g.row.N) (add eq) c.args.self.now l.yielded l.at l.self c.put.new.self c.in-Some.x l.invariant.put c.put.ensures.items g.I.Iterator.next_gives c.args.items c.next.new.self misfit
-    (rw (← c.into_iter-x-iterator.ensures.into_iter_gives) (l.x-iterator, l.yielded_by, c.in-Some.ensures.steps)) in
-    let kept = c.put.ensures.items ∙ ap (λ b. if b then add eq l.self c.in-Some.x else l.self) misfit in
-    record {
-      runs = tt;
-      stops = ran.0;
-      before = ran.1;
-      full = ap length kept ∙ full_is (contains eq l.self c.in-Some.x) (length l.self) g.row.N misfit (rw kept at c.len-len.ensures.content.bounded);
-    }
+    let kept = c.put.ensures.items ∙ ap (λ b. if b then put_item eq l.self c.in-Some.x else l.self) misfit in
+    let full = ap length kept ∙ full_is (is_member eq l.self c.in-Some.x) (length l.self) g.row.N misfit (rw kept at c.len-len.ensures.content.bounded) in
+    assumption (
+      run_stops (item_fits eq g.row.N) (put_item eq) c.args.self.now l.yielded l.at l.self c.put.new.self c.in-Some.x l.invariant.put c.put.ensures.items g.I.Iterator.next_gives c.args.items c.next.new.self misfit
+          (rw (← c.into_iter-x-iterator.ensures.into_iter_gives) (l.x-iterator, l.yielded_by, c.in-Some.ensures.steps)),
+      full,
+    )
 
 pub returns-clause-runs : goal.returns-clause-runs
 returns-clause-runs g c =
     let l = c.loop-x in
-    run_puts (item_fits g.T.PartialEq.eq g.row.N) (add g.T.PartialEq.eq) g.I.Iterator.next_gives c.args.items c.args.self.now l.self l.yielded l.at l.invariant.put
+    run_puts (item_fits g.T.PartialEq.eq g.row.N) (put_item g.T.PartialEq.eq) g.I.Iterator.next_gives c.args.items c.args.self.now l.self l.yielded l.at l.invariant.put
     (rw (← c.into_iter-x-iterator.ensures.into_iter_gives) (c.next.new.self, (l.x-iterator, l.yielded_by, c.in-None.ensures.steps)))
 
 pub put-requires : goal.put-requires

@@ -3,8 +3,4 @@ use Rattle.micromap_core.proofs.CloneLemmas.{Cloning}
 use Rattle.micromap_core.proofs.map.Map.clone.Given as goal
 
 abbrev pub invariant-loop-key : goal.invariant-loop-key
-invariant-loop-key g l = record {
-  can : (goal.iterator-loop-key g).can_next l.key-iterator;
-  finite : (goal.iterator-loop-key g).is_finite l.key-iterator;
-  cloning : Cloning (IsPairClone g.K.Clone.is_clone g.V.Clone.is_clone) l.self l.key-iterator l.map;
-}
+invariant-loop-key g l = Cloning (IsPairClone g.K.Clone.is_clone g.V.Clone.is_clone) l.self l.key-iterator l.map

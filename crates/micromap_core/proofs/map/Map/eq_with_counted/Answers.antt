@@ -1,6 +1,6 @@
-use Rattle.std.proofs.Common.{arith, rules, ◌≡◌, ◌+◌, ◌*◌, ◌≤◌, length, subst}
+use Rattle.std.proofs.Common.{arith, rules, ◌+◌, ◌*◌, ◌≤◌, length, sym, ◌∙◌}
 use Rattle.micromap_core.proofs.FairLemmas.{compared_long, compared_short}
-use Rattle.micromap_core.proofs.StepsLemmas.{comparison_long, comparison_short, most_steps-product, walk_steps-bound}
+use Rattle.micromap_core.proofs.StepsLemmas.{comparison_long, comparison_short, walk_steps-square}
 use Rattle.micromap_core.proofs.map.Map.eq_with_counted.Goals as goal
 
 pub returns-then-lengths : goal.returns-then-lengths
@@ -8,17 +8,10 @@ returns-then-lengths g c =
     let one = c.len.ensures.answer in
     let two = c.len-2.ensures.answer in
     let steps = comparison_long g.K.PartialEq.eq g.V.PartialEq.eq c.args.self.now c.args.other.now c.len.result c.len-2.result one two c.if-lengths.true in
-    let all = compared_long g.met.V.Eq.laws c.len.ensures.content c.len-2.ensures.content one two c.if-lengths.true _ c.is_within_counted.ensures.answer in
-    let most = walk_steps-bound g.K.PartialEq.eq g.V.PartialEq.eq c.args.other.now c.args.self.now in
-    let product = most_steps-product c.args.self.now (length c.args.other.now) in
-    let long : length c.args.other.now ≡ length c.args.self.now = omega (arith, one, two, c.if-lengths.true) in
-    record {
-      answer = all.0;
-      told_apart = all.1;
-      outlasts = all.2;
-      count = omega (arith, c.is_within_counted.ensures.count, steps);
-      bounded = subst (λ n. c.is_within_counted.new.steps ≤ c.args.steps.now + length c.args.self.now * n) long (omega (arith, c.is_within_counted.ensures.count, most, product));
-    }
+    let most = walk_steps-square g.K.PartialEq.eq g.V.PartialEq.eq c.args.other.now c.args.self.now (sym one ∙ c.if-lengths.true ∙ two) in
+    let bounded : c.is_within_counted.new.steps ≤ c.args.steps.now + length c.args.self.now * length c.args.self.now = omega (arith, c.is_within_counted.ensures.count, most) in
+    assumption
+    (compared_long g.met.V.Eq.laws c.len.ensures.content c.len-2.ensures.content one two c.if-lengths.true _ c.is_within_counted.ensures.answer, rw (← steps) at c.is_within_counted.ensures.count, bounded)
 
 pub returns-else-lengths : goal.returns-else-lengths
 returns-else-lengths g c =

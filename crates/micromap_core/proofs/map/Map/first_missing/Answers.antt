@@ -1,8 +1,8 @@
-use Rattle.std.proofs.Common.{refl, not, length, ap, sym, ◌∙◌, arith}
+use Rattle.std.proofs.Common.{true, false, refl, not, length, ap, sym, ◌∙◌, arith}
 use Rattle.micromap_core.proofs.map.Map.first_missing.Goals as goal
 use Rattle.std.specs.List.{find}
 use Rattle.micromap_core.specs.Pairs.{has}
-use Rattle.micromap_core.proofs.SameLemmas.{missing_here, missing_past}
+use Rattle.micromap_core.proofs.SameLemmas.{missing_step}
 
 pub loop-key-init : goal.loop-key-init
 loop-key-init g c = rw (c.into_iter-key-iterator.ensures.into_iter_gives, c.keys-key-items.ensures.answer) refl
@@ -14,14 +14,10 @@ pub contains_key-requires : goal.contains_key-requires
 contains_key-requires g c = assumption
 
 pub returns-then-not-contains_key : goal.returns-then-not-contains_key
-returns-then-not-contains_key g c =
-    sym (missing_here g.K.PartialEq.eq c.in-Some.key.now c.next.new.self c.args.other.now c.if-not-contains_key.ensures)
-    ∙ ap (find (λ k. not (has g.K.PartialEq.eq c.args.other.now k))) (sym c.in-Some.ensures.steps) ∙ c.loop-key.invariant
+returns-then-not-contains_key g c = sym (missing_step g.K.PartialEq.eq c.args.other.now c.in-Some.ensures.steps false c.if-not-contains_key.ensures) ∙ c.loop-key.invariant
 
 pub loop-key-preserved : goal.loop-key-preserved
-loop-key-preserved g c =
-    sym (missing_past g.K.PartialEq.eq c.in-Some.key.now c.next.new.self c.args.other.now c.if-not-contains_key.ensures)
-    ∙ ap (find (λ k. not (has g.K.PartialEq.eq c.args.other.now k))) (sym c.in-Some.ensures.steps) ∙ c.loop-key.invariant
+loop-key-preserved g c = sym (missing_step g.K.PartialEq.eq c.args.other.now c.in-Some.ensures.steps true c.if-not-contains_key.ensures) ∙ c.loop-key.invariant
 
 pub returns : goal.returns
 returns g c = ap (find (λ k. not (has g.K.PartialEq.eq c.args.other.now k))) (sym c.in-None.ensures.steps.0) ∙ c.loop-key.invariant

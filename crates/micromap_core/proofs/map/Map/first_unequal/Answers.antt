@@ -1,21 +1,15 @@
-use Rattle.std.proofs.Common.{ap, sym, ◌∙◌, length, refl, arith, rules}
+use Rattle.std.proofs.Common.{true, false, ap, sym, ◌∙◌, length, refl, arith, rules}
 use Rattle.micromap_core.specs.Same.{first_unequal}
-use Rattle.micromap_core.proofs.SameLemmas.{unequal_here, unequal_past}
+use Rattle.micromap_core.proofs.SameLemmas.{unequal_step}
 use Rattle.micromap_core.proofs.map.Map.first_unequal.Goals as goal
 
 pub loop-key-preserved : goal.loop-key-preserved
 loop-key-preserved g c =
-    let eq = g.K.PartialEq.eq in
-    let same = g.V.PartialEq.eq in
-    sym (unequal_past eq same c.in-Some.key.now c.in-Some.value c.next.new.self c.args.other.now c.get.result c.get.ensures c.if-ne.ensures)
-    ∙ ap (λ left. first_unequal eq same left c.args.other.now) (sym c.in-Some.ensures.steps) ∙ c.loop-key.invariant
+    sym (unequal_step g.K.PartialEq.eq g.V.PartialEq.eq c.in-Some.key.now c.in-Some.value c.args.other.now c.in-Some.ensures.steps c.get.result c.get.ensures false c.if-ne.ensures) ∙ c.loop-key.invariant
 
 pub returns-then-ne : goal.returns-then-ne
 returns-then-ne g c =
-    let eq = g.K.PartialEq.eq in
-    let same = g.V.PartialEq.eq in
-    sym (unequal_here eq same c.in-Some.key.now c.in-Some.value c.next.new.self c.args.other.now c.get.result c.get.ensures c.if-ne.ensures)
-    ∙ ap (λ left. first_unequal eq same left c.args.other.now) (sym c.in-Some.ensures.steps) ∙ c.loop-key.invariant
+    sym (unequal_step g.K.PartialEq.eq g.V.PartialEq.eq c.in-Some.key.now c.in-Some.value c.args.other.now c.in-Some.ensures.steps c.get.result c.get.ensures true c.if-ne.ensures) ∙ c.loop-key.invariant
 
 pub get-requires : goal.get-requires
 get-requires g c = assumption

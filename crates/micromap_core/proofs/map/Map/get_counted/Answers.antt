@@ -1,7 +1,7 @@
-use Rattle.std.proofs.Common.{ap, sym, ◌∙◌, arith}
+use Rattle.std.proofs.Common.{ap, sym, ◌∙◌}
 use Rattle.std.specs.Option.{option_copied, option_map}
 use Rattle.micromap_core.proofs.ScanLemmas.{found_at, not_found}
-use Rattle.micromap_core.proofs.StepsLemmas.{look_up_steps-bound}
+use Rattle.micromap_core.proofs.StepsLemmas.{steps-bound}
 use Rattle.micromap_core.proofs.map.Map.get_counted.Goals as goal
 
 pub index_counted-requires : goal.index_counted-requires
@@ -13,17 +13,9 @@ pair_at-requires g c = (assumption, (found_at (g.K.PartialEq.eq c.args.key.now) 
 pub returns-in_err-index : goal.returns-in_err-index
 returns-in_err-index g c =
     let missing = not_found (g.K.PartialEq.eq c.args.key.now) c.args.self.now (sym c.in_err-index.ensures.index) in
-    record {
-      answer = ap option_copied c.from_residual.ensures ∙ sym missing.value;
-      count = c.index_counted.ensures.count;
-      bounded = omega (arith, c.index_counted.ensures.count, look_up_steps-bound g.K.PartialEq.eq c.args.self.now c.args.key.now);
-    }
+    assumption (ap option_copied c.from_residual.ensures ∙ sym missing.value, steps-bound g.K.PartialEq.eq c.args.self.now c.args.key.now _ _ c.index_counted.ensures.count)
 
 pub returns : goal.returns
 returns g c =
     let found = found_at (g.K.PartialEq.eq c.args.key.now) c.args.self.now c.in_ok-index.index (sym c.in_ok-index.ensures.index) in
-    record {
-      answer = ap (option_map (λ p. p.1)) (sym c.pair_at.ensures ∙ found.here) ∙ sym found.value;
-      count = c.index_counted.ensures.count;
-      bounded = omega (arith, c.index_counted.ensures.count, look_up_steps-bound g.K.PartialEq.eq c.args.self.now c.args.key.now);
-    }
+    assumption (ap (option_map (λ p. p.1)) (sym c.pair_at.ensures ∙ found.here) ∙ sym found.value, steps-bound g.K.PartialEq.eq c.args.self.now c.args.key.now _ _ c.index_counted.ensures.count)

@@ -1,15 +1,12 @@
-use Rattle.std.proofs.Common.{◌≡◌, length, refl, arith, rules, ap, sym, ◌∙◌}
-use Rattle.micromap_core.proofs.StepsLemmas.{look_up_steps-bound, most_steps-product, most_steps, walk_on, walk_ends, all_on, all_ends}
+use Rattle.std.proofs.Common.{length, refl, arith, rules, ap, sym, ◌∙◌}
+use Rattle.micromap_core.proofs.StepsLemmas.{look_up_steps-bound, most_steps-product, most_steps, walk_step, all_step}
 use Rattle.micromap_core.proofs.map.Map.is_within_counted.Goals as goal
 use Rattle.std.specs.List.{list_all}
 use Rattle.micromap_core.specs.Same.{has_value}
 use Rattle.micromap_core.specs.Steps.{walk_steps}
 
 pub loop-key-init : goal.loop-key-init
-loop-key-init g c =
-    let all : c.into_iter-key-iterator.result ≡ c.args.self.now = c.into_iter-key-iterator.ensures.into_iter_gives.0 in
-    let most = most_steps-product c.args.self.now (length c.args.other.now) in
-    record { answer = rw all refl; count = rw all refl; bounded = rw all (omega (arith, most)) }
+loop-key-init g c = rw c.into_iter-key-iterator.ensures.into_iter_gives.0 (record { answer = refl; count = refl; bounded = omega (arith, most_steps-product c.args.self.now (length c.args.other.now)) })
 
 pub into_iter-key-iterator-requires : goal.into_iter-key-iterator-requires
 into_iter-key-iterator-requires g c = assumption
@@ -19,19 +16,16 @@ has_value_counted-requires g c = (assumption, search rules)
 
 pub returns-then-not-has_value_counted : goal.returns-then-not-has_value_counted
 returns-then-not-has_value_counted g c = record {
-  answer = sym (all_ends g.K.PartialEq.eq g.V.PartialEq.eq c.args.other.now _ c.next.new.self c.if-not-has_value_counted.ensures.answer) ∙ ap (list_all (has_value g.K.PartialEq.eq g.V.PartialEq.eq c.args.other.now)) (sym c.in-Some.ensures.steps) ∙ c.loop-key.invariant.answer;
-  count = omega (arith, c.loop-key.invariant.count, c.has_value_counted.ensures.count, ap (walk_steps g.K.PartialEq.eq g.V.PartialEq.eq c.args.other.now) c.in-Some.ensures.steps, walk_ends g.K.PartialEq.eq g.V.PartialEq.eq c.args.other.now _ c.next.new.self c.if-not-has_value_counted.ensures.answer);
+  answer = sym (all_step g.K.PartialEq.eq g.V.PartialEq.eq c.args.other.now c.in-Some.ensures.steps c.if-not-has_value_counted.ensures.answer) ∙ c.loop-key.invariant.answer;
+  count = omega (arith, c.loop-key.invariant.count, c.has_value_counted.ensures.count, walk_step g.K.PartialEq.eq g.V.PartialEq.eq c.args.other.now c.in-Some.ensures.steps c.if-not-has_value_counted.ensures.answer);
 }
 
 pub loop-key-preserved : goal.loop-key-preserved
-loop-key-preserved g c =
-    let eq = g.K.PartialEq.eq in
-    let same = g.V.PartialEq.eq in
-    record {
-      answer = sym (all_on eq same c.args.other.now _ c.next.new.self c.if-not-has_value_counted.ensures.answer) ∙ ap (list_all (has_value eq same c.args.other.now)) (sym c.in-Some.ensures.steps) ∙ c.loop-key.invariant.answer;
-      count = omega (arith, c.loop-key.invariant.count, c.has_value_counted.ensures.count, ap (walk_steps eq same c.args.other.now) c.in-Some.ensures.steps, walk_on eq same c.args.other.now _ c.next.new.self c.if-not-has_value_counted.ensures.answer);
-      bounded = omega (arith, c.loop-key.invariant.bounded, c.has_value_counted.ensures.count, look_up_steps-bound eq c.args.other.now c.in-Some.key.now, ap (λ l. most_steps l (length c.args.other.now)) c.in-Some.ensures.steps);
-    }
+loop-key-preserved g c = record {
+  answer = sym (all_step g.K.PartialEq.eq g.V.PartialEq.eq c.args.other.now c.in-Some.ensures.steps c.if-not-has_value_counted.ensures.answer) ∙ c.loop-key.invariant.answer;
+  count = omega (arith, c.loop-key.invariant.count, c.has_value_counted.ensures.count, walk_step g.K.PartialEq.eq g.V.PartialEq.eq c.args.other.now c.in-Some.ensures.steps c.if-not-has_value_counted.ensures.answer);
+  bounded = omega (arith, c.loop-key.invariant.bounded, c.has_value_counted.ensures.count, look_up_steps-bound g.K.PartialEq.eq c.args.other.now c.in-Some.key.now, ap (λ l. most_steps l (length c.args.other.now)) c.in-Some.ensures.steps);
+}
 
 pub returns : goal.returns
 returns g c = record {

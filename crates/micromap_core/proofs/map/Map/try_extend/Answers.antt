@@ -1,62 +1,43 @@
-use Rattle.std.proofs.Common.{◌≡◌, true, false, is_some, if◌then◌else◌, length, ap, sym, ◌∙◌, arith, refl}
-use Rattle.std.specs.Iterator.{size}
+use Rattle.std.proofs.Common.{◌≡◌, length, ap, ◌∙◌, arith, refl}
 use Rattle.micromap_core.specs.Build.{pair_fits, put_pair}
-use Rattle.micromap_core.specs.Pairs.{at, has, put}
-use Rattle.micromap_core.proofs.BuildLemmas.{full_is, has_put_more, run_puts, run_stops}
-use Rattle.micromap_core.proofs.Lists.{is_some-if}
+use Rattle.micromap_core.specs.Pairs.{has}
+use Rattle.micromap_core.proofs.BuildLemmas.{fits_checked, full_is, has_put_more, run_puts, run_stops}
 use Rattle.micromap_core.proofs.map.Map.try_extend.Goals as goal
 
 pub loop-key-init : goal.loop-key-init
 loop-key-init g c =
-    let gives = c.into_iter-key-iterator.ensures.into_iter_gives in
-    record {
-      can = rw gives c.requires.can;
-      finite = rw gives c.requires.ends.0;
-      counted = omega (arith, c.requires.ends.1, ap (λ i. size (g.I.Iterator.remaining i)) gives);
-      put = record { fit = refl; made = refl; position_is = refl };
-    }
+    rw c.into_iter-key-iterator.ensures.into_iter_gives (record { can = c.requires.can; finite = c.requires.ends.0; counted = omega (arith, c.requires.ends.1); put = record { fit = refl; made = refl; position_is = refl } })
 
 pub loop-key-preserved : goal.loop-key-preserved
 loop-key-preserved g c =
     let l = c.loop-key in
-    let eq = g.K.PartialEq.eq in
-    let p : g.row.K.Denot × g.row.V.Denot = (c.in-Some.key, c.in-Some.value) in
-    let fit : pair_fits eq g.row.N l.self p ≡ true = sym (is_some-if _ (at eq l.self p.0)) ∙ ap is_some (sym c.checked_insert.ensures.answer) ∙ c.if-is_none.ensures in
     let goes = c.in-Some.ensures.goes.on l.invariant.finite in
     record {
       can = goes.0;
       finite = goes.1;
       counted = omega (arith, goes.2, l.invariant.counted);
-      put = has_put_more (pair_fits eq g.row.N) (put_pair eq) c.args.self.now l.yielded l.at l.self c.checked_insert.new.self p l.invariant.put c.checked_insert.ensures.pairs fit;
+      put = has_put_more (pair_fits g.K.PartialEq.eq g.row.N) (put_pair g.K.PartialEq.eq) c.args.self.now l.yielded l.at l.self c.checked_insert.new.self (c.in-Some.key, c.in-Some.value) l.invariant.put c.checked_insert.ensures.pairs (fits_checked g.K.PartialEq.eq g.row.N l.self c.in-Some.key c.checked_insert.ensures.answer c.if-is_none.ensures);
     }
 
 -- the map is as it was before the item that didn't fit, and full
 pub returns-then-is_none : goal.returns-then-is_none
 returns-then-is_none g c =
     let l = c.loop-key in
-    let eq = g.K.PartialEq.eq in
-    let p : g.row.K.Denot × g.row.V.Denot = (c.in-Some.key, c.in-Some.value) in
-    let misfit : pair_fits eq g.row.N l.self p ≡ false = sym (is_some-if _ (at eq l.self p.0)) ∙ ap is_some (sym c.checked_insert.ensures.answer) ∙ c.if-is_none.ensures in
-    let ran = run_stops (pair_fits eq g.row.N) (put_pair eq) c.args.self.now l.yielded l.at l.self c.checked_insert.new.self p l.invariant.put c.checked_insert.ensures.pairs g.I.Iterator.next_gives c.args.items c.next.new.self misfit
-    (rw (← c.into_iter-key-iterator.ensures.into_iter_gives) (l.key-iterator, l.yielded_by, c.in-Some.ensures.steps)) in
-    let kept = c.checked_insert.ensures.pairs ∙ ap (λ b. if b then put eq l.self p.0 p.1 else l.self) misfit in
-    record {
-      runs = tt;
-      stops = ran.0;
-      before = ran.1;
-      full = ap length kept ∙ full_is (has eq l.self p.0) (length l.self) g.row.N misfit (rw kept at c.len-len.ensures.content.bounded);
-    }
+    let misfit = fits_checked g.K.PartialEq.eq g.row.N l.self c.in-Some.key c.checked_insert.ensures.answer c.if-is_none.ensures in
+    let kept : c.checked_insert.new.self ≡ l.self = rw misfit at c.checked_insert.ensures.pairs in
+    let full = ap length kept ∙ full_is (has g.K.PartialEq.eq l.self c.in-Some.key) (length l.self) g.row.N misfit (rw kept at c.len-len.ensures.content.bounded) in
+    assumption (
+      run_stops (pair_fits g.K.PartialEq.eq g.row.N) (put_pair g.K.PartialEq.eq) c.args.self.now l.yielded l.at l.self c.checked_insert.new.self (c.in-Some.key, c.in-Some.value) l.invariant.put c.checked_insert.ensures.pairs g.I.Iterator.next_gives c.args.items c.next.new.self misfit
+          (rw (← c.into_iter-key-iterator.ensures.into_iter_gives) (l.key-iterator, l.yielded_by, c.in-Some.ensures.steps)),
+      full,
+    )
 
 pub returns : goal.returns
 returns g c =
     let l = c.loop-key in
-    record {
-      runs = run_puts (pair_fits g.K.PartialEq.eq g.row.N) (put_pair g.K.PartialEq.eq) g.I.Iterator.next_gives c.args.items c.args.self.now l.self l.yielded l.at l.invariant.put
-          (rw (← c.into_iter-key-iterator.ensures.into_iter_gives) (c.next.new.self, (l.key-iterator, l.yielded_by, c.in-None.ensures.steps)));
-      stops = tt;
-      before = tt;
-      full = tt;
-    }
+    assumption
+    (run_puts (pair_fits g.K.PartialEq.eq g.row.N) (put_pair g.K.PartialEq.eq) g.I.Iterator.next_gives c.args.items c.args.self.now l.self l.yielded l.at l.invariant.put
+    (rw (← c.into_iter-key-iterator.ensures.into_iter_gives) (c.next.new.self, (l.key-iterator, l.yielded_by, c.in-None.ensures.steps))))
 
 pub checked_insert-requires : goal.checked_insert-requires
 checked_insert-requires g c = assumption

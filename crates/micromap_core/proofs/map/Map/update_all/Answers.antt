@@ -6,10 +6,7 @@ pub loop-index-init : goal.loop-index-init
 loop-index-init g c = record { turns = refl; others = refl; whole = refl }
 
 pub visit_at-requires : goal.visit_at-requires
-visit_at-requires g c =
-    let at = c.loop-index.invariant in
-    let callable = asks_next g.F.FnMut c.args.update c.args.self.now _ _ _ at c.requires in
-    search rules
+visit_at-requires g c = (assumption, (omega arith, asks_next g.F.FnMut c.args.update c.args.self.now _ _ _ c.loop-index.invariant c.requires))
 
 pub loop-index-preserved : goal.loop-index-preserved
 loop-index-preserved g c = updates_next g.F.FnMut c.args.update c.args.self.now _ _ _ c.loop-index.invariant _ _ _ c.visit_at.ensures

@@ -1,5 +1,4 @@
 use Rattle.std.proofs.Common.{◌<◌, length, refl, rules, sym, ◌∙◌}
-use Rattle.micromap_core.specs.Closures.{CalledOnValue}
 use Rattle.micromap_core.proofs.ClosureLemmas.{asks_value, updates_stored, updates_missing, update_keys_end}
 use Rattle.micromap_core.proofs.map.Map.update_disjoint.Goals as goal
 use Rattle.std.proofs.lemmas.List.{length-replicate}
@@ -17,19 +16,15 @@ loop-position-preserved g c =
     let within : at.position < length c.args.keys.now = rw c.type_inv.keys c.loop-position-test.true in
     elim c.match-get_mut.branch [
       | goal.in-Some w ↦
-          let called : CalledOnValue g.F.FnMut at.update at.position w.in-Some.value.now w.update.result w.update.new.arg3 w.update.new.self = record { value = w.in-Some.value; shows = refl; left = _; called = w.update.ensures; leaves = refl } in
           rw (w.self-is, w.update-is, w.found-is)
-          (updates_stored g.K.PartialEq.eq g.F.FnMut c.args.update c.args.self.now c.args.keys.now _ _ _ _ at.invariant c.index-keys-position.result within w.in-Some.value.now (sym w.in-Some.ensures.answer) _ _ _ called)
+          (updates_stored g.K.PartialEq.eq g.F.FnMut c.args.update c.args.self.now c.args.keys.now _ _ _ _ at.invariant c.index-keys-position.result within w.in-Some.value.now (sym w.in-Some.ensures.answer) w.update.result w.update.new.arg3 w.update.new.self (record { value = w.in-Some.value; shows = refl; left = _; called = w.update.ensures; leaves = refl }))
       | goal.in-None w ↦
           rw (w.self-is, w.update-is, w.found-is)
           (updates_missing g.K.PartialEq.eq g.F.FnMut c.args.update c.args.self.now c.args.keys.now _ _ _ _ at.invariant c.index-keys-position.result within (sym w.in-None.ensures.answer))
     ]
 
 pub returns : goal.returns
-returns g c = record {
-  answer = (update_keys_end g.K.PartialEq.eq g.F.FnMut c.args.update c.args.self.now c.args.keys.now _ _ _ _ c.loop-position.invariant (search rules)).0;
-  pairs = (update_keys_end g.K.PartialEq.eq g.F.FnMut c.args.update c.args.self.now c.args.keys.now _ _ _ _ c.loop-position.invariant (search rules)).1;
-}
+returns g c = assumption (update_keys_end g.K.PartialEq.eq g.F.FnMut c.args.update c.args.self.now c.args.keys.now _ _ _ _ c.loop-position.invariant (search rules))
 
 pub get_mut-requires : goal.get_mut-requires
 get_mut-requires g c = assumption

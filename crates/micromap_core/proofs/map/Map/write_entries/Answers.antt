@@ -1,20 +1,13 @@
-use Rattle.std.proofs.Common.{refl, rules, length, ap, arith}
+use Rattle.std.proofs.Common.{refl, length, ap, arith}
 use Rattle.std.proofs.lemmas.Result.{MatchResult-from_err}
 use Rattle.micromap_core.proofs.StreamLemmas.{still_faultless, writing_begins, writing_more, writing_ends, writing_fails}
 use Rattle.micromap_core.proofs.map.Map.write_entries.Goals as goal
 
 pub loop-key-init : goal.loop-key-init
-loop-key-init g c = record {
-  can = search rules;
-  finite = search rules;
-  faultless = record { count = refl; last = refl };
-  writing = rw c.into_iter-key-iterator.ensures.into_iter_gives.0 (writing_begins _ _);
-}
+loop-key-init g c = record { faultless = record { count = refl; last = refl }; writing = rw c.into_iter-key-iterator.ensures.into_iter_gives.0 (writing_begins _ _) }
 
 pub loop-key-preserved : goal.loop-key-preserved
 loop-key-preserved g c = record {
-  can = search rules;
-  finite = search rules;
   faultless = still_faultless c.loop-key.invariant.faultless c.in_ok-entry.ensures.faultless;
   writing = writing_more c.loop-key.invariant.writing c.in-Some.ensures.steps c.in_ok-entry.ensures.taken;
 }
@@ -24,12 +17,7 @@ returns-in_err-entry-clause-beginning g c =
     MatchResult-from_err _ _ _ c.from_residual.ensures.0 (λ _. writing_fails c.loop-key.invariant.writing c.in-Some.ensures.steps c.in_err-entry.ensures.kept)
 
 pub returns : goal.returns
-returns g c = record {
-  whole = writing_ends c.loop-key.invariant.writing c.in-None.ensures.steps.0;
-  faultless = c.loop-key.invariant.faultless;
-  beginning = tt;
-  fault = tt;
-}
+returns g c = assumption (writing_ends c.loop-key.invariant.writing c.in-None.ensures.steps.0)
 
 pub into_iter-key-iterator-requires : goal.into_iter-key-iterator-requires
 into_iter-key-iterator-requires g c = assumption

@@ -2,7 +2,7 @@ use Rattle.std.proofs.Common.{◌≡◌, true, [], get_or, ap, ◌∙◌, rules}
 use Rattle.std.proofs.lemmas.List.{take_all}
 use Rattle.micromap_core.proofs.BuildLemmas.{put_at, array_fits, array_fits_at}
 use Rattle.micromap.specs.Extend.{distinct}
-use Rattle.micromap.specs.Items.{add, item_fits}
+use Rattle.micromap.specs.Items.{put_item, item_fits}
 use Rattle.micromap.proofs.ExtendLemmas.{items_keyed}
 use Rattle.micromap.proofs.set.extend.SetFromArray.from.Goals as goal
 
@@ -18,7 +18,7 @@ pub loop-index-preserved : goal.loop-index-preserved
 loop-index-preserved g c =
     let l = c.loop-index in
     let eq = g.T.PartialEq.eq in
-    put_at (item_fits eq g.row.N) (add eq) [] c.args.items l.index c.index-items-index.result l.set (search rules) l.invariant _ c.insert.ensures.items
+    put_at (item_fits eq g.row.N) (put_item eq) [] c.args.items l.index c.index-items-index.result l.set (search rules) l.invariant _ c.insert.ensures.items
 
 pub returns : goal.returns
 returns g c =

@@ -11,8 +11,6 @@ loop-item-init g c =
     let plain = printing_begins (DisplaysOnOk took) g.T.Display.output (plain_append took) c.args.f.now c.write_str.new.self c.args.self.now opens.writes in
     let styled = printing_begins (WritesAs took c.args.f.now) (λ x. g.T.Display.styled_output x spec) (styled_append took c.args.f.now) c.args.f.now c.write_str.new.self c.args.self.now (λ same. opens.styled) in
     record {
-      can = search rules;
-      finite = search rules;
       utf8 = search rules;
       plain = rw c.into_iter-item-iterator.ensures.into_iter_gives.0 plain;
       styled = rw c.into_iter-item-iterator.ensures.into_iter_gives.0 styled;
@@ -30,8 +28,6 @@ loop-item-preserved g c =
     let styled = styled_append took c.args.f.now l.f between c.fmt.new.f (Ok tt) (Some l.lead.now) (g.T.Display.styled_output x spec) (λ same. leads.styled)
     (with_options took c.args.f.now between c.fmt.new.f (Ok tt) (g.T.Display.styled_output x) c.in_ok-fmt.ensures.styled) in
     record {
-      can = search rules;
-      finite = search rules;
       utf8 = search rules;
       plain = printing_more (DisplaysOnOk took) g.T.Display.output (plain_append took) _ _ _ _ _ _ _ _ l.invariant.plain c.in-Some.ensures.steps plain;
       styled = printing_more (WritesAs took c.args.f.now) (λ x. g.T.Display.styled_output x spec) (styled_append took c.args.f.now) _ _ _ _ _ _ _ _ l.invariant.styled c.in-Some.ensures.steps styled;

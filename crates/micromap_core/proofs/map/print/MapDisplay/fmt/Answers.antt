@@ -10,21 +10,15 @@ loop-key-init g c =
     let took = g.W.Write.write_str_gives in
     let e = c.args.f.now in
     let begins = printing_begins (WritesAs took e) (pair_text g.K.Display.output g.V.Display.output) (styled_append took e) e c.write_str.new.self c.args.self.now (λ same. c.in_ok-write_str.ensures.styled) in
-    record { can = search rules; finite = search rules; utf8 = search rules; printing = rw c.into_iter-key-iterator.ensures.into_iter_gives.0 begins }
+    record { utf8 = search rules; printing = rw c.into_iter-key-iterator.ensures.into_iter_gives.0 begins }
 
 pub loop-key-preserved : goal.loop-key-preserved
 loop-key-preserved g c =
     let took = g.W.Write.write_str_gives in
-    let l = c.loop-key in
     let e = c.args.f.now in
-    let text = Some l.lead.now ++? pair_text g.K.Display.output g.V.Display.output (c.in-Some.key.now, c.in-Some.value.now) in
-    record {
-      can = search rules;
-      finite = search rules;
-      utf8 = search rules;
-      printing = printing_more (WritesAs took e) (pair_text g.K.Display.output g.V.Display.output) (styled_append took e) _ _ _ _ _ _ _ _ l.invariant.printing c.in-Some.ensures.steps
-          (with_options took e l.f _ (Ok tt) (λ options. text) (unstyled_writes took _ _ _ text (λ same. search rules) c.in_ok-write.ensures.writes));
-    }
+    let text = Some c.loop-key.lead.now ++? pair_text g.K.Display.output g.V.Display.output (c.in-Some.key.now, c.in-Some.value.now) in
+    let wrote = with_options took e c.loop-key.f _ (Ok tt) (λ options. text) (unstyled_writes took _ _ _ text (λ same. search rules) c.in_ok-write.ensures.writes) in
+    record { utf8 = search rules; printing = printing_more (WritesAs took e) (pair_text g.K.Display.output g.V.Display.output) (styled_append took e) _ _ _ _ _ _ _ _ c.loop-key.invariant.printing c.in-Some.ensures.steps wrote }
 
 pub returns : goal.returns
 returns g c =

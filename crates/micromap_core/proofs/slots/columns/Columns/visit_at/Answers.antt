@@ -4,6 +4,10 @@ use Rattle.micromap_core.specs.Closures.{AcceptsPair}
 use Rattle.micromap_core.proofs.SlotsLemmas.{as_long, get_zip, set_value_zip}
 use Rattle.micromap_core.proofs.slots.columns.Columns.visit_at.Goals as goal
 
+pub hint_below-requires : goal.hint_below-requires
+hint_below-requires g c =
+    omega (arith, as_long _ _ _ c.self.invariant c.self.view_is, c.requires.within, c.self.invariant, c.len.ensures.answer)
+
 pub item_at-requires : goal.item_at-requires
 item_at-requires g c =
     (search rules, omega (arith, as_long _ _ _ c.self.invariant c.self.view_is, c.requires.within))

@@ -1,5 +1,0 @@
-use Rattle.micromap_core.proofs.entry.occupied.OccupiedIn+Map+K+V+N.get_mut.Goals as goal
-use Rattle.std.proofs.Common.{refl}
-
-pub returns : goal.returns
-returns g c = ((refl, λ w. refl), record { writes_back = tt; answer = c.value_at.ensures.value })
