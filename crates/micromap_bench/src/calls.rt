@@ -1,7 +1,7 @@
 //! Two maps under one list of keyed calls.
 ghost use Rattle.std.specs.Prelude.{◌≡◌, ◌↔◌, map, IsTrue};
-ghost use Rattle.micromap.specs.Calls.{answer, after, run, agree, Agree};
-ghost use Rattle.micromap.specs.Fair.{IsFair};
+ghost use Rattle.micromap.specs.Calls.{answer, after, run, agree};
+ghost use Rattle.micromap.specs.Fair.{AnswersAgree, IsFair};
 ghost use Rattle.micromap.specs.Same.{Same};
 ghost use Rattle.micromap_bench.specs.Lockstep.{call_of, answer_of};
 
@@ -44,8 +44,7 @@ pub fn lockstep<K: Eq + Copy, V: Eq + Copy, const N: usize, const M: usize>(
 ) -> bool
     ensures first { first.new ≡ (run K.eq N first.old (map call_of calls.now)).1 }
     ensures second { second.new ≡ (run K.eq M second.old (map call_of calls.now)).1 }
-    ensures answer { IsTrue result ↔ Agree K.eq V.eq (run K.eq N first.old (map call_of calls.now)).0
-        (run K.eq M second.old (map call_of calls.now)).0 }
+    ensures answer { IsTrue result ↔ AnswersAgree K.eq V.eq N M first.old second.old (map call_of calls.now) }
     ensures keeps_same { Same K.eq V.eq first.old second.old
         → IsFair K.eq N M first.old second.old (map call_of calls.now)
         → IsTrue result × Same K.eq V.eq first.new second.new }
