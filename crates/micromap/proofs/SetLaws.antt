@@ -189,33 +189,21 @@ module _ {T : Type 0} (test : T → Bool) where
       ap (remove_key test) (sym (keys_of-entries items)) ∙ take-keys test (entries_of items) ∙ keys_remove_entry test (entries_of items) eq probes (unique-entries eq items distinct)
       ∙ ap (filter (λ y. not (test y))) (keys_of-entries items)
 
--- what an item finds at once: for a search, which doesn't compute that an item of one's own equals itself
-module _ {T : Type 0} (eq : T → T → Bool) (items : List T) (x : T) where
-  pub found_put_item : Lawful eq → (put_item eq items x ≡ put_item eq items x) × (is_member eq (put_item eq items x) x ≡ true)
-  found_put_item laws = (refl, is_member_put_item eq items x x laws ∙ ap (λ b. b || is_member eq items x) ((of_lawful eq laws).refl x))
-
-  pub found_replace_item : Lawful eq → (replace_item eq items x ≡ replace_item eq items x) × (find_item eq (replace_item eq items x) x ≡ Some x)
-  found_replace_item laws = (refl, find_item_replace_item eq items x x laws ∙ ap (λ b. if b then Some x else find_item eq items x) ((of_lawful eq laws).refl x))
-
-  pub found_take_item : Lawful eq → IsDistinct eq items → (take_item eq items x ≡ take_item eq items x) × (is_member eq (take_item eq items x) x ≡ false)
-  found_take_item laws distinct = (refl, is_member_take_item eq items x x laws distinct ∙ ap (λ b. not b && is_member eq items x) ((of_lawful eq laws).refl x))
-
 -- each item that a loop over a set comes to is in the set: so of what is left at the start, which is all
 pub is_member_walked : {T : Type 0} (eq : T → T → Bool) (items left : List T) → left ≡ items → Lawful eq → list_all (is_member eq items) left ≡ true
 is_member_walked eq items left all laws = ap (list_all (is_member eq items)) all ∙ within_is_member (of_lawful eq laws) items items (λ q there. there)
 
-pub ruleset set_laws = (put_item_new, not_fits, is_member_first, is_member_behind, take_item_first, any_put_all_items, any_put_item, any_replace_item, any_take_item, find_put_item, find_replace_item, find_take_item, length_put_item, length_replace_item, length_take_item, items_take_item, unique_put_item, unique_replace_item, unique_take_item, put_item_back, take_item_missing, remove_key_missing, length_remove_key, items_remove_key, found_put_item, found_replace_item, found_take_item, is_member_walked, equalities)
-
--- what each item finds, by the word alone: for a search that doesn't see the equality in what it computes to
+-- what each item finds, by the word alone: for a search that doesn't see the equality in what it computes to, nor that an
+-- item of one's own equals itself
 module _ {T : Type 0} (eq : T → T → Bool) (items : List T) (x : T) where
   pub each_put_item : Lawful eq → (put_item eq items x ≡ put_item eq items x) × (is_member eq (put_item eq items x) x ≡ true) × ((y : T) → is_member eq (put_item eq items x) y ≡ (eq x y || is_member eq items y))
-  each_put_item laws = (refl, (found_put_item eq items x laws).1, λ y. is_member_put_item eq items x y laws)
+  each_put_item laws = (refl, is_member_put_item eq items x x laws ∙ ap (λ b. b || is_member eq items x) ((of_lawful eq laws).refl x), λ y. is_member_put_item eq items x y laws)
 
   pub each_replace_item : Lawful eq → (replace_item eq items x ≡ replace_item eq items x) × (find_item eq (replace_item eq items x) x ≡ Some x) × ((y : T) → is_member eq (replace_item eq items x) y ≡ (eq x y || is_member eq items y))
-  each_replace_item laws = (refl, (found_replace_item eq items x laws).1, λ y. is_member_replace_item eq items x y laws)
+  each_replace_item laws = (refl, find_item_replace_item eq items x x laws ∙ ap (λ b. if b then Some x else find_item eq items x) ((of_lawful eq laws).refl x), λ y. is_member_replace_item eq items x y laws)
 
   pub each_take_item : Lawful eq → IsDistinct eq items → (take_item eq items x ≡ take_item eq items x) × (is_member eq (take_item eq items x) x ≡ false) × ((y : T) → is_member eq (take_item eq items x) y ≡ (not (eq x y) && is_member eq items y))
-  each_take_item laws distinct = (refl, (found_take_item eq items x laws distinct).1, λ y. is_member_take_item eq items x y laws distinct)
+  each_take_item laws distinct = (refl, is_member_take_item eq items x x laws distinct ∙ ap (λ b. not b && is_member eq items x) ((of_lawful eq laws).refl x), λ y. is_member_take_item eq items x y laws distinct)
 
 module _ {T : Type 0} (eq : T → T → Bool) (xs ys : List T) where
   pub each_put_all_items : Lawful eq → (put_all_items eq xs ys ≡ put_all_items eq xs ys) × ((y : T) → is_member eq (put_all_items eq xs ys) y ≡ (is_member eq ys y || is_member eq xs y))
@@ -233,5 +221,4 @@ module _ {T : Type 0} (eq : T → T → Bool) (xs ys : List T) where
   pub each_intersection : Lawful eq → (intersection eq xs ys ≡ intersection eq xs ys) × ((y : T) → is_member eq (intersection eq xs ys) y ≡ (is_member eq xs y && is_member eq ys y))
   each_intersection laws = (refl, is_member-intersection (of_lawful eq laws) xs ys)
 
--- for items of a type parameter, or of a type with a derived `==`, where `Lawful eq` is at hand
-pub ruleset set_bound_laws = (put_item_new, not_fits, is_member_first, is_member_behind, take_item_first, each_put_all_items, each_put_item, each_replace_item, each_take_item, each_union, each_symmetric_difference, each_difference, each_intersection, is_member_walked, length_put_item, length_replace_item, length_take_item, items_take_item, unique_put_item, unique_replace_item, unique_take_item, put_item_back, take_item_missing)
+pub ruleset set_laws = (put_item_new, not_fits, is_member_first, is_member_behind, take_item_first, any_put_all_items, any_put_item, any_replace_item, any_take_item, find_put_item, find_replace_item, find_take_item, length_put_item, length_replace_item, length_take_item, items_take_item, unique_put_item, unique_replace_item, unique_take_item, put_item_back, take_item_missing, remove_key_missing, length_remove_key, items_remove_key, each_put_item, each_replace_item, each_take_item, each_put_all_items, each_union, each_symmetric_difference, each_difference, each_intersection, is_member_walked, equalities)

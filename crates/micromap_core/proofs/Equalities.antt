@@ -1,6 +1,6 @@
 -- For callers: the equalities that are known to be lawful, and the tests that are probes of them. An equality of one's
 -- own is one line: `lawful_mine : Lawful my_eq`, by `lawful`.
-use Rattle.std.proofs.Common.{◌≡◌, Bool, true, sym, ◌∙◌, ℕ, ℤ, List, String, nat_eq, string_bytes}
+use Rattle.std.proofs.Common.{◌≡◌, Bool, true, sym, ◌∙◌, ℕ, List, String, nat_eq, string_bytes}
 use Rattle.std.specs.Cmp.{both_ways, IsEquivalence, bool_eq_equiv}
 use Rattle.std.specs.Bool.{beq}
 use Rattle.std.specs.Borrow.{Bor}
@@ -46,20 +46,11 @@ module _ {K : Type 0} (eq : K → K → Bool) where
 pub lawful_nat : Lawful nat_eq
 lawful_nat = lawful nat_eq nat_eq_equiv
 
-pub probes_nat : (k : ℕ) → Probes nat_eq (nat_eq k)
-probes_nat k = probes_key nat_eq k lawful_nat
-
 pub lawful_int : Lawful int_eq
 lawful_int = lawful int_eq int_eq_equiv
 
-pub probes_int : (k : ℤ) → Probes int_eq (int_eq k)
-probes_int k = probes_key int_eq k lawful_int
-
 pub lawful_bool : Lawful beq
 lawful_bool = lawful beq bool_eq_equiv
-
-pub probes_bool : (k : Bool) → Probes beq (beq k)
-probes_bool k = probes_key beq k lawful_bool
 
 -- texts: a `String`, by itself and by `Text`; the bytes of one; a `&str`
 pub lawful_string : (Z : Type 0) → Lawful (string_eq {Z = Z})
@@ -82,6 +73,10 @@ lawful_bytes = lawful (pointwise nat_eq) nat_list_eq_equiv
 pub probes_bytes : (bytes : List ℕ) → Probes (pointwise nat_eq) (pointwise nat_eq bytes)
 probes_bytes bytes = probes_key (pointwise nat_eq) bytes lawful_bytes
 
+-- a search needs to be told of either order, since it computes the comparison
+pub bytes_turned : (xs ys : List ℕ) → pointwise nat_eq xs ys ≡ pointwise nat_eq ys xs
+bytes_turned = nat_list_eq_equiv.symm
+
 -- the equality of two `&str`
 abbrev str_eq : Bor (List ℕ) → Bor (List ℕ) → Bool
 str_eq x y = pointwise nat_eq x.now y.now
@@ -101,4 +96,4 @@ probes_str bytes =
 pub lawful_on : {K J : Type 0} (f : K → J) (eq : J → J → Bool) → Lawful eq → Lawful (on f eq)
 lawful_on f eq laws = lawful (on f eq) (on_equiv f (of_lawful eq laws))
 
-pub ruleset equalities = (lawful_nat, probes_nat, lawful_int, probes_int, lawful_bool, probes_bool, lawful_string, probes_string, probes_text, lawful_bytes, probes_bytes, lawful_str, probes_str, lawful_on)
+pub ruleset equalities = (probes_key, lawful_nat, lawful_int, lawful_bool, lawful_string, probes_string, probes_text, lawful_bytes, probes_bytes, bytes_turned, lawful_str, probes_str, lawful_on)

@@ -2,11 +2,10 @@
 -- the word, as `lookup_put` and `length_take_out`. What reads is a look-up of the value (`lookup`) or of the pair
 -- (`pair`) by a test, and of the keys' own `at`, `has` and `fits`, the number of pairs (`length`), and that keys are
 -- pairwise unequal (`unique`). The ruleset at the end has what a search needs of them.
-use Rattle.std.proofs.Common.{◌≡◌, ℕ, nat_eq, ◌+◌, ◌||◌, Bool, true, not, List, [], ◌∷◌, ◌++◌, filter, length, reverse, Some, None, is_some, get_or, if◌then◌else◌, refl, ap, sym, subst, ◌∙◌, arith, ◌≤◌, false, String}
+use Rattle.std.proofs.Common.{◌≡◌, ℕ, ◌+◌, ◌||◌, Bool, true, not, List, [], ◌∷◌, ◌++◌, filter, length, reverse, Some, None, is_some, get_or, if◌then◌else◌, refl, ap, sym, subst, ◌∙◌, arith, ◌≤◌, false, String}
 use Rattle.std.specs.List.{fold, list_all, IsDistinct}
 use Rattle.std.specs.Map.{keys_of, lookup, lookup_entry, remove_entry, set_value}
 use Rattle.std.specs.Option.{option_eq, option_map, option_map_or, option_or, unwrap_or}
-use Rattle.std.specs.Ordering.{on}
 use Rattle.std.specs.Set.{distinct_count}
 use Rattle.std.specs.String.{string_eq}
 use Rattle.std.proofs.lemmas.List.{reverse-append, length-append}
@@ -21,7 +20,7 @@ use Rattle.micromap_core.specs.Build.{build, put_all, put_pair}
 use Rattle.micromap_core.specs.Equalities.{Lawful, Probes}
 use Rattle.micromap_core.specs.Pairs.{at, pair, has, put, put_key, take_out, without_at, IsUnique, fits}
 use Rattle.micromap_core.specs.Same.{has_value}
-use Rattle.micromap_core.proofs.Equalities.{equalities, lawful, lawful_nat, lawful_on, of_lawful, of_probes, probes_key, same_test, probes_text}
+use Rattle.micromap_core.proofs.Equalities.{equalities, lawful, of_lawful, of_probes, probes_key, same_test, probes_text}
 use Rattle.micromap_core.proofs.DistinctLemmas.{IsDistinct-filter}
 use Rattle.micromap_core.proofs.BuildLemmas.{keys-built, length-built, pairs_keyed}
 use Rattle.micromap_core.proofs.PairsLemmas.{lookup-entry, push-put, push-put_key, slice_set-put_key, IsUnique-push, IsUnique-set, IsUnique-set_key, IsUnique-remove, keys_of-put_new, keys_of-put_stored}
@@ -252,17 +251,6 @@ module _ {K V : Type 0} (test : K → Bool) (pairs : List (K × V)) where
 pub lookup_remove_text : {Z V : Type 0} (bytes : List ℕ) (pairs : List (String Z × V)) → IsUnique string_eq pairs → lookup (is_text bytes) (remove_entry (is_text bytes) pairs) ≡ None
 lookup_remove_text {Z} bytes pairs unique = lookup_remove_entry (is_text bytes) pairs string_eq (probes_text Z bytes) unique
 
--- what a key finds at once: for a search, which doesn't compute that a key of one's own equals itself
-module _ {K V : Type 0} (eq : K → K → Bool) (pairs : List (K × V)) (k : K) where
-  pub found_put : (v : V) → Lawful eq → (put eq pairs k v ≡ put eq pairs k v) × (at eq (put eq pairs k v) k ≡ Some v)
-  found_put v laws = (refl, at_put_same eq pairs k v laws)
-
-  pub found_put_key : (v : V) → Lawful eq → (put_key eq pairs k v ≡ put_key eq pairs k v) × (at eq (put_key eq pairs k v) k ≡ Some v)
-  found_put_key v laws = (refl, at_put_key_same eq pairs k v laws)
-
-  pub found_take_out : Lawful eq → IsUnique eq pairs → (take_out eq pairs k ≡ take_out eq pairs k) × (at eq (take_out eq pairs k) k ≡ None)
-  found_take_out laws unique = (refl, at_take_out_same eq pairs k laws unique)
-
 -- each pair that a loop over a map comes to is what its key finds: so of what is left at the start, which is all
 module _ {K V : Type 0} (eq : K → K → Bool) where
   pub at_walked : (same : V → V → Bool) (pairs left : List (K × V)) → left ≡ pairs → Lawful eq → Lawful same → IsUnique eq pairs → list_all (has_value eq same pairs) left ≡ true
@@ -277,9 +265,8 @@ module _ {K V : Type 0} (eq : K → K → Bool) where
       ap (list_all (has eq pairs)) all
       ∙ list_all-from_AllPass (has eq pairs) (keys_of pairs) (λ i d within. is_some-lookup (eq (get_or (keys_of pairs) i d)) pairs ∙ All-is_member (of_lawful eq laws) (keys_of pairs) i d within)
 
-pub ruleset map_laws = (keys_put, put_new, put_stored, not_fits, at_first, has_behind, take_out_first, lookup_put_all, lookup_put_all_unequal, is_some-lookup, pair_put, lookup_put, pair_put_key, lookup_put_key, pair_take_out, lookup_take_out, pair_build, lookup_build, pair_filter, lookup_filter, length_put, length_put_key, length_take_out, keys_take_out, length_build, unique_put, unique_put_key, unique_take_out, unique_build, IsDistinct-keys_filter, put_back, put_again, take_out_missing, set_value_missing, remove_entry_missing, length-set_value, length-remove_entry, lookup-set, keys_remove_entry, lookup_remove_entry, lookup_remove_text, unique_set_value, unique_remove_entry, found_put, found_put_key, found_take_out, at_walked, has_walked, equalities)
-
--- what each key finds, by the word alone: for a search that doesn't see the equality in what it computes to
+-- what each key finds, by the word alone: for a search that doesn't see the equality in what it computes to, nor that a
+-- key of one's own equals itself
 module _ {K V : Type 0} (eq : K → K → Bool) (pairs : List (K × V)) (k : K) where
   pub each_put : (v : V) → Lawful eq → (put eq pairs k v ≡ put eq pairs k v) × (at eq (put eq pairs k v) k ≡ Some v) × ((q : K) → at eq (put eq pairs k v) q ≡ (if eq k q then Some v else at eq pairs q))
   each_put v laws = (refl, at_put_same eq pairs k v laws, λ q. at_put eq pairs k v q laws)
@@ -294,18 +281,4 @@ module _ {K V : Type 0} (eq : K → K → Bool) (pairs items : List (K × V)) wh
   pub each_put_all : Lawful eq → (put_all eq pairs items ≡ put_all eq pairs items) × ((q : K) → at eq (put_all eq pairs items) q ≡ option_or (at eq (reverse items) q) (at eq pairs q)) × (IsUnique eq items → (q : K) → at eq (put_all eq pairs items) q ≡ option_or (at eq items q) (at eq pairs q)) × ((q : K) → has eq (put_all eq pairs items) q ≡ (has eq items q || has eq pairs q))
   each_put_all laws = (refl, λ q. at_put_all eq pairs items q laws, λ unequal q. at_put_all_unequal eq pairs items q laws unequal, λ q. has_put_all eq pairs items q laws)
 
--- for keys of a type parameter, or of a type with a derived `==`, where `Lawful eq` is at hand
-pub ruleset map_bound_laws = (keys_put, put_new, put_stored, not_fits, at_first, has_behind, take_out_first, each_put_all, is_some-lookup, each_put, each_put_key, each_take_out, length_put, length_put_key, length_take_out, keys_take_out, unique_put, unique_put_key, unique_take_out, put_back, put_again, take_out_missing, at_walked, has_walked)
-
--- at keys that compare by a number that they have
-module _ {K V : Type 0} (f : K → ℕ) (pairs : List (K × V)) (k q : K) where
-  pub at_put_on : (v : V) → at (on f nat_eq) (put (on f nat_eq) pairs k v) q ≡ (if nat_eq (f k) (f q) then Some v else at (on f nat_eq) pairs q)
-  at_put_on v = at_put (on f nat_eq) pairs k v q (lawful_on f nat_eq lawful_nat)
-
-  pub at_put_key_on : (v : V) → at (on f nat_eq) (put_key (on f nat_eq) pairs k v) q ≡ (if nat_eq (f k) (f q) then Some v else at (on f nat_eq) pairs q)
-  at_put_key_on v = at_put_key (on f nat_eq) pairs k v q (lawful_on f nat_eq lawful_nat)
-
-  pub at_take_out_on : IsUnique (on f nat_eq) pairs → at (on f nat_eq) (take_out (on f nat_eq) pairs k) q ≡ (if nat_eq (f k) (f q) then None else at (on f nat_eq) pairs q)
-  at_take_out_on unique = at_take_out (on f nat_eq) pairs k q (lawful_on f nat_eq lawful_nat) unique
-
-pub ruleset on_laws = (at_put_on, at_put_key_on, at_take_out_on, map_laws)
+pub ruleset map_laws = (keys_put, put_new, put_stored, not_fits, at_first, has_behind, take_out_first, lookup_put_all, lookup_put_all_unequal, is_some-lookup, pair_put, lookup_put, pair_put_key, lookup_put_key, pair_take_out, lookup_take_out, pair_build, lookup_build, pair_filter, lookup_filter, length_put, length_put_key, length_take_out, keys_take_out, length_build, unique_put, unique_put_key, unique_take_out, unique_build, IsDistinct-keys_filter, put_back, put_again, take_out_missing, set_value_missing, remove_entry_missing, length-set_value, length-remove_entry, lookup-set, keys_remove_entry, lookup_remove_entry, lookup_remove_text, unique_set_value, unique_remove_entry, each_put, each_put_key, each_take_out, each_put_all, at_walked, has_walked, equalities)

@@ -28,7 +28,7 @@ pub type Role<const N: usize> = Set<Permission, N>;
 
 /// Grants a permission, and returns whether there was room for it. A new one goes last, and one that is granted already
 /// stays in its place.
-#[tactic(auto, using(micromap::proofs::SetLaws::set_bound_laws))]
+#[tactic(auto, using(micromap::proofs::SetLaws::set_laws))]
 pub fn grant<const N: usize>(role: &mut Role<N>, permission: Permission) -> bool
     ensures answer { result ≡ item_fits ⟦<Permission as PartialEq>⟧.eq N role.old permission }
     ensures role { role.new ≡ put_item_if_fits ⟦<Permission as PartialEq>⟧.eq N role.old permission }
@@ -42,7 +42,7 @@ pub fn grant<const N: usize>(role: &mut Role<N>, permission: Permission) -> bool
 }
 
 /// Revokes a permission, and returns whether it was granted.
-#[tactic(auto, using(micromap::proofs::SetLaws::set_bound_laws))]
+#[tactic(auto, using(micromap::proofs::SetLaws::set_laws))]
 pub fn revoke<const N: usize>(role: &mut Role<N>, permission: Permission) -> bool
     ensures answer { result ≡ is_member ⟦<Permission as PartialEq>⟧.eq role.old permission }
     ensures revoked { IsFalse (is_member ⟦<Permission as PartialEq>⟧.eq role.new permission) }
@@ -53,7 +53,7 @@ pub fn revoke<const N: usize>(role: &mut Role<N>, permission: Permission) -> boo
 }
 
 /// Returns a role with the permissions of both, in any capacity. Returns an error exactly if it has no room for them.
-#[tactic(auto, using(micromap::proofs::SetLaws::set_bound_laws))]
+#[tactic(auto, using(micromap::proofs::SetLaws::set_laws))]
 pub fn merged<const N: usize, const M: usize, const L: usize>(
     first: &Role<N>,
     second: &Role<M>,
@@ -66,7 +66,7 @@ pub fn merged<const N: usize, const M: usize, const L: usize>(
 }
 
 /// Returns a role limited to what another one may do. It is always `Ok`.
-#[tactic(auto, using(micromap::proofs::SetLaws::set_bound_laws))]
+#[tactic(auto, using(micromap::proofs::SetLaws::set_laws))]
 pub fn limited<const N: usize, const M: usize>(
     role: &Role<N>,
     most: &Role<M>,
@@ -78,7 +78,7 @@ pub fn limited<const N: usize, const M: usize>(
 }
 
 /// Returns what a role may do beyond another one. It is always `Ok`.
-#[tactic(auto, using(micromap::proofs::SetLaws::set_bound_laws))]
+#[tactic(auto, using(micromap::proofs::SetLaws::set_laws))]
 pub fn beyond<const N: usize, const M: usize>(
     role: &Role<N>,
     other: &Role<M>,

@@ -34,7 +34,7 @@ fn add_newest<T: Eq + Drop, const N: usize>(set: &mut Set<T, N>, item: T) -> Opt
 }
 
 // Takes the first pair out. Its key found its value, and finds none now.
-#[tactic(auto, using(micromap_core::proofs::MapLaws::map_bound_laws))]
+#[tactic(auto, using(micromap_core::proofs::MapLaws::map_laws))]
 fn take_first<K: Eq + Drop, V: Drop, const N: usize>(map: &mut Map<K, V, N>) -> Option<(K, V)>
     ensures found { IfSome result (λ p. at K.eq map.old p.0 ≡ Some p.1) }
     ensures gone { IfSome result (λ p. IsFalse (has K.eq map.new p.0)) }
@@ -64,7 +64,7 @@ fn first_item<T: Eq + Drop, const N: usize>(set: Set<T, N>) -> Option<T>
 }
 
 // Puts a pair last if its key is new and there is room.
-#[tactic(auto, using(micromap_core::proofs::MapLaws::map_bound_laws))]
+#[tactic(auto, using(micromap_core::proofs::MapLaws::map_laws))]
 fn append<K: Eq + Drop, V: Drop, const N: usize>(map: &mut Map<K, V, N>, key: K, value: V) -> bool
     ensures { map.new ≡ (if result then map.old ++ (key, value) ∷ [] else map.old) }
 {
@@ -77,7 +77,7 @@ fn append<K: Eq + Drop, V: Drop, const N: usize>(map: &mut Map<K, V, N>, key: K,
 }
 
 // Inserts a pair if it fits. One that doesn't has a new key, and the map is full.
-#[tactic(auto, using(micromap_core::proofs::MapLaws::map_bound_laws))]
+#[tactic(auto, using(micromap_core::proofs::MapLaws::map_laws))]
 fn put_or_refuse<K: Eq + Drop, V: Drop, const N: usize>(
     map: &mut Map<K, V, N>,
     key: K,
@@ -91,7 +91,7 @@ fn put_or_refuse<K: Eq + Drop, V: Drop, const N: usize>(
 }
 
 // Whether a key is among the keys.
-#[tactic(auto, using(micromap_core::proofs::MapLaws::map_bound_laws))]
+#[tactic(auto, using(micromap_core::proofs::MapLaws::map_laws))]
 fn is_among_keys<K: Eq, V, const N: usize>(map: &Map<K, V, N>, key: &K) -> bool
     ensures { result ≡ list_any (K.eq key.now) (keys_of map.now) }
 {
@@ -99,7 +99,7 @@ fn is_among_keys<K: Eq, V, const N: usize>(map: &Map<K, V, N>, key: &K) -> bool
 }
 
 // Puts pairs one after the other, up to the first that doesn't fit. If one doesn't, they would be more than `N`.
-#[tactic(auto, using(micromap_core::proofs::CountLaws::count_laws, micromap_core::proofs::MapLaws::map_bound_laws))]
+#[tactic(auto, using(micromap_core::proofs::CountLaws::count_laws, micromap_core::proofs::MapLaws::map_laws))]
 fn put_each<K: Eq + Copy + Drop, const N: usize>(map: &mut Map<K, u8, N>, items: &[(K, u8)]) -> bool
     ensures put { OnTrue result (map.new ≡ put_all K.eq map.old items.now) }
     ensures refused { IsFalse result → N < length (put_all K.eq map.old items.now) }
@@ -115,7 +115,7 @@ fn put_each<K: Eq + Copy + Drop, const N: usize>(map: &mut Map<K, u8, N>, items:
 }
 
 // Puts pairs and reads a key: of the pairs with it the last stands.
-#[tactic(auto, using(micromap_core::proofs::MapLaws::map_bound_laws))]
+#[tactic(auto, using(micromap_core::proofs::MapLaws::map_laws))]
 fn put_each_then_read<K: Eq + Copy + Drop, const N: usize>(
     map: &mut Map<K, u8, N>,
     items: &[(K, u8)],
@@ -131,7 +131,7 @@ fn put_each_then_read<K: Eq + Copy + Drop, const N: usize>(
 }
 
 // Adds items one after the other, up to the first that doesn't fit. If one doesn't, they would be more than `N`.
-#[tactic(auto, using(micromap::proofs::ItemCounts::item_counts, micromap::proofs::SetLaws::set_bound_laws))]
+#[tactic(auto, using(micromap::proofs::ItemCounts::item_counts, micromap::proofs::SetLaws::set_laws))]
 fn add_each<T: Eq + Copy + Drop, const N: usize>(set: &mut Set<T, N>, items: &[T]) -> bool
     ensures added { OnTrue result (set.new ≡ put_all_items T.eq set.old items.now) }
     ensures refused { IsFalse result → N < length (put_all_items T.eq set.old items.now) }

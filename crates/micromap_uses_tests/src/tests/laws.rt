@@ -78,14 +78,15 @@ fn put_two(map: &mut Map<u8, u8, 8>, a: u8, b: u8) -> Option<u8>
 #[tactic(auto, using(micromap_core::proofs::MapLaws::map_laws))]
 fn put_then_read(map: &mut Map<String, u8, 8>, a: String, b: &String) -> Option<u8>
     requires { IsTrue (fits string_eq 8 map.old a) }
-    ensures { result ≡ (if string_eq b.now a then Some 1 else at string_eq map.old b.now) }
+    ensures order { result ≡ (if string_eq b.now a then Some 1 else at string_eq map.old b.now) }
+    ensures turned { result ≡ (if string_eq a b.now then Some 1 else at string_eq map.old b.now) }
 {
     map.insert(a, 1);
     map.get(b).copied()
 }
 
 // Puts and reads at keys that are equal by their id.
-#[tactic(auto, using(micromap_core::proofs::MapLaws::on_laws))]
+#[tactic(auto, using(micromap_core::proofs::MapLaws::map_laws))]
 fn put_marked(map: &mut Map<Marked, u8, 8>, a: Marked, b: &Marked) -> Option<u8>
     requires { IsTrue (fits (on (λ k. k.id) nat_eq) 8 map.old a) }
     ensures { result ≡ (if nat_eq a.id b.now.id then Some 1 else at (on (λ k. k.id) nat_eq) map.old b.now) }
@@ -95,10 +96,11 @@ fn put_marked(map: &mut Map<Marked, u8, 8>, a: Marked, b: &Marked) -> Option<u8>
 }
 
 // Puts and reads at keys of any type.
-#[tactic(auto, using(micromap_core::proofs::MapLaws::map_bound_laws))]
+#[tactic(auto, using(micromap_core::proofs::MapLaws::map_laws))]
 fn put_any<K: Eq + Drop>(map: &mut Map<K, u8, 8>, a: K, b: &K) -> Option<u8>
     requires { IsTrue (fits K.eq 8 map.old a) }
-    ensures { result ≡ (if K.eq a b.now then Some 1 else at K.eq map.old b.now) }
+    ensures order { result ≡ (if K.eq b.now a then Some 1 else at K.eq map.old b.now) }
+    ensures turned { result ≡ (if K.eq a b.now then Some 1 else at K.eq map.old b.now) }
 {
     let _content = map.len();
     map.insert(a, 1);
@@ -106,10 +108,11 @@ fn put_any<K: Eq + Drop>(map: &mut Map<K, u8, 8>, a: K, b: &K) -> Option<u8>
 }
 
 // Inserts and looks for items of any type.
-#[tactic(auto, using(micromap::proofs::SetLaws::set_bound_laws))]
+#[tactic(auto, using(micromap::proofs::SetLaws::set_laws))]
 fn insert_any<T: Eq + Drop>(set: &mut Set<T, 8>, a: T, b: &T) -> bool
     requires { IsTrue (item_fits T.eq 8 set.old a) }
-    ensures { result ≡ (T.eq a b.now || is_member T.eq set.old b.now) }
+    ensures order { result ≡ (T.eq b.now a || is_member T.eq set.old b.now) }
+    ensures turned { result ≡ (T.eq a b.now || is_member T.eq set.old b.now) }
 {
     let _content = set.len();
     set.insert(a);
@@ -189,6 +192,17 @@ fn value_of<const N: usize>(map: &Map<String, u8, N>, name: &str) -> Option<u8>
     ensures { result ≡ at bytes_eq (key_texts map.now) name.now }
 {
     map.get_by(&Text(name)).copied()
+}
+
+// Puts at one name and reads another, both seen by their bytes.
+#[tactic(auto, using(micromap_core::proofs::TextViews::text_views, micromap_core::proofs::MapLaws::map_laws))]
+fn put_then_read_text(map: &mut Map<String, u8, 8>, a: String, b: &str) -> Option<u8>
+    requires { IsTrue (fits string_eq 8 map.old a) }
+    ensures order { result ≡ (if bytes_eq b.now (string_bytes a) then Some 1 else at bytes_eq (key_texts map.old) b.now) }
+    ensures turned { result ≡ (if bytes_eq (string_bytes a) b.now then Some 1 else at bytes_eq (key_texts map.old) b.now) }
+{
+    map.insert(a, 1);
+    map.get_by(&Text(b)).copied()
 }
 
 // Removes a name, and returns whether it was there.

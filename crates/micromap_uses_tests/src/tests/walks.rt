@@ -41,7 +41,7 @@ fn name_over<const N: usize>(map: &Map<String, u8, N>, limit: u8) -> Option<(&St
 }
 
 // A square with this piece, if there is one.
-#[tactic(auto, using(micromap_core::proofs::MapLaws::map_bound_laws, micromap_core::proofs::Equalities::equalities))]
+#[tactic(auto, using(micromap_core::proofs::MapLaws::map_laws))]
 fn square_of<const N: usize>(board: &Board<N>, piece: char) -> Option<Square>
     ensures { IfSome result (λ square. at ⟦<Square as PartialEq>⟧.eq board.now square ≡ Some piece) }
 {
@@ -83,7 +83,7 @@ fn item_over<const N: usize>(set: &Set<u8, N>, limit: u8) -> Option<u8>
 }
 
 // A pair whose value is over the limit, if there is one, for keys of any type.
-#[tactic(auto, using(micromap_core::proofs::MapLaws::map_bound_laws, micromap_core::proofs::Equalities::equalities))]
+#[tactic(auto, using(micromap_core::proofs::MapLaws::map_laws))]
 fn any_over<K: Eq, const N: usize>(map: &Map<K, u8, N>, limit: u8) -> Option<(&K, u8)>
     ensures found { IfSome result (λ p. at K.eq map.now p.0.now ≡ Some p.1) }
     ensures over { IfSome result (λ p. limit < p.1) }
@@ -98,7 +98,7 @@ fn any_over<K: Eq, const N: usize>(map: &Map<K, u8, N>, limit: u8) -> Option<(&K
 }
 
 // An item other than this one, if there is one, for items of any type.
-#[tactic(auto, using(micromap::proofs::SetLaws::set_bound_laws))]
+#[tactic(auto, using(micromap::proofs::SetLaws::set_laws))]
 fn other_than<'a, T: Eq, const N: usize>(set: &'a Set<T, N>, item: &T) -> Option<&'a T>
     ensures stored { IfSome result (λ x. IsTrue (is_member T.eq set.now x.now)) }
     ensures other { IfSome result (λ x. IsFalse (T.eq x.now item.now)) }
