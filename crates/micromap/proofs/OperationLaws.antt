@@ -13,7 +13,7 @@ use Rattle.std.proofs.lemmas.Map.Steps.{list_any_congr}
 use Rattle.std.specs.Set.{is_member}
 use Rattle.micromap_core.specs.Same.{have_equal_items}
 use Rattle.micromap_core.proofs.DistinctLemmas.{IsDistinct-append}
-use Rattle.micromap.specs.Operations.{difference, intersection, symmetric_difference, union, HaveEquals}
+use Rattle.micromap.specs.Operations.{difference, intersection, symmetric_difference, union, Commutes, HaveEquals}
 use Rattle.micromap.proofs.OperationSteps.{length-parts}
 
 module _ {T : Type 0} {eq : T → T → Bool} (laws : IsEquivalence eq) (xs ys : List T) where
@@ -35,13 +35,13 @@ module _ {T : Type 0} {eq : T → T → Bool} (laws : IsEquivalence eq) (xs ys :
 
 module _ {T : Type 0} {eq : T → T → Bool} (laws : IsEquivalence eq) (xs ys : List T) where
   -- turned round, the operations have equal members
-  pub intersection_turned : HaveEquals eq (intersection eq xs ys) (intersection eq ys xs)
+  pub intersection_turned : Commutes eq (intersection eq) xs ys
   intersection_turned q = grind (arith, is_member-intersection laws xs ys q, is_member-intersection laws ys xs q)
 
-  pub union_turned : HaveEquals eq (union eq xs ys) (union eq ys xs)
+  pub union_turned : Commutes eq (union eq) xs ys
   union_turned q = grind (arith, is_member-union laws xs ys q, is_member-union laws ys xs q)
 
-  pub symmetric_difference_turned : HaveEquals eq (symmetric_difference eq xs ys) (symmetric_difference eq ys xs)
+  pub symmetric_difference_turned : Commutes eq (symmetric_difference eq) xs ys
   symmetric_difference_turned q = grind (arith, is_member-symmetric_difference laws xs ys q, is_member-symmetric_difference laws ys xs q)
 
   -- the members of both parts are pairwise unequal

@@ -1,5 +1,4 @@
--- A set as entries of a stream: its items as keys, each with the value `()`. What a stream has of a set is what it has of
--- the map of these.
+-- A set as entries of a stream: its items as keys, each with the value `()`. A stream has of it what it has of a map.
 use Rattle.std.specs.Prelude.{ℕ, Bool, List, map, Option, Result}
 use Rattle.std.specs.Result.{result_map_both}
 use Rattle.micromap_core.specs.Stream.{MapReads}

@@ -1,5 +1,4 @@
--- What a text has for a map or a set, as `serde_json` reads it: the pairs of an object, or the texts of an array, else the
--- first fault that applies. Names and texts are lists of bytes.
+-- What a text has for a map or a set, by `serde_json`: an object's pairs or an array's texts, else the first fault.
 use Rattle.std.specs.Prelude.{◌≡◌, ◌⊎◌, codes, ℕ, ℤ, List, [], ◌∷◌, length, map, nat_lt, if◌then◌else◌, Option, Some, option_map, option_and_then, ok_or, Result, Ok, Err, String, string_bytes, bytes_eq}
 use Rattle.std.specs.Ordering.{int_eq}
 use Rattle.std.specs.declared.alloc.Global.{Global}

@@ -1,5 +1,4 @@
--- The operations on two sets as lists of items, what an iterator over one has left from call to call, and its hints.
--- Items are compared by eq; each list says which of two equal items it has.
+-- The operations on two lists of items, compared by eq, what an iterator over one has left after a call, and its hints.
 use Rattle.std.specs.Set.{is_member}
 use Rattle.std.specs.Prelude.{◌≡◌, ℕ, ◌+◌, ◌-◌, ◌^◌, min, Bool, not, List, [], ◌∷◌, ◌++◌, length, drop, filter, Option, Some, None, if◌then◌else◌, nat_lt}
 use Rattle.std.specs.Iterator.{YieldsFirstBy}
@@ -7,8 +6,7 @@ use Rattle.std.specs.Iterator.Runs.{YieldsRefsInOrder}
 use Rattle.std.specs.List.{after_first}
 use Rattle.std.specs.Map.Iter.{deref}
 
--- where an iterator stands. Of a difference or an intersection: the items not walked yet, and the other set, which is
--- seen as the list of its items
+-- where an iterator stands: of a difference or an intersection, the items not walked yet, and the other set's items
 pub record Walk (T O : Type 0) : Type 0 where
   pub rest : List T
   pub other : O
@@ -48,6 +46,10 @@ module _ {T : Type 0} (eq : T → T → Bool) where
   -- each item has an equal one in xs where it has one in ys, and the other way round
   abbrev pub HaveEquals : List T → List T → Type 0
   HaveEquals xs ys = (x : T) → is_member eq xs x ≡ is_member eq ys x
+
+  -- with the two lists turned round, the operation has equal members
+  abbrev pub Commutes : (List T → List T → List T) → List T → List T → Type 0
+  Commutes op xs ys = HaveEquals (op xs ys) (op ys xs)
 
   -- the members that are left
   unfoldable pub difference_left : Walk T (List T) → List T

@@ -33,7 +33,7 @@ module _ {F K V : Type 0} (g : Mut F (Bor K × (MutBor V × Unit {0})) (Bool × 
     retain_asks = IfSome-from (slice_get now index) _ (λ p here. m.ready.at [] (drop (suc index) now) s p.0 p.1 (drop-here now index p here) refl)
 
     -- once the pair at the index is visited
-    visited : (b : Bool) (t : F) (seen : List (K × V)) (v : VisitsAt (CalledOnPair g) s now index b t seen) (new : List (K × V)) (n : ℕ) → drop (suc index) new ≡ drop (suc index) now → ((more : List (K × V)) → take n new ++ more ≡ take kept now ++ cond b ((v.pair.0, v.value) ∷ more) more) → n ≤ suc index → length new ≡ length now → Retaining t new n (suc index)
+    visited : (b : Bool) (t : F) (seen : List (K × V)) (v : VisitsAt g s now index b t seen) (new : List (K × V)) (n : ℕ) → drop (suc index) new ≡ drop (suc index) now → ((more : List (K × V)) → take n new ++ more ≡ take kept now ++ cond b ((v.pair.0, v.value) ∷ more) more) → n ≤ suc index → length new ≡ length now → Retaining t new n (suc index)
     visited b t seen v new n others front behind same = record {
       ready = record { at = λ before after u k x parts calls. m.ready.at (v.pair ∷ before) after u k x (drop-here now index v.pair v.here ∙ ap (λ l. v.pair ∷ l) (sym others ∙ parts)) (t, (b, v.value, v.called), calls) };
       rest = λ more later. rw (front more) (m.rest _ (rw (drop-here now index v.pair v.here) (b, v.value, t, more, v.called, rw others at later, refl)));
@@ -41,7 +41,7 @@ module _ {F K V : Type 0} (g : Mut F (Bor K × (MutBor V × Unit {0})) (Bool × 
       whole = same ∙ m.whole;
     }
 
-    pub keeps_next : (t : F) (new after : List (K × V)) → VisitsAt (CalledOnPair g) s now index true t new → after ≡ swap new kept index → Retaining t after (kept + 1) (index + 1)
+    pub keeps_next : (t : F) (new after : List (K × V)) → VisitsAt g s now index true t new → after ≡ swap new kept index → Retaining t after (kept + 1) (index + 1)
     keeps_next t new after v swapped =
         let left : K × V = (v.pair.0, v.value) in
         let put = set now index left in
@@ -52,7 +52,7 @@ module _ {F K V : Type 0} (g : Mut F (Bor K × (MutBor V × Unit {0})) (Bool × 
         (omega (arith, m.behind))
         (length-swap put kept index ∙ length-set now index left))
 
-    pub drops_next : (t : F) (new : List (K × V)) → VisitsAt (CalledOnPair g) s now index false t new → Retaining t new kept (index + 1)
+    pub drops_next : (t : F) (new : List (K × V)) → VisitsAt g s now index false t new → Retaining t new kept (index + 1)
     drops_next t new v =
         let left : K × V = (v.pair.0, v.value) in
         rw (add-one, v.pairs) (visited false t new v (set now index left) kept
@@ -88,7 +88,7 @@ module _ {F K V R : Type 0} (g : Mut F (Bor K × (MutBor V × Unit {0})) (R × (
     pub asks_next : MayUpdateAll g f pairs → IfSome (slice_get now index) (λ p. AcceptsPair g s p.0 p.1)
     asks_next may = IfSome-from (slice_get now index) _ (λ p here. turns_ask (UpdateAllTurn g) (f, []) pairs index p (s, take index now) (stood p here) m.turns _ may)
 
-    pub updates_next : (t : F) (new : List (K × V)) (r : R) → VisitsAt (CalledOnPair g) s now index r t new → Updating t new (index + 1)
+    pub updates_next : (t : F) (new : List (K × V)) (r : R) → VisitsAt g s now index r t new → Updating t new (index + 1)
     updates_next t new r v =
         let left : K × V = (v.pair.0, v.value) in
         let is = drop-here now index v.pair v.here in

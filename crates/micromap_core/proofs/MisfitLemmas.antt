@@ -41,25 +41,25 @@ module _ {C X S : Type 0} (fits : C → X → Bool) (put : C → X → C) (conte
 
 module _ {K V : Type 0} (eq : K → K → Bool) (N : ℕ) where
   -- items one of which doesn't fit have more than N distinct keys
-  pub misfit_many : (items : List (K × V)) (at : ℕ) → Lawful eq → MisfitIn eq N items at → N < distinct_count eq (keys_of items)
+  pub misfit_many : (items : List (K × V)) (at : ℕ) → Lawful eq → MisfitIn eq N [] items at → N < distinct_count eq (keys_of items)
   misfit_many items at laws misfit =
       let many : N < distinct_count eq (keys_of (take (at + 1) items)) = many_prefix (of_lawful eq laws) (pairs_keyed eq N) (take (at + 1) items) misfit.1 in
       let same : keys_of (take (at + 1) items) ≡ take (at + 1) (keys_of items) = sym (take-map (λ p. p.0) (at + 1) items) in
       omega (arith, many, ap (distinct_count eq) same, distinct_prefix eq (keys_of items) (at + 1) laws)
 
   -- the facts are those of `misfit_in`, and that the equality is lawful
-  pub many_in : {S E Y : Type 0} {steps : S → Option (K × V) → S → Type 0} (rest : S → List (K × V)) {s : S} {xs : List (K × V)} (at : E → ℕ) (r : Result Y E) → Lawful eq → EveryRun steps (λ q. ItemsAre q (rest q.from)) → rest s ≡ xs → IfErr r (λ e. SomeRun steps s (λ p. (p.len ≡ at e + 1) × MisfitIn eq N p.items (at e))) → IfErr r (λ e. N < distinct_count eq (keys_of xs))
-  many_in rest {xs = xs} at r laws reads left stops = IfErr-weaker r (λ e. MisfitIn eq N xs (at e)) (λ e. N < distinct_count eq (keys_of xs)) (λ e. misfit_many xs (at e) laws) (misfit_in (pair_fits eq N) (put_pair eq) [] rest at r reads left stops)
+  pub many_in : {S E Y : Type 0} {steps : S → Option (K × V) → S → Type 0} (rest : S → List (K × V)) {s : S} {xs : List (K × V)} (at : E → ℕ) (r : Result Y E) → Lawful eq → EveryRun steps (λ q. ItemsAre q (rest q.from)) → rest s ≡ xs → IfErr r (λ e. SomeRun steps s (λ p. (p.len ≡ at e + 1) × MisfitIn eq N [] p.items (at e))) → IfErr r (λ e. N < distinct_count eq (keys_of xs))
+  many_in rest {xs = xs} at r laws reads left stops = IfErr-weaker r (λ e. MisfitIn eq N [] xs (at e)) (λ e. N < distinct_count eq (keys_of xs)) (λ e. misfit_many xs (at e) laws) (misfit_in (pair_fits eq N) (put_pair eq) [] rest at r reads left stops)
 
 -- where an iterator's items are known, and one of them is refused: what would be put is more than there is room for. The
 -- facts are those of `misfit_in`, and the content of the map that they are put into
 module _ {K V : Type 0} {eq : K → K → Bool} {N : ℕ} {pairs : List (K × V)} (content : IsContent eq N pairs) where
-  stopped_many : (items : List (K × V)) (at : ℕ) → StopsAt (pair_fits eq N) (put_pair eq) pairs items at → N < length (put_all eq pairs items)
+  stopped_many : (items : List (K × V)) (at : ℕ) → MisfitIn eq N pairs items at → N < length (put_all eq pairs items)
   stopped_many items at stops =
       let first = take (at + 1) items in
       let fit = each_fits-count (of_lawful eq content.lawful) (pairs_keyed eq N) pairs first content.unique (omega (arith, length-keys_of pairs, content.bounded)) in
       let many = leb-false _ N (sym fit ∙ not-true _ stops.1) in
       omega (arith, many, length-keys_of (put_all eq pairs first), put_all_grows eq pairs items (at + 1) content.lawful content.unique)
 
-  pub refused_is_many : {S E Y : Type 0} {steps : S → Option (K × V) → S → Type 0} (rest : S → List (K × V)) {s : S} {xs : List (K × V)} (at : E → ℕ) (r : Result Y E) → EveryRun steps (λ q. ItemsAre q (rest q.from)) → rest s ≡ xs → IfErr r (λ e. SomeRun steps s (λ p. (p.len ≡ at e + 1) × StopsAt (pair_fits eq N) (put_pair eq) pairs p.items (at e))) → IfErr r (λ e. N < length (put_all eq pairs xs))
-  refused_is_many rest {xs = xs} at r reads left stops = IfErr-weaker r (λ e. StopsAt (pair_fits eq N) (put_pair eq) pairs xs (at e)) (λ e. N < length (put_all eq pairs xs)) (λ e. stopped_many xs (at e)) (misfit_in (pair_fits eq N) (put_pair eq) pairs rest at r reads left stops)
+  pub refused_is_many : {S E Y : Type 0} {steps : S → Option (K × V) → S → Type 0} (rest : S → List (K × V)) {s : S} {xs : List (K × V)} (at : E → ℕ) (r : Result Y E) → EveryRun steps (λ q. ItemsAre q (rest q.from)) → rest s ≡ xs → IfErr r (λ e. SomeRun steps s (λ p. (p.len ≡ at e + 1) × MisfitIn eq N pairs p.items (at e))) → IfErr r (λ e. N < length (put_all eq pairs xs))
+  refused_is_many rest {xs = xs} at r reads left stops = IfErr-weaker r (λ e. MisfitIn eq N pairs xs (at e)) (λ e. N < length (put_all eq pairs xs)) (λ e. stopped_many xs (at e)) (misfit_in (pair_fits eq N) (put_pair eq) pairs rest at r reads left stops)

@@ -19,7 +19,7 @@ use Rattle.std.proofs.lemmas.Map.Made.{All-is_member, is_some-lookup}
 use Rattle.std.proofs.lemmas.Option.{MatchOption-at_none, MatchOption-at_some, get_or_from_slice_get, slice_get-get_or, slice_get_within}
 use Rattle.std.specs.Cmp.Lexicographic.{options_equiv}
 use Rattle.micromap_core.specs.Pairs.{at, has, IsUnique}
-use Rattle.micromap_core.specs.Same.{pair_eq, is_same, Same, DiffersAt, has_value, first_missing, first_unequal, first_difference}
+use Rattle.micromap_core.specs.Same.{pair_eq, is_same, Same, same_at, has_value, first_missing, first_unequal, first_difference}
 use Rattle.micromap_core.proofs.Equalities.{lawful}
 use Rattle.micromap_core.proofs.MapLaws.{at_alike}
 use Rattle.std.proofs.lemmas.Bool.Decides.{nat_tests}
@@ -39,7 +39,7 @@ missing_step eq other next b tells = rw next (grind (arith, tells))
 
 -- what the two lists have at each key agrees
 pub record FindAlike {K V : Type 0} (eq : K → K → Bool) (same : V → V → Bool) (first second : List (K × V)) : Type 0 where
-  pub each : (k : K) → option_eq same (at eq first k) (at eq second k) ≡ true
+  pub each : (k : K) → same_at eq same first second k ≡ true
 
 module _ {K V : Type 0} (eq : K → K → Bool) (same : V → V → Bool) (keys : IsEquivalence eq) (values : IsEquivalence same) where
   -- a list has a pair where the key finds an equal value
@@ -92,13 +92,13 @@ module _ {X : Type 0} (test : X → Bool) where
   all_by_find (x ∷ xs) = grind (arith, all_by_find xs)
 
 module _ {K V : Type 0} (eq : K → K → Bool) (same : V → V → Bool) (keys : IsEquivalence eq) (values : IsEquivalence same) (first second : List (K × V)) (unique_first : IsUnique eq first) (unique_second : IsUnique eq second) where
-  differs_unequal : (p : K × V) → find (λ p. not (has_value eq same second p)) first ≡ Some p → DiffersAt eq same first second p.0
+  differs_unequal : (p : K × V) → find (λ p. not (has_value eq same second p)) first ≡ Some p → IsFalse (same_at eq same first second p.0)
   differs_unequal p found =
       let told = find_some (λ p. not (has_value eq same second p)) first p found in
       ap (λ o. option_eq same o (at eq second p.0)) (told.1 (λ p. at eq first p.0 ≡ Some p.1) (own_at eq same keys values first unique_first))
       ∙ (options_equiv values).symm (Some p.1) (at eq second p.0) ∙ not-true _ told.0
 
-  differs_missing : (k : K) → first_missing eq same second first ≡ Some k → DiffersAt eq same first second k
+  differs_missing : (k : K) → first_missing eq same second first ≡ Some k → IsFalse (same_at eq same first second k)
   differs_missing k found =
       let told = find_some (λ k. not (has eq first k)) (keys_of second) k found in
       let stored : has eq second k ≡ true = is_some-lookup (eq k) second ∙ told.1 (λ k. is_member eq (keys_of second) k ≡ true) (All-is_member keys (keys_of second)) in
@@ -134,28 +134,28 @@ module _ {K V : Type 0} (eq : K → K → Bool) (same : V → V → Bool) (keys 
       same_from_alike eq same keys values first second unique_first unique_second (alike_within (equal_from_filters first only_first unequal) (stored_from_filter second only_second))
 
   -- the first difference is a key at which the two differ, and where there is none they are alike
-  difference : MatchOption (first_difference eq same first second) (FindAlike eq same first second) (DiffersAt eq same first second)
+  difference : MatchOption (first_difference eq same first second) (FindAlike eq same first second) (λ k. IsFalse (same_at eq same first second k))
   difference = by (find (λ p. not (has_value eq same second p)) first) refl (first_missing eq same second first) refl
     where
-      by : (o : Option (K × V)) → find (λ p. not (has_value eq same second p)) first ≡ o → (r : Option K) → first_missing eq same second first ≡ r → MatchOption (option_or (option_map (λ p. p.0) o) r) (FindAlike eq same first second) (DiffersAt eq same first second)
+      by : (o : Option (K × V)) → find (λ p. not (has_value eq same second p)) first ≡ o → (r : Option K) → first_missing eq same second first ≡ r → MatchOption (option_or (option_map (λ p. p.0) o) r) (FindAlike eq same first second) (λ k. IsFalse (same_at eq same first second k))
       by (Some p) unequal r missing = differs_unequal p unequal
       by None unequal (Some k) missing = differs_missing k missing
       by None unequal None missing = alike_within (all_by_find (has_value eq same second) first ∙ ap (λ o. not (is_some o)) unequal) (all_by_find (has eq first) (keys_of second) ∙ ap (λ o. not (is_some o)) missing)
 
   -- an answer that is the first difference is none exactly where the two are the same, and else they differ there
-  pub answered_difference : (answer : Option (Bor K)) → option_copied answer ≡ first_difference eq same first second → (IsNone answer ↔ Same eq same first second) × IfSome answer (λ k. DiffersAt eq same first second k.now)
-  answered_difference None is = ((λ none. same_from_alike eq same keys values first second unique_first unique_second (MatchOption-at_none (FindAlike eq same first second) (DiffersAt eq same first second) (sym is) difference), λ are. refl), tt)
+  pub answered_difference : (answer : Option (Bor K)) → option_copied answer ≡ first_difference eq same first second → (IsNone answer ↔ Same eq same first second) × IfSome answer (λ k. IsFalse (same_at eq same first second k.now))
+  answered_difference None is = ((λ none. same_from_alike eq same keys values first second unique_first unique_second (MatchOption-at_none (FindAlike eq same first second) (λ k. IsFalse (same_at eq same first second k)) (sym is) difference), λ are. refl), tt)
   answered_difference (Some k) is =
-      let differs = MatchOption-at_some (FindAlike eq same first second) (DiffersAt eq same first second) k.now (sym is) difference in (
+      let differs = MatchOption-at_some (FindAlike eq same first second) (λ k. IsFalse (same_at eq same first second k)) k.now (sym is) difference in (
         (λ none. absurd (false≢true (sym none)), λ are. absurd (false≢true (sym differs ∙ (alike_from_same eq same keys values first second unique_first unique_second are).each k.now))),
         differs,
       )
 
   -- two lists that aren't the same differ at some key
-  pub differs_where_unlike : IsFalse (is_same eq same first second) → (k : K) × DiffersAt eq same first second k
+  pub differs_where_unlike : IsFalse (is_same eq same first second) → (k : K) × IsFalse (same_at eq same first second k)
   differs_where_unlike unlike = by (first_difference eq same first second) difference
     where
-      by : (d : Option K) → MatchOption d (FindAlike eq same first second) (DiffersAt eq same first second) → (k : K) × DiffersAt eq same first second k
+      by : (d : Option K) → MatchOption d (FindAlike eq same first second) (λ k. IsFalse (same_at eq same first second k)) → (k : K) × IsFalse (same_at eq same first second k)
       by None alike = absurd (false≢true (sym unlike ∙ same_from_alike eq same keys values first second unique_first unique_second alike))
       by (Some k) differs = (k, differs)
 

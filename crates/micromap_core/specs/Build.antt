@@ -1,16 +1,26 @@
 -- What becomes of a content as items are put into it one after the other: of a map by pairs, of a set by its items.
 use Rattle.std.specs.Prelude.{◌≡◌, ℕ, ◌+◌, ◌-◌, ◌^◌, Bool, true, not, ◌&&◌, List, [], ◌∷◌, take, Option, IsTrue, unwrap_or}
-use Rattle.std.specs.Iterator.Runs.{SomeRun}
+use Rattle.std.specs.Iterator.Runs.{SomeRun, WholeRun}
 use Rattle.std.specs.List.{fold}
 use Rattle.micromap_core.specs.Pairs.{at, fits, put}
+use Rattle.micromap_core.specs.declared.map.build.Overfull.{Overfull}
 
 -- the most items that are counted: fewer than `usize::MAX`
 abbrev pub most_items : ℕ
 most_items = 2 ^ 64 - 2
 
--- P holds of the first n items of the iterator
-abbrev pub FirstItems : {S A : Type 0} → (S → Option A → S → Type 0) → S → ℕ → (List A → Type 0) → Type 0
-FirstItems next_gives items n P = SomeRun next_gives items (λ p. (p.len ≡ n) × P p.items)
+module _ {S A : Type 0} (next_gives : S → Option A → S → Type 0) (items : S) where
+  -- x is f of all items of the iterator
+  abbrev pub IsOfAll : {C : Type 0} → (List A → C) → C → Type 0
+  IsOfAll f x = WholeRun next_gives items (λ p. x ≡ f p.items)
+
+  -- the iterator gave items up to the one that didn't fit, and P holds of these and of its position
+  abbrev pub ItemsUpTo : (List A → ℕ → Type 0) → Overfull → Type 0
+  ItemsUpTo P e = SomeRun next_gives items (λ p. (p.len ≡ e.at + 1) × P p.items e.at)
+
+  -- x is f of the iterator's items before the one that didn't fit
+  abbrev pub IsOfFirst : {C : Type 0} → (List A → C) → C → Overfull → Type 0
+  IsOfFirst f x = ItemsUpTo (λ xs position. x ≡ f (take position xs))
 
 module _ {C X : Type 0} (fits : C → X → Bool) (put : C → X → C) where
   -- whether each item fits when it is put
@@ -44,9 +54,9 @@ module _ {K V : Type 0} (eq : K → K → Bool) where
   abbrev pub all_fit : ℕ → List (K × V) → Bool
   all_fit N = each_fits (pair_fits N) put_pair []
 
-  -- the first item that doesn't fit a new map of capacity N stands at the position
-  abbrev pub MisfitIn : ℕ → List (K × V) → ℕ → Type 0
-  MisfitIn N = StopsAt (pair_fits N) put_pair []
+  -- the first of the items that doesn't fit a map of capacity N with these pairs stands at the position
+  abbrev pub MisfitIn : ℕ → List (K × V) → List (K × V) → ℕ → Type 0
+  MisfitIn N = StopsAt (pair_fits N) put_pair
 
 -- a counter: a map that has each of the items that came with the number of times that it came
 module _ {K : Type 0} (eq : K → K → Bool) where

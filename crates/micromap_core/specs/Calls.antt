@@ -55,8 +55,7 @@ module _ {K V : Type 0} (eq : K → K → Bool) (N : ℕ) where
   run pairs (call ∷ calls) = let rest = run (after pairs call) calls in (answer pairs call ∷ rest.0, rest.1)
 
 module _ {K V : Type 0} (eq : K → K → Bool) (same : V → V → Bool) where
-  -- whether two answers agree: values where they are equal, pairs where keys and values are, numbers and truth values
-  -- where they are the same, done with done, and refused with refused alone
+  -- whether two answers agree: of one kind, with equal values, equal keys and values, or the same number or truth value
   abbrev pub agree : Answer K V → Answer K V → Bool
   agree (value x) (value y) = option_eq same x y
   agree (entry p) (entry q) = option_eq (λ a b. eq a.0 b.0 && same a.1 b.1) p q

@@ -1,5 +1,4 @@
--- What a closure that gets a `&mut` to a value may be called on, what a call answered and left, and what calls in turn
--- make of a map's pairs.
+-- What a closure that gets a `&mut` to a value may be called on, and what its calls answered and made of a map's pairs.
 use Rattle.std.specs.Prelude.{◌≡◌, ℕ, Bool, List, [], ◌∷◌, ◌++◌, Some, MatchOption, slice_get, slice_set}
 use Rattle.std.specs.Borrow.{Bor, MutBor}
 use Rattle.std.specs.Fn.{Mut, Called, Takes}
@@ -20,14 +19,6 @@ module _ {F A V R : Type 0} (g : Mut F (A × (MutBor V × Unit {0})) (R × (MutB
   abbrev pub AcceptsValue : F → A → V → Type 0
   AcceptsValue f a v = (value : MutBor V) → value.now ≡ v → Takes g f (a, (value, tt))
 
--- a call at the pair at the index answered r, and new is old with the value that the call left there
-pub record VisitsAt {F K V R : Type 0} (T : F → K → V → R → V → F → Type 0) (f : F) (old : List (K × V)) (index : ℕ) (r : R) (f' : F) (new : List (K × V)) : Type 0 where
-  pub pair : K × V
-  pub here : slice_get old index ≡ Some pair
-  pub value : V
-  pub called : T f pair.0 pair.1 r value f'
-  pub pairs : new ≡ slice_set old index (pair.0, value)
-
 -- part has some of the elements of whole, in the order that they have there
 abbrev pub IsSublist : {X : Type 0} → List X → List X → Type 0
 IsSublist part whole = (picks : List Bool) × (part ≡ items_where_true picks whole)
@@ -47,12 +38,19 @@ module _ {F K V R : Type 0} (g : Mut F (Bor K × (MutBor V × Unit {0})) (R × (
   abbrev pub AcceptsPair : F → K → V → Type 0
   AcceptsPair f k v = (key : Bor K) → key.now ≡ k → AcceptsValue g f key v
 
+  -- a call at the pair at the index answered r, and new is old with the value that the call left there
+  pub record VisitsAt (f : F) (old : List (K × V)) (index : ℕ) (r : R) (f' : F) (new : List (K × V)) : Type 0 where
+    pub pair : K × V
+    pub here : slice_get old index ≡ Some pair
+    pub value : V
+    pub called : CalledOnPair f pair.0 pair.1 r value f'
+    pub pairs : new ≡ slice_set old index (pair.0, value)
+
   -- a call of f at the pair p may answer r, and leave q for p, with its key, and f' for f
   abbrev pub VisitsPair : F → K × V → R → K × V → F → Type 0
   VisitsPair f p r q f' = CalledOnPair f p.0 p.1 r q.1 f' × (q.0 ≡ p.0)
 
-  -- one turn of `update_all`, which makes t of the closure and the pairs that are done: what the call leaves for p comes
-  -- after them
+  -- one turn of `update_all` makes t of the closure and the pairs done: what the call leaves for p comes after them
   abbrev pub UpdateAllTurn : F × List (K × V) → K × V → F × List (K × V) → Type 0
   UpdateAllTurn s p t = (r : R) × (q : K × V) × VisitsPair s.0 p r q t.0 × (t.1 ≡ s.1 ++ q ∷ [])
 
@@ -66,8 +64,7 @@ module _ {F K V R : Type 0} (g : Mut F (Bor K × (MutBor V × Unit {0})) (R × (
     pub turns : FoldsTo UpdateAllTurn (f, []) pairs (last, new)
 
 module _ {F K V R : Type 0} (eq : K → K → Bool) (g : Mut F (ℕ × (MutBor V × Unit {0})) (R × (MutBor V × Unit {0}))) where
-  -- one turn of `update_disjoint`, at a position and the key there, which makes t of the closure and the pairs: where the
-  -- key is stored, its value becomes what the call leaves
+  -- one turn of `update_disjoint`, at a position and its key: if that is stored, its value becomes what the call leaves
   abbrev pub UpdateDisjointTurn : F × List (K × V) → ℕ × K → F × List (K × V) → Type 0
   UpdateDisjointTurn s e t = MatchOption (at eq s.1 e.1) (t ≡ s) (λ v. (r : R) × (w : V) × CalledOnValue g s.0 e.0 v r w t.0 × (t.1 ≡ put eq s.1 e.1 w))
 

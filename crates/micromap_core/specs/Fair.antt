@@ -1,5 +1,4 @@
--- Two lists of pairs, with capacities N and M, under one list of keyed calls: when the calls are fair to both, and when
--- they tell the two apart.
+-- When a list of keyed calls is fair to two lists of pairs, with capacities N and M, and when it tells them apart.
 use Rattle.std.specs.Prelude.{◌≡◌, ℕ, Bool, List, [], ◌∷◌, Option, Some, None, IsTrue, IsFalse, IfSome, ⊤}
 use Rattle.std.specs.Cmp.Lexicographic.{pointwise}
 use Rattle.micromap_core.specs.Calls.{Call, insert, insert_key_value, after, run, agree}

@@ -1,6 +1,6 @@
 -- When two lists of pairs are the same, whatever the order of their pairs, and where they first differ. It is said of any
 -- two lists, also with repeated keys: a list has a pair where some pair of it is so.
-use Rattle.std.specs.Prelude.{Bool, ◌&&◌, List, Option, Some, not, IsTrue, IsFalse}
+use Rattle.std.specs.Prelude.{Bool, ◌&&◌, List, Option, Some, not, IsTrue}
 use Rattle.std.specs.List.{find, list_all, list_any}
 use Rattle.std.specs.Map.{keys_of}
 use Rattle.std.specs.Option.{option_eq, option_map, option_or}
@@ -22,9 +22,9 @@ module _ {K V : Type 0} (eq : K → K → Bool) (same : V → V → Bool) where
   abbrev pub Same : List (K × V) → List (K × V) → Type 0
   Same first second = IsTrue (is_same first second)
 
-  -- what the two lists have at the key doesn't agree
-  abbrev pub DiffersAt : List (K × V) → List (K × V) → K → Type 0
-  DiffersAt first second k = IsFalse (option_eq same (at eq first k) (at eq second k))
+  -- whether what the two lists have at the key agrees
+  abbrev pub same_at : List (K × V) → List (K × V) → K → Bool
+  same_at first second k = option_eq same (at eq first k) (at eq second k)
 
   -- whether a list has an equal value at the pair's key
   abbrev pub has_value : List (K × V) → K × V → Bool
@@ -38,7 +38,6 @@ module _ {K V : Type 0} (eq : K → K → Bool) (same : V → V → Bool) where
   abbrev pub first_missing : List (K × V) → List (K × V) → Option K
   first_missing one other = find (λ k. not (has eq other k)) (keys_of one)
 
-  -- the first key of this list that the other lacks or has with an unequal value, else the first of the other that this
-  -- one lacks
+  -- the first key of this list that has no equal pair in the other, else the first of the other that this list lacks
   abbrev pub first_difference : List (K × V) → List (K × V) → Option K
   first_difference this other = option_or (first_unequal this other) (first_missing other this)

@@ -10,8 +10,7 @@ module _ {K V : Type 0} (eq : K → K → Bool) where
   look_up_steps pairs k = option_map_or suc (index_of eq pairs k) (length pairs)
 
   module _ (same : V → V → Bool) (other : List (K × V)) where
-    -- of the look-ups in the other list of each key of one list, up to and including the first pair that the other
-    -- lacks or has with an unequal value
+    -- of looking up each key of a list in the other, through the first pair that has no equal one there
     abbrev pub walk_steps : List (K × V) → ℕ
     walk_steps [] = 0
     walk_steps (p ∷ ps) = look_up_steps other p.0 + (if has_value eq same other p then walk_steps ps else 0)

@@ -11,8 +11,7 @@ use Rattle.micromap_core.specs.declared.stream.ReadFault.TheVariants.{Source, To
 abbrev pub most_faults : ℕ
 most_faults = 2 ^ 128 - 1
 
--- what a contract sees of a sink or source that has faults: the entries taken or left, the number of faults and the
--- last one
+-- what a contract sees of a sink or source: the entries taken or left, the number of faults and the last one
 pub record Stream (X E : Type 0) : Type 0 where
   pub entries : List X
   pub faults : ℕ

@@ -1,5 +1,4 @@
--- A map with texts as keys, and a set of texts, seen by the bytes of the texts. A caller who makes a `String` of a `&str`
--- knows its bytes alone.
+-- A map with texts as keys, and a set of texts, seen by their bytes: a caller who makes a `String` knows these alone.
 use Rattle.std.specs.Prelude.{ℕ, List, String, map, string_bytes}
 
 -- the pairs with each key as its bytes, and each value as `read` sees it

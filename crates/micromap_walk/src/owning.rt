@@ -73,7 +73,8 @@ impl<K, V, const N: usize> IntoIter<K, V, N> {
 fn taken<X: Drop, const N: usize>(slots: &mut ArrayVec<Option<X>, N>, index: usize) -> X
     requires filled { AreFilled (drop index slots.old.items) }
     requires within { index < length slots.old.items }
-    ensures items { items_of (drop index slots.old.items) ≡ result ∷ items_of (drop (index + 1) slots.new.items) }
+    ensures items { items_of (drop index slots.old.items)
+        ≡ result ∷ items_of (drop (index + 1) slots.new.items) }
     ensures filled { AreFilled (drop (index + 1) slots.new.items) }
     ensures len { length slots.new.items ≡ length slots.old.items }
 {

@@ -28,7 +28,8 @@ pub fn map_from_json<const N: usize>(
     ensures pairs { IfOk result (HasPairs N text.now) }
     ensures fault { IfErr result (IsFault (pairs_for N text.now)) }
     ensures memory { IfErr result (λ fault. fault ≡ Memory → 0 < length text.now) }
-    ensures again { (pairs : Pairs) → HasPairs N text.now pairs → MatchResult result (λ map. Same string_eq int_eq pairs map) (λ fault. fault ≡ Memory) }
+    ensures again { (pairs : Pairs) → HasPairs N text.now pairs
+        → MatchResult result (λ map. Same string_eq int_eq pairs map) (λ fault. fault ≡ Memory) }
     ensures content { IfOk result (IsContent string_eq N) }
 {
     match read(alloc, text)? {
@@ -69,7 +70,8 @@ fn read(alloc: Global, text: &str) -> Result<Value, JsonFault>
 fn map_of_members<const N: usize>(
     members: serde_json::Map<String, Value>,
 ) -> Result<Map<String, i64, N>, JsonFault>
-    ensures answer { result_map_both in_bytes (λ fault. fault) result ≡ pairs_in N (members_view members.entries) }
+    ensures answer { result_map_both in_bytes (λ fault. fault) result
+        ≡ pairs_in N (members_view members.entries) }
     ensures no_memory { IfErr result (λ fault. fault ≢ Memory) }
     ensures content { IfOk result (IsContent string_eq N) }
 {

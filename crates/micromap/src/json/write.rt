@@ -19,7 +19,8 @@ pub fn map_to_json<const N: usize>(
     alloc: Global,
     map: &Map<String, i64, N>,
 ) -> Result<String, JsonFault>
-    ensures object { IfOk result (λ text. (M : ℕ) → length map.now ≤ M → HasPairs M (string_bytes text) map.now) }
+    ensures object { IfOk result (λ text. (M : ℕ) → length map.now ≤ M
+        → HasPairs M (string_bytes text) map.now) }
     ensures fault { IfErr result (λ fault. fault ≡ Memory) }
 {
     let _content = map.len();
@@ -35,7 +36,8 @@ pub fn map_to_json<const N: usize>(
 /// Allocates memory for a copy of each item and for the text.
 pub fn set_to_json<const N: usize>(alloc: Global, set: &Set<String, N>) -> Result<String, JsonFault>
     ensures array { IfOk result (λ text. read (string_bytes text) ≡ Some (array (elements set.now))) }
-    ensures again { IfOk result (λ text. (M : ℕ) → length set.now ≤ M → texts_for M (string_bytes text) ≡ Ok (texts_of set.now)) }
+    ensures again { IfOk result (λ text. (M : ℕ) → length set.now ≤ M
+        → texts_for M (string_bytes text) ≡ Ok (texts_of set.now)) }
     ensures text { IfOk result (λ text. string_bytes text ≡ compact_text (array (elements set.now))) }
     ensures fault { IfErr result (λ fault. fault ≡ Memory) }
 {

@@ -1,7 +1,7 @@
 //! Comparing two sets, whose capacities may differ.
 ghost use Rattle.std.specs.Prelude.{◌≡◌, ◌↔◌, IsTrue};
 ghost use Rattle.std.specs.Cmp.{partial_equiv_from_equiv};
-ghost use Rattle.std.specs.Set.{is_member};
+ghost use Rattle.micromap.specs.Operations.{HaveEquals};
 ghost use Rattle.micromap.specs.Same.{have_equal_items};
 ghost use Rattle.micromap.specs.SameLaws.{have_equal_items_equiv};
 
@@ -14,7 +14,7 @@ impl<T: Eq, const N: usize> Set<T, N> {
     /// Compares no item if the lengths differ. Else it costs what `is_subset` costs.
     pub fn eq_with<const M: usize>(&self, other: &Set<T, M>) -> bool
         ensures answer { result ≡ have_equal_items T.eq self.now other.now }
-        ensures members { IsTrue result ↔ ((x : T) → is_member T.eq self.now x ≡ is_member T.eq other.now x) }
+        ensures members { IsTrue result ↔ HaveEquals T.eq self.now other.now }
     {
         // Both have the same number of items, and `other` has each item of this set. So `other` has no other item.
         self.len() == other.len() && self.is_subset(other)

@@ -1,9 +1,8 @@
 //! Inserting the items of an iterator, one after the other, as `insert` does. Each distinct item is stored as it first
 //! came, in that order.
-ghost use Rattle.std.specs.Prelude.{◌≡◌, ◌+◌, ◌≤◌, [], length, take, IfOk, IfErr, IsTrue};
+ghost use Rattle.std.specs.Prelude.{◌≡◌, ◌≤◌, [], length, IfOk, OnOk, IfErr, OnErr, IsTrue};
 ghost use Rattle.std.specs.Iterator.{UpTo};
-ghost use Rattle.std.specs.Iterator.Runs.{WholeRun};
-ghost use Rattle.micromap.specs.Build.{FirstItems, most_items};
+ghost use Rattle.micromap.specs.Build.{IsOfAll, IsOfFirst, ItemsUpTo, most_items};
 ghost use Rattle.micromap.specs.Extend.{put_all_items, all_items_fit, distinct, ItemMisfitIn};
 ghost use Rattle.micromap.specs.Items.{IsItems, put_item_if_fits, item_fits};
 
@@ -34,10 +33,10 @@ impl<T: Eq + Drop, const N: usize> Set<T, N> {
     pub fn try_extend<I: Iterator<Item = T>>(&mut self, items: I) -> Result<(), Overfull>
         requires can { I.can_next items }
         requires ends { UpTo (I.remaining items) most_items }
-        ensures runs { IfOk result (λ _. WholeRun I.next_gives items (λ p. self.new ≡ put_all_items T.eq self.old p.items)) }
-        ensures stops { IfErr result (λ e. FirstItems I.next_gives items (e.at + 1) (λ xs. ItemMisfitIn T.eq N self.old xs e.at)) }
-        ensures before { IfErr result (λ e. FirstItems I.next_gives items (e.at + 1) (λ xs. self.new ≡ put_all_items T.eq self.old (take e.at xs))) }
-        ensures full { IfErr result (λ _. length self.new ≡ N) }
+        ensures runs { OnOk result (IsOfAll I.next_gives items (put_all_items T.eq self.old) self.new) }
+        ensures stops { IfErr result (ItemsUpTo I.next_gives items (ItemMisfitIn T.eq N self.old)) }
+        ensures before { IfErr result (IsOfFirst I.next_gives items (put_all_items T.eq self.old) self.new) }
+        ensures full { OnErr result (length self.new ≡ N) }
     {
         let mut at = 0;
         for x in items {
@@ -60,8 +59,8 @@ impl<T: Eq + Drop, const N: usize> Set<T, N> {
     pub fn try_from_iter<I: Iterator<Item = T>>(items: I) -> Result<Self, Overfull>
         requires can { I.can_next items }
         requires ends { UpTo (I.remaining items) most_items }
-        ensures runs { IfOk result (λ new. WholeRun I.next_gives items (λ p. new ≡ distinct T.eq p.items)) }
-        ensures stops { IfErr result (λ e. FirstItems I.next_gives items (e.at + 1) (λ xs. ItemMisfitIn T.eq N [] xs e.at)) }
+        ensures runs { IfOk result (IsOfAll I.next_gives items (distinct T.eq)) }
+        ensures stops { IfErr result (ItemsUpTo I.next_gives items (ItemMisfitIn T.eq N [])) }
         ensures full { IfErr result (λ e. N ≤ e.at) }
         ensures content { IfOk result (IsItems T.eq N) }
     {

@@ -17,7 +17,8 @@ impl<T: Eq, const N: usize> Set<T, N> {
         requires { S.faults sink.old < most_faults }
         ensures whole { OnOk result (S.taken sink.new ≡ S.taken sink.old ++ entries_of self.now) }
         ensures faultless { OnOk result (Faultless S.faults S.last_fault sink.old sink.new) }
-        ensures beginning { OnErr result (TakesBeginning (S.taken sink.old) (entries_of self.now) (S.taken sink.new)) }
+        ensures beginning { OnErr result
+            (TakesBeginning (S.taken sink.old) (entries_of self.now) (S.taken sink.new)) }
         ensures fault { IfErr result (Faults S.faults S.last_fault sink.old sink.new) }
     {
         self.map.write_entries(sink)
@@ -34,7 +35,8 @@ impl<T: Eq + Drop, const N: usize> Set<T, N> {
         requires { S.faults source.old < most_faults }
         ensures reads { SetReads T.eq N S.left S.faults S.last_fault source.old source.new result }
         ensures content { IfOk result (IsItems T.eq N) }
-        ensures round_trip { IsItems T.eq N (keys_of (S.left source.old)) → S.faults source.new ≡ S.faults source.old → result ≡ Ok (keys_of (S.left source.old)) }
+        ensures round_trip { let items = keys_of (S.left source.old) in
+            IsItems T.eq N items → S.faults source.new ≡ S.faults source.old → result ≡ Ok items }
     {
         match Map::read_entries(source) {
             Ok(map) => Ok(Set { map }),

@@ -63,7 +63,8 @@ impl<'a, K: Eq, V, const N: usize> EntryIn<'a, K, Map<K, V, N>> {
         requires sound { IsSound K.eq self }
         requires callable { (p : MutBor V) → entry_value self ≡ Some p.now → F.pre f p }
         ensures same_map { (entry_map_ref result).ghost_name ≡ (entry_map_ref self.entry).ghost_name }
-        ensures pairs { entry_pairs result ≡ option_map_or (entry_put self.entry) (entry_value result) (entry_pairs self.entry) }
+        ensures pairs { entry_pairs result
+            ≡ option_map_or (entry_put self.entry) (entry_value result) (entry_pairs self.entry) }
         ensures occupied { is_occupied result ≡ is_occupied self.entry }
         ensures key { entry_key result ≡ entry_key self.entry }
         ensures value { ModifiesValue F.FnOnce f (entry_value self.entry) (entry_value result) }
@@ -117,9 +118,11 @@ impl<'a, K: Eq + Drop, V: Drop, const N: usize> EntryIn<'a, K, Map<K, V, N>> {
     pub fn or_insert_with_key<F: FnOnce(&K) -> V>(self, default: F) -> &'a mut V
         requires sound { IsSound K.eq self }
         requires room { IsTrue (entry_has_room N self) }
-        requires callable { entry_value self ≡ None → (p : Bor K) → entry_key self ≡ Some p.now → F.pre default p }
+        requires callable { entry_value self ≡ None
+            → (p : Bor K) → entry_key self ≡ Some p.now → F.pre default p }
         ensures* writes_back { sem 𝓛 (entry_lends K.row V.row N.row K.eq self.entry result) }
-        ensures answer { UnwrapsOrElse (entry_value self.entry) (AnswersOfKey F.FnOnce default (entry_key self.entry)) result.now }
+        ensures answer { UnwrapsOrElse (entry_value self.entry)
+            (AnswersOfKey F.FnOnce default (entry_key self.entry)) result.now }
     {
         match self {
             EntryIn::Occupied(entry) => entry.into_mut(),

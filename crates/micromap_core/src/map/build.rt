@@ -1,9 +1,8 @@
 //! Inserting the items of an iterator, one after the other, as `insert` does. The keys are stored in the order in which
 //! each distinct key first came. Each has the value of its last item.
-ghost use Rattle.std.specs.Prelude.{◌≡◌, ◌+◌, ◌≤◌, length, take, IsTrue, IfOk, IfErr};
+ghost use Rattle.std.specs.Prelude.{◌≡◌, ◌≤◌, [], length, IsTrue, IfOk, OnOk, IfErr, OnErr};
 ghost use Rattle.std.specs.Iterator.{UpTo};
-ghost use Rattle.std.specs.Iterator.Runs.{WholeRun};
-ghost use Rattle.micromap_core.specs.Build.{all_fit, build, FirstItems, MisfitIn, most_items, pair_fits, put_all, put_pair, StopsAt};
+ghost use Rattle.micromap_core.specs.Build.{all_fit, build, IsOfAll, IsOfFirst, ItemsUpTo, MisfitIn, most_items, put_all};
 ghost use Rattle.micromap_core.specs.Pairs.{IsContent};
 
 use super::Map;
@@ -55,10 +54,10 @@ impl<K: Eq + Drop, V: Drop, const N: usize> Map<K, V, N> {
     pub fn try_extend<I: Iterator<Item = (K, V)>>(&mut self, items: I) -> Result<(), Overfull>
         requires can { I.can_next items }
         requires ends { UpTo (I.remaining items) most_items }
-        ensures runs { IfOk result (λ _. WholeRun I.next_gives items (λ p. self.new ≡ put_all K.eq self.old p.items)) }
-        ensures stops { IfErr result (λ e. FirstItems I.next_gives items (e.at + 1) (λ xs. StopsAt (pair_fits K.eq N) (put_pair K.eq) self.old xs e.at)) }
-        ensures before { IfErr result (λ e. FirstItems I.next_gives items (e.at + 1) (λ xs. self.new ≡ put_all K.eq self.old (take e.at xs))) }
-        ensures full { IfErr result (λ _. length self.new ≡ N) }
+        ensures runs { OnOk result (IsOfAll I.next_gives items (put_all K.eq self.old) self.new) }
+        ensures stops { IfErr result (ItemsUpTo I.next_gives items (MisfitIn K.eq N self.old)) }
+        ensures before { IfErr result (IsOfFirst I.next_gives items (put_all K.eq self.old) self.new) }
+        ensures full { OnErr result (length self.new ≡ N) }
     {
         let mut at = 0;
         for (key, value) in items {
@@ -81,8 +80,8 @@ impl<K: Eq + Drop, V: Drop, const N: usize> Map<K, V, N> {
     pub fn try_from_iter<I: Iterator<Item = (K, V)>>(items: I) -> Result<Self, Overfull>
         requires can { I.can_next items }
         requires ends { UpTo (I.remaining items) most_items }
-        ensures runs { IfOk result (λ map. WholeRun I.next_gives items (λ p. map ≡ build K.eq p.items)) }
-        ensures stops { IfErr result (λ e. FirstItems I.next_gives items (e.at + 1) (λ xs. MisfitIn K.eq N xs e.at)) }
+        ensures runs { IfOk result (IsOfAll I.next_gives items (build K.eq)) }
+        ensures stops { IfErr result (ItemsUpTo I.next_gives items (MisfitIn K.eq N [])) }
         ensures full { IfErr result (λ e. N ≤ e.at) }
         ensures content { IfOk result (IsContent K.eq N) }
     {

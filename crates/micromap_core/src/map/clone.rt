@@ -18,7 +18,8 @@ impl<K: Eq + Clone + Drop, V: Clone + Drop, const N: usize> Map<K, V, N> {
     pub fn clone(&self) -> Result<Self, AllocError>
         requires { ClonesAreEqual K.eq K.is_clone }
         ensures clones { IfOk result (AllZip (IsPairClone K.is_clone V.is_clone) self.now) }
-        ensures same { AreIdentical K.is_clone → AreIdentical V.is_clone → IfOk result (λ new. new ≡ self.now) }
+        ensures same { AreIdentical K.is_clone → AreIdentical V.is_clone
+            → IfOk result (λ new. new ≡ self.now) }
         ensures content { IfOk result (IsContent K.eq N) }
         ensures succeeds { All (λ p. K.is_infallible p.0 × V.is_infallible p.1) self.now → IsOk result }
     {

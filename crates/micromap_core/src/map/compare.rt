@@ -2,10 +2,9 @@
 ghost use Rattle.std.specs.Prelude.{◌≡◌, ◌↔◌, IsTrue, IsFalse, IsNone, IfSome};
 ghost use Rattle.std.specs.Bool.{OnTrue};
 ghost use Rattle.std.specs.Cmp.{partial_equiv_from_equiv};
-ghost use Rattle.std.specs.Option.{option_copied, option_eq};
+ghost use Rattle.std.specs.Option.{option_copied};
 ghost use Rattle.micromap_core.specs.Fair.{SameForGood, ToldApart};
-ghost use Rattle.micromap_core.specs.Pairs.{at};
-ghost use Rattle.micromap_core.specs.Same.{is_same, Same, DiffersAt, first_unequal, first_missing, first_difference};
+ghost use Rattle.micromap_core.specs.Same.{same_at, is_same, Same, first_unequal, first_missing, first_difference};
 ghost use Rattle.micromap_core.specs.SameLaws.{is_same_equiv};
 
 use super::Map;
@@ -22,7 +21,7 @@ impl<K: Eq, V: Eq, const N: usize> Map<K, V, N> {
     /// length times itself. `eq_with_counted` counts them, with that number proved.
     pub fn eq_with<const M: usize>(&self, other: &Map<K, V, M>) -> bool
         ensures answer { IsTrue result ↔ Same K.eq V.eq self.now other.now }
-        ensures each { IsTrue result ↔ ((k : K) → IsTrue (option_eq V.eq (at K.eq self.now k) (at K.eq other.now k))) }
+        ensures each { IsTrue result ↔ ((k : K) → IsTrue (same_at K.eq V.eq self.now other.now k)) }
         ensures told_apart { IsFalse result ↔ ToldApart K.eq V.eq N M self.now other.now }
         ensures outlasts { OnTrue result (SameForGood K.eq V.eq N M self.now other.now) }
     {
@@ -45,7 +44,7 @@ impl<K: Eq, V: Eq, const N: usize> Map<K, V, N> {
     pub fn differs_at<'a, const M: usize>(&'a self, other: &'a Map<K, V, M>) -> Option<&'a K>
         ensures answer { option_copied result ≡ first_difference K.eq V.eq self.now other.now }
         ensures none { IsNone result ↔ Same K.eq V.eq self.now other.now }
-        ensures differs { IfSome result (λ k. DiffersAt K.eq V.eq self.now other.now k.now) }
+        ensures differs { IfSome result (λ k. IsFalse (same_at K.eq V.eq self.now other.now k.now)) }
     {
         // `len` ensures what is true of each map's content.
         let _held = (self.len(), other.len());

@@ -4,7 +4,7 @@ ghost use Rattle.std.specs.Borrow.{sem};
 ghost use Rattle.std.specs.Map.{lookup, lookup_entry, remove_entry};
 ghost use Rattle.std.specs.Map.Iter.{deref_pair};
 ghost use Rattle.std.specs.Option.{IfSome, option_map};
-ghost use Rattle.micromap_core.specs.Closures.{CalledOnPair, AcceptsPair, VisitsAt};
+ghost use Rattle.micromap_core.specs.Closures.{AcceptsPair, VisitsAt};
 ghost use Rattle.micromap_core.specs.Found.{FoundAt, NotFound};
 ghost use Rattle.micromap_core.specs.Lends.{lends_value_at};
 ghost use Rattle.micromap_core.specs.Pairs.{at, first_index, has_room, index_of, pair, put, put_key, with_value_at, without_at};
@@ -87,7 +87,7 @@ impl<K: Eq, V, const N: usize> Map<K, V, N> {
     ) -> R
         requires within { index < length self.old }
         requires callable { IfSome (slice_get self.old index) (λ p. AcceptsPair F.FnMut visit.old p.0 p.1) }
-        ensures { VisitsAt (CalledOnPair F.FnMut) visit.old self.old index result visit.new self.new }
+        ensures { VisitsAt F.FnMut visit.old self.old index result visit.new self.new }
     {
         self.pairs.visit_at(index, visit)
     }

@@ -25,7 +25,8 @@ impl<K: Eq, V, const N: usize> Map<K, V, N> {
     /// After the borrow ends the map has what was written, and all else is unchanged. Makes one scan.
     #[inline]
     pub fn get_mut_by<P: Probe<K>>(&mut self, probe: &P) -> Option<&mut V>
-        ensures* writes_back { sem 𝓛 (lends_matched_if K.row V.row N.row K.eq self.entry (P.matches probe.now) result) }
+        ensures* writes_back { sem 𝓛 (lends_matched_if K.row V.row N.row K.eq self.entry
+            (P.matches probe.now) result) }
         ensures answer { option_copied_mut result ≡ lookup (P.matches probe.now) self.old }
     {
         match self.index_of(probe) {
@@ -71,7 +72,8 @@ impl<K: Eq, V, const N: usize> Map<K, V, N> {
     #[inline]
     pub fn index_mut_by<P: Probe<K>>(&mut self, probe: &P) -> &mut V
         requires { IsTrue (is_some (lookup (P.matches probe.now) self.old)) }
-        ensures* writes_back { sem 𝓛 (lends_matched K.row V.row N.row K.eq self.entry (P.matches probe.now) result) }
+        ensures* writes_back { sem 𝓛 (lends_matched K.row V.row N.row K.eq self.entry
+            (P.matches probe.now) result) }
         ensures answer { lookup (P.matches probe.now) self.old ≡ Some result.now }
     {
         match self.index_of(probe) {

@@ -34,7 +34,8 @@ impl<K: Eq + Drop, V: Drop, const N: usize> Map<K, V, N> {
     pub fn read_entries<S: EntrySource<K, V>>(source: &mut S) -> Result<Self, ReadFault<S::Error>>
         requires { S.faults source.old < most_faults }
         ensures reads { MapReads K.eq N S.left S.faults S.last_fault source.old source.new result }
-        ensures round_trip { IsContent K.eq N (S.left source.old) → S.faults source.new ≡ S.faults source.old → result ≡ Ok (S.left source.old) }
+        ensures round_trip { IsContent K.eq N (S.left source.old)
+            → S.faults source.new ≡ S.faults source.old → result ≡ Ok (S.left source.old) }
     {
         let mut map = Map::new();
         loop {

@@ -126,7 +126,7 @@ impl<K, V, const N: usize> Columns<K, V, N> {
     ) -> R
         requires within { index < length self.old }
         requires callable { IfSome (slice_get self.old index) (λ p. AcceptsPair F.FnMut visit.old p.0 p.1) }
-        ensures { VisitsAt (CalledOnPair F.FnMut) visit.old self.old index result visit.new self.new }
+        ensures { VisitsAt F.FnMut visit.old self.old index result visit.new self.new }
     {
         hint_below(index, self.values.len());
         visit(self.keys.item_at(index), self.values.item_at_mut(index))

@@ -1,5 +1,5 @@
 //! Maps and sets built from items, what is said of the first that doesn't fit, and a caller's proof over the items.
-ghost use Rattle.std.specs.Prelude.{◌≡◌, IfErr, IfOk, nat_eq};
+ghost use Rattle.std.specs.Prelude.{◌≡◌, [], IfErr, IfOk, nat_eq};
 ghost use Rattle.std.specs.Vec.{vec_items};
 ghost use Rattle.micromap.specs.Build.{build, MisfitIn};
 
@@ -10,7 +10,7 @@ use std::alloc::AllocError;
 // The map of these items, or the place of the first that doesn't fit.
 fn of_items<const N: usize>(items: Vec<(u8, u8)>) -> Result<Map<u8, u8, N>, Overfull>
     ensures built { IfOk result (λ map. map ≡ build nat_eq (vec_items items)) }
-    ensures misfit { IfErr result (λ e. MisfitIn nat_eq N (vec_items items) e.at) }
+    ensures misfit { IfErr result (λ e. MisfitIn nat_eq N [] (vec_items items) e.at) }
 {
     Map::try_from_iter(items.into_iter())
 }

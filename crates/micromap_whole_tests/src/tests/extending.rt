@@ -1,7 +1,7 @@
 //! A map that is given items, and a caller's proof over the items.
 ghost use Rattle.std.specs.Prelude.{◌≡◌, IfErr, IfOk, nat_eq};
 ghost use Rattle.std.specs.Vec.{vec_items};
-ghost use Rattle.micromap.specs.Build.{pair_fits, put_all, put_pair, StopsAt};
+ghost use Rattle.micromap.specs.Build.{put_all, MisfitIn};
 
 use micromap::{Map, Overfull};
 use std::alloc::AllocError;
@@ -9,7 +9,7 @@ use std::alloc::AllocError;
 // Inserts these items, or those before the first that doesn't fit, whose place is returned.
 fn put_items<const N: usize>(map: &mut Map<u8, u8, N>, items: Vec<(u8, u8)>) -> Result<(), Overfull>
     ensures all { IfOk result (λ _. map.new ≡ put_all nat_eq map.old (vec_items items)) }
-    ensures misfit { IfErr result (λ e. StopsAt (pair_fits nat_eq N) (put_pair nat_eq) map.old (vec_items items) e.at) }
+    ensures misfit { IfErr result (λ e. MisfitIn nat_eq N map.old (vec_items items) e.at) }
 {
     map.try_extend(items.into_iter())
 }

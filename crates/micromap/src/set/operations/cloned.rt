@@ -18,7 +18,8 @@ impl<T: Eq + Clone + Drop, const N: usize> Set<T, N> {
     pub fn bitand<const M: usize>(&self, other: &Set<T, M>) -> Result<Self, AllocError>
         requires { ClonesAreEqual T.eq T.is_clone }
         ensures clones { IfOk result (AllZip T.is_clone (intersection T.eq self.now other.now)) }
-        ensures same { AreIdentical T.is_clone → IfOk result (λ new. new ≡ intersection T.eq self.now other.now) }
+        ensures same { AreIdentical T.is_clone
+            → IfOk result (λ new. new ≡ intersection T.eq self.now other.now) }
         ensures content { IfOk result (IsItems T.eq N) }
         ensures succeeds { All T.is_infallible (intersection T.eq self.now other.now) → IsOk result }
     {
@@ -38,7 +39,8 @@ impl<T: Eq + Clone + Drop, const N: usize> Set<T, N> {
     pub fn sub<const M: usize>(&self, other: &Set<T, M>) -> Result<Self, AllocError>
         requires { ClonesAreEqual T.eq T.is_clone }
         ensures clones { IfOk result (AllZip T.is_clone (difference T.eq self.now other.now)) }
-        ensures same { AreIdentical T.is_clone → IfOk result (λ new. new ≡ difference T.eq self.now other.now) }
+        ensures same { AreIdentical T.is_clone
+            → IfOk result (λ new. new ≡ difference T.eq self.now other.now) }
         ensures content { IfOk result (IsItems T.eq N) }
         ensures succeeds { All T.is_infallible (difference T.eq self.now other.now) → IsOk result }
     {

@@ -101,7 +101,7 @@ impl<T: Eq, const N: usize> Set<T, N> {
         ensures items { difference_left T.eq result ≡ difference T.eq self.now other.now }
         ensures bounded { length (difference_left T.eq result) ≤ N }
         ensures unique { IsDistinct T.eq (difference T.eq self.now other.now) }
-        ensures builds { distinct T.eq (difference T.eq self.now other.now) ≡ difference T.eq self.now other.now }
+        ensures builds { let xs = difference T.eq self.now other.now in distinct T.eq xs ≡ xs }
         ensures runs { GivesMembers (difference_left T.eq) (difference_on T.eq) }
     {
         let _content = self.len();

@@ -92,10 +92,12 @@ impl<'a, T: Eq, const N: usize> Set<&'a T, N> {
         other: &'s Set<&'a T, M>,
     ) -> DifferenceRef<'a, 's, T, M>
         ensures walk { result ≡ record { rest = self.now; other = other.now } }
-        ensures items { difference_left (on deref T.eq) result ≡ difference (on deref T.eq) self.now other.now }
+        ensures items { difference_left (on deref T.eq) result
+            ≡ difference (on deref T.eq) self.now other.now }
         ensures bounded { length (difference_left (on deref T.eq) result) ≤ N }
         ensures unique { IsDistinct (on deref T.eq) (difference (on deref T.eq) self.now other.now) }
-        ensures runs { YieldsInOrder (GivesNext (λ (r : Bor T). r) (difference_left (on deref T.eq)) (difference_on (on deref T.eq))) (difference_left (on deref T.eq)) }
+        ensures runs { let left = difference_left (on deref T.eq) in
+            YieldsInOrder (GivesNext (λ (r : Bor T). r) left (difference_on (on deref T.eq))) left }
     {
         DifferenceRefIn {
             items: self.difference(other),

@@ -5,7 +5,7 @@ ghost use Rattle.std.specs.Iterator.SizeHint.{IsWithinCount};
 ghost use Rattle.std.specs.List.{IsDistinct};
 ghost use Rattle.std.specs.Map.Iter.{deref};
 ghost use Rattle.micromap.specs.Extend.{distinct};
-ghost use Rattle.micromap.specs.Operations.{intersection, intersection_hint, intersection_left, intersection_on, GivesMembers, GivesNext, HaveEquals};
+ghost use Rattle.micromap.specs.Operations.{intersection, intersection_hint, intersection_left, intersection_on, Commutes, GivesMembers, GivesNext};
 
 use crate::Set;
 use crate::set::Iter;
@@ -100,8 +100,8 @@ impl<T: Eq, const N: usize> Set<T, N> {
         ensures items { intersection_left T.eq result ≡ intersection T.eq self.now other.now }
         ensures bounded { length (intersection_left T.eq result) ≤ N }
         ensures unique { IsDistinct T.eq (intersection T.eq self.now other.now) }
-        ensures builds { distinct T.eq (intersection T.eq self.now other.now) ≡ intersection T.eq self.now other.now }
-        ensures turned { HaveEquals T.eq (intersection T.eq self.now other.now) (intersection T.eq other.now self.now) }
+        ensures builds { let xs = intersection T.eq self.now other.now in distinct T.eq xs ≡ xs }
+        ensures turned { Commutes T.eq (intersection T.eq) self.now other.now }
         ensures runs { GivesMembers (intersection_left T.eq) (intersection_on T.eq) }
     {
         let _content = self.len();

@@ -5,7 +5,7 @@ ghost use Rattle.std.specs.Iterator.SizeHint.{IsWithinCount};
 ghost use Rattle.std.specs.List.{IsDistinct};
 ghost use Rattle.std.specs.Map.Iter.{deref};
 ghost use Rattle.micromap.specs.Extend.{distinct};
-ghost use Rattle.micromap.specs.Operations.{symmetric_difference, symmetric_hint, symmetric_left, symmetric_on, GivesMembers, GivesNext, HaveEquals};
+ghost use Rattle.micromap.specs.Operations.{symmetric_difference, symmetric_hint, symmetric_left, symmetric_on, Commutes, GivesMembers, GivesNext};
 
 use super::difference::DifferenceIn;
 use super::hint_of_both;
@@ -103,12 +103,15 @@ impl<T: Eq, const N: usize> Set<T, N> {
         &'a self,
         other: &'a Set<T, M>,
     ) -> SymmetricDifference<'a, T, N, M>
-        ensures walk { result ≡ record { first = record { rest = self.now; other = other.now }; second = record { rest = other.now; other = self.now } } }
+        ensures walk { result ≡ record {
+          first = record { rest = self.now; other = other.now };
+          second = record { rest = other.now; other = self.now };
+        } }
         ensures items { symmetric_left T.eq result ≡ symmetric_difference T.eq self.now other.now }
         ensures bounded { length (symmetric_left T.eq result) ≤ N + M }
         ensures unique { IsDistinct T.eq (symmetric_difference T.eq self.now other.now) }
-        ensures builds { distinct T.eq (symmetric_difference T.eq self.now other.now) ≡ symmetric_difference T.eq self.now other.now }
-        ensures turned { HaveEquals T.eq (symmetric_difference T.eq self.now other.now) (symmetric_difference T.eq other.now self.now) }
+        ensures builds { let xs = symmetric_difference T.eq self.now other.now in distinct T.eq xs ≡ xs }
+        ensures turned { Commutes T.eq (symmetric_difference T.eq) self.now other.now }
         ensures runs { GivesMembers (symmetric_left T.eq) (symmetric_on T.eq) }
     {
         SymmetricDifferenceIn {

@@ -5,7 +5,7 @@ ghost use Rattle.std.specs.Iterator.SizeHint.{IsWithinCount};
 ghost use Rattle.std.specs.List.{IsDistinct};
 ghost use Rattle.std.specs.Map.Iter.{deref};
 ghost use Rattle.micromap.specs.Extend.{distinct};
-ghost use Rattle.micromap.specs.Operations.{intersection, union, union_hint, union_left, union_on, GivesMembers, GivesNext, HaveEquals};
+ghost use Rattle.micromap.specs.Operations.{intersection, union, union_hint, union_left, union_on, Commutes, GivesMembers, GivesNext};
 
 use super::difference::DifferenceIn;
 use super::hint_of_both;
@@ -93,13 +93,17 @@ impl<T: Eq, const N: usize> Set<T, N> {
     /// Making it compares nothing. All calls of `next` together make one scan of `other` for each item of this set.
     #[tactic(auto, unfolding(crate::specs::Operations::union, crate::specs::Operations::union_left))]
     pub fn union<'a, const M: usize>(&'a self, other: &'a Set<T, M>) -> Union<'a, T, M>
-        ensures walk { result ≡ record { others = other.now; beyond = record { rest = self.now; other = other.now } } }
+        ensures walk { result ≡ record {
+          others = other.now;
+          beyond = record { rest = self.now; other = other.now };
+        } }
         ensures items { union_left T.eq result ≡ union T.eq self.now other.now }
         ensures bounded { length (union_left T.eq result) ≤ N + M }
         ensures unique { IsDistinct T.eq (union T.eq self.now other.now) }
-        ensures builds { distinct T.eq (union T.eq self.now other.now) ≡ union T.eq self.now other.now }
-        ensures turned { HaveEquals T.eq (union T.eq self.now other.now) (union T.eq other.now self.now) }
-        ensures lengths { length (union T.eq self.now other.now) + length (intersection T.eq self.now other.now) ≡ length self.now + length other.now }
+        ensures builds { let xs = union T.eq self.now other.now in distinct T.eq xs ≡ xs }
+        ensures turned { Commutes T.eq (union T.eq) self.now other.now }
+        ensures lengths { length (union T.eq self.now other.now)
+            + length (intersection T.eq self.now other.now) ≡ length self.now + length other.now }
         ensures runs { GivesMembers (union_left T.eq) (union_on T.eq) }
     {
         let _content = other.len();

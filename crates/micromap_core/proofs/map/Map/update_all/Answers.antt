@@ -1,4 +1,4 @@
-use Rattle.std.proofs.Common.{arith, refl, rules}
+use Rattle.std.proofs.Common.{arith, refl}
 use Rattle.micromap_core.proofs.ClosureLemmas.{asks_next, updates_next, update_ends}
 use Rattle.micromap_core.proofs.map.Map.update_all.Goals as goal
 
