@@ -4,7 +4,7 @@ use std::alloc::{AllocError, Global};
 
 // Whether the reading returns this fault.
 fn fails<T: Drop>(read: Result<T, JsonFault>, fault: JsonFault) -> bool {
-    matches!(read, Err(answer) if answer == fault)
+    read.err() == Some(fault)
 }
 
 // An object is read, or the first fault in their order is returned.

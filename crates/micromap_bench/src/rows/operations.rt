@@ -6,10 +6,12 @@ use std::alloc::{AllocError, Global};
 pub(super) fn row_15() -> bool {
     let a = Set::from([1, 2, 3]);
     let d = Set::from([3, 4]);
-    let mut difference = a.difference(&d);
-    let union = a.union(&d);
-    let symmetric = a.symmetric_difference(&d);
-    let intersection = a.intersection(&d);
+    hints_narrow(&a, &d) && gives_others(&a, &d)
+}
+
+// The hints on the way through the difference of the two.
+fn hints_narrow(a: &Set<i32, 3>, d: &Set<i32, 2>) -> bool {
+    let mut difference = a.difference(d);
     difference.size_hint() == (1, Some(3))
         && difference.next() == Some(&1)
         && difference.size_hint() == (0, Some(2))
@@ -17,7 +19,14 @@ pub(super) fn row_15() -> bool {
         && difference.size_hint() == (0, Some(1))
         && difference.next().is_none()
         && difference.size_hint() == (0, Some(0))
-        && union.size_hint() == (3, Some(5))
+}
+
+// The first hints of the other operations, and the members.
+fn gives_others(a: &Set<i32, 3>, d: &Set<i32, 2>) -> bool {
+    let union = a.union(d);
+    let symmetric = a.symmetric_difference(d);
+    let intersection = a.intersection(d);
+    union.size_hint() == (3, Some(5))
         && union.eq(&[3, 4, 1, 2])
         && symmetric.size_hint() == (1, Some(5))
         && symmetric.eq(&[1, 2, 4])
@@ -45,15 +54,22 @@ pub(super) fn row_21() -> bool {
 
 // The words of one sentence without those of another, and the references to texts without those to equal ones.
 pub(super) fn row_22(alloc: Global) -> Result<bool, AllocError> {
-    let mut surf: Set<&str, 7> = Set::new();
-    for word in "I love the surf and the sand.".split(' ') {
-        surf.checked_insert(word);
+    let surf = words("I love the surf and the sand.");
+    let hate = words("I hate the hate and the sand.");
+    Ok(surf.difference(&hate).copied().eq(["love", "surf"]) && leaves_the_apple(alloc)?)
+}
+
+// The words of a sentence.
+fn words(sentence: &str) -> Set<&str, 7> {
+    let mut words = Set::new();
+    for word in sentence.split(' ') {
+        words.checked_insert(word);
     }
-    let mut hate: Set<&str, 7> = Set::new();
-    for word in "I hate the hate and the sand.".split(' ') {
-        hate.checked_insert(word);
-    }
-    let words = surf.difference(&hate).copied().eq(["love", "surf"]);
+    words
+}
+
+// Whether the texts of one bowl without those of another are the one that no text of the other equals.
+fn leaves_the_apple(alloc: Global) -> Result<bool, AllocError> {
     let apple = String::from_str(alloc, "apple")?;
     let bananas = [
         String::from_str(alloc, "banana")?,
@@ -65,8 +81,7 @@ pub(super) fn row_22(alloc: Global) -> Result<bool, AllocError> {
     let ours = Set::from([&apple, ours, &cherry]);
     let theirs = Set::from([theirs, &cherry, &date]);
     let mut fruits = ours.difference_ref(&theirs);
-    let first = fruits.next().is_some_and(|fruit| fruit.as_str() == "apple");
-    Ok(words && first && fruits.next().is_none())
+    Ok(fruits.next() == Some(&apple) && fruits.next().is_none())
 }
 
 // The sets of clones.

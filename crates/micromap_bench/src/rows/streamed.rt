@@ -12,9 +12,12 @@ pub(super) fn row_25() -> bool {
     let small: Read<2> = Map::read_entries(&mut source);
     let left = source.left() == [(4, "e")].as_slice();
     let large: Read<4> = Map::read_entries(&mut SliceSource::over(&pairs));
+    let Ok(mut whole) = large else {
+        return false;
+    };
     matches!(small, Err(ReadFault::TooMany))
         && left
-        && large.is_ok_and(|mut map| map.drain().eq([(1, "c"), (2, "b"), (3, "d"), (4, "e")]))
+        && whole.drain().eq([(1, "c"), (2, "b"), (3, "d"), (4, "e")])
 }
 
 // There was no room for a second pair.

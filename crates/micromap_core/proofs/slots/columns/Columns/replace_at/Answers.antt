@@ -1,14 +1,15 @@
-use Rattle.std.proofs.Common.{length-set, Some, ap, sym, ◌∙◌, arith, rules}
+use Rattle.std.proofs.Common.{length-set, Some, ap, sym, ◌∙◌, arith}
+use Rattle.micromap_core.proofs.Sizes.{keys_fit, values_fit}
 use Rattle.micromap_core.proofs.SlotsLemmas.{as_long, get_zip, set_zip}
 use Rattle.micromap_core.proofs.slots.columns.Columns.replace_at.Goals as goal
 
 pub item_at_mut-requires : goal.item_at_mut-requires
 item_at_mut-requires g c =
-    (search rules, omega (arith, as_long _ _ _ c.self.invariant c.self.view_is, c.requires))
+    (keys_fit g.row.K g.row.V g.row.N assumption, omega (arith, as_long _ _ _ c.self.invariant c.self.view_is, c.requires))
 
 pub item_at_mut-requires-2 : goal.item_at_mut-requires-2
 item_at_mut-requires-2 g c =
-    (search rules, omega (arith, as_long _ _ _ c.self.invariant c.self.view_is, c.requires, c.self.invariant))
+    (values_fit g.row.K g.row.V g.row.N assumption, omega (arith, as_long _ _ _ c.self.invariant c.self.view_is, c.requires, c.self.invariant))
 
 pub returns : goal.returns
 returns g c = record {

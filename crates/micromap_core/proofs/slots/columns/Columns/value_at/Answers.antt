@@ -1,10 +1,11 @@
-use Rattle.std.proofs.Common.{sym, length-set, refl, ◌∙◌, arith, rules}
+use Rattle.std.proofs.Common.{sym, length-set, refl, ◌∙◌, arith}
+use Rattle.micromap_core.proofs.Sizes.{values_fit}
 use Rattle.micromap_core.proofs.SlotsLemmas.{as_long, set_value_zip, value_zip}
 use Rattle.micromap_core.proofs.slots.columns.Columns.value_at.Goals as goal
 
 pub item_at_mut-requires : goal.item_at_mut-requires
 item_at_mut-requires g c =
-    (search rules, omega (arith, as_long _ _ _ c.self.invariant c.self.view_is, c.requires, c.self.invariant))
+    (values_fit g.row.K g.row.V g.row.N assumption, omega (arith, as_long _ _ _ c.self.invariant c.self.view_is, c.requires, c.self.invariant))
 
 pub returns : goal.returns
 returns g c = (

@@ -1,6 +1,7 @@
-use Rattle.std.proofs.Common.{sym, length-set, ◌≡◌, Some, slice_get, refl, subst, ◌∙◌, arith, rules}
+use Rattle.std.proofs.Common.{sym, length-set, ◌≡◌, Some, slice_get, refl, subst, ◌∙◌, arith}
 use Rattle.std.specs.Option.{IfSome}
 use Rattle.micromap_core.specs.Closures.{AcceptsPair}
+use Rattle.micromap_core.proofs.Sizes.{keys_fit, values_fit}
 use Rattle.micromap_core.proofs.SlotsLemmas.{as_long, get_zip, set_value_zip}
 use Rattle.micromap_core.proofs.slots.columns.Columns.visit_at.Goals as goal
 
@@ -10,17 +11,17 @@ hint_below-requires g c =
 
 pub item_at-requires : goal.item_at-requires
 item_at-requires g c =
-    (search rules, omega (arith, as_long _ _ _ c.self.invariant c.self.view_is, c.requires.within))
+    (keys_fit g.row.K g.row.V g.row.N assumption, omega (arith, as_long _ _ _ c.self.invariant c.self.view_is, c.requires.within))
 
 pub item_at_mut-requires : goal.item_at_mut-requires
 item_at_mut-requires g c =
-    (search rules, omega (arith, as_long _ _ _ c.self.invariant c.self.view_is, c.requires.within, c.self.invariant))
+    (values_fit g.row.K g.row.V g.row.N assumption, omega (arith, as_long _ _ _ c.self.invariant c.self.view_is, c.requires.within, c.self.invariant))
 
 pub visit-requires : goal.visit-requires
 visit-requires g c =
     let here : slice_get c.args.self.now c.args.index ≡ Some (c.item_at.result.now, c.item_at_mut.result.now) = rw (← c.self.view_is) (get_zip _ _ c.args.index _ _ c.item_at.ensures c.item_at_mut.ensures.answer) in
     let callable : AcceptsPair g.F.FnMut c.args.visit.now c.item_at.result.now c.item_at_mut.result.now = subst (λ o. IfSome o (λ p. AcceptsPair g.F.FnMut c.args.visit.now p.0 p.1)) here c.requires.callable in
-    search (rules, callable)
+    callable c.item_at.result refl c.item_at_mut.result refl
 
 pub returns : goal.returns
 returns g c =
