@@ -1,5 +1,5 @@
 //! Access to a filled slot, and what the compiler is told because it doesn't see it by itself.
-ghost use Rattle.std.specs.Prelude.{◌≡◌, ◌<◌, Some, IsSome};
+ghost use Rattle.std.specs.Prelude.{◌≡◌, ◌<◌, ◌≤◌, Some, IsSome};
 ghost use Rattle.std.specs.Borrow.{sem};
 ghost use Rattle.micromap_walk.specs.Lends.{lends_item};
 
@@ -63,13 +63,24 @@ pub fn hint_equal(left: usize, right: usize)
     }
 }
 
-/// Tells the compiler that a number is below another, such as a length below the capacity, so that it can leave out a
-/// test of it. It must be below.
+/// Tells the compiler that a number is below another, such as an index below a length, so that it can leave out a test of
+/// it. It must be below.
 #[inline]
 pub fn hint_below(number: usize, bound: usize)
     requires { number < bound }
 {
     if number >= bound {
+        nowhere!()
+    }
+}
+
+/// Tells the compiler that a number is at most another, such as a length and the capacity, so that it knows how many turns
+/// a loop has at most. It must be at most that.
+#[inline]
+pub fn hint_at_most(number: usize, bound: usize)
+    requires { number ≤ bound }
+{
+    if number > bound {
         nowhere!()
     }
 }

@@ -56,6 +56,11 @@ impl<T: Eq + Drop, const N: usize> Set<T, N> {
     /// Requires that the iterator ends, after fewer than `usize::MAX` items. The result is `Err` exactly if more than
     /// `N` of the items are distinct. Then at least `N` items came before the one that didn't fit, and these and those left
     /// are dropped. Makes one scan for each item.
+    ///
+    /// ```
+    /// let both: Set<i32, 4> = Set::try_from_iter(first.union(&second).copied())?;
+    /// assert_eq!(rt; both.len(), 3);
+    /// ```
     pub fn try_from_iter<I: Iterator<Item = T>>(items: I) -> Result<Self, Overfull>
         requires can { I.can_next items }
         requires ends { UpTo (I.remaining items) most_items }

@@ -4,6 +4,7 @@ ghost use Rattle.std.specs.Map.Iter.{GivesInOrder, ShowsInOrder, deref};
 
 use super::Set;
 use crate::map;
+use micromap_walk::slot::hint_at_most;
 use std::mem;
 
 /// An iterator over the items of a set by reference, from the front.
@@ -22,6 +23,7 @@ impl<T: Eq, const N: usize> Set<T, N> {
         ensures answer { result ≡ self.now }
         ensures runs { ShowsInOrder (deref {X = T}) }
     {
+        hint_at_most(self.len(), N);
         self.map.keys()
     }
 }

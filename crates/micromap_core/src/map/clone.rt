@@ -6,7 +6,7 @@ ghost use Rattle.micromap_core.specs.Clones.{AreIdentical, IsPairClone};
 ghost use Rattle.micromap_core.specs.Pairs.{IsContent};
 
 use super::Map;
-use micromap_walk::slot::hint_below;
+use micromap_walk::slot::hint_equal;
 use std::alloc::AllocError;
 
 impl<K: Eq + Clone + Drop, V: Clone + Drop, const N: usize> Map<K, V, N> {
@@ -23,13 +23,16 @@ impl<K: Eq + Clone + Drop, V: Clone + Drop, const N: usize> Map<K, V, N> {
         ensures content { IfOk result (IsContent K.eq N) }
         ensures succeeds { All (λ p. K.is_infallible p.0 × V.is_infallible p.1) self.now → IsOk result }
     {
-        let _content = self.len();
+        let len = self.len();
         let mut map = Map::new();
-        for (key, value) in self {
-            let key = key.clone()?;
-            let value = value.clone()?;
-            hint_below(map.len(), N);
-            map.pairs.push(key, value);
+        for index in 0..N {
+            if index < len {
+                let (key, value) = self.pair_at(index);
+                let key = key.clone()?;
+                let value = value.clone()?;
+                hint_equal(map.len(), index);
+                map.pairs.push(key, value);
+            }
         }
         let _content = map.len();
         Ok(map)

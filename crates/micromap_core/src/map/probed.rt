@@ -12,6 +12,12 @@ use crate::probe::Probe;
 
 impl<K: Eq, V, const N: usize> Map<K, V, N> {
     /// Returns a reference to the value of the key that matches, or `None` if none does. Makes one scan.
+    ///
+    /// ```
+    /// let mut ages: Map<String, u8, 4> = Map::new();
+    /// ages.checked_insert(String::from_str(alloc, "Ada")?, 7);
+    /// assert_eq!(rt; ages.get_by(&Text("Ada")), Some(&7));
+    /// ```
     #[inline]
     pub fn get_by<P: Probe<K>>(&self, probe: &P) -> Option<&V>
         ensures { option_copied result ≡ lookup (P.matches probe.now) self.now }

@@ -11,7 +11,7 @@ ghost use Rattle.micromap_core.specs.Columns.{lends_value_in};
 
 use super::Slots;
 use arrayvec::ArrayVec;
-use micromap_walk::slot::{hint_below, hint_equal};
+use micromap_walk::slot::{hint_at_most, hint_below, hint_equal};
 use std::marker::Model;
 use std::mem;
 
@@ -83,6 +83,7 @@ impl<K, V, const N: usize> Columns<K, V, N> {
         ensures equal { length result.0.now ≡ length result.1.now }
         ensures pairs { zip (items_of result.0.now) (items_of result.1.now) ≡ self.now }
     {
+        hint_at_most(self.len(), N);
         (self.keys.as_slice(), self.values.as_slice())
     }
 

@@ -77,6 +77,16 @@ fn values_are_written_at_stored_keys(rt: HostRuntime) {
 }
 
 #[test]
+fn a_union_is_built(rt: HostRuntime) -> Result<(), Overfull> {
+    let first = Set::from([1, 2]);
+    let second = Set::from([2, 3]);
+    assert!(rt; first.union(&second).eq([&2, &3, &1]));
+    let both: Set<i32, 4> = Set::try_from_iter(first.union(&second).copied())?;
+    assert_eq!(rt; both.len(), 3);
+    Ok(())
+}
+
+#[test]
 fn two_maps_differ_at_a_key(rt: HostRuntime) {
     let first = Map::from([(1, 10), (2, 20)]);
     let second = Map::from([(2, 20), (1, 11)]);

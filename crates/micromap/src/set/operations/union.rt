@@ -91,6 +91,12 @@ impl<T: Eq, const N: usize> Set<T, N> {
     /// each in their order.
     ///
     /// Making it compares nothing. All calls of `next` together make one scan of `other` for each item of this set.
+    ///
+    /// ```
+    /// let first = Set::from([1, 2]);
+    /// let second = Set::from([2, 3]);
+    /// assert!(rt; first.union(&second).eq([&2, &3, &1]));
+    /// ```
     #[tactic(auto, unfolding(crate::specs::Operations::union, crate::specs::Operations::union_left))]
     pub fn union<'a, const M: usize>(&'a self, other: &'a Set<T, M>) -> Union<'a, T, M>
         ensures walk { result ≡ record {

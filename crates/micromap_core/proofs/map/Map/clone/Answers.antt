@@ -1,36 +1,39 @@
-use Rattle.std.proofs.Common.{ap, ◌∙◌, length, arith}
+use Rattle.std.proofs.Common.{◌<◌, length, ap, sym, ◌∙◌, arith, All}
+use Rattle.std.specs.Prelude.{slice_get, Some}
+use Rattle.std.specs.List.{AllZip}
 use Rattle.std.proofs.lemmas.List.Elements.{same_from_all_zip}
-use Rattle.micromap_core.proofs.CloneLemmas.{IsUnique-cloning, cloning_begins, cloning_ends, cloning_more, cloning_next, cloning_room}
+use Rattle.std.proofs.lemmas.List.{take_all}
+use Rattle.micromap_core.proofs.CloneLemmas.{all_at, clones_all, clones_more, length_clones, unique_clones}
 use Rattle.micromap_core.proofs.Sizes.{columns_fit}
 use Rattle.micromap_core.proofs.map.Map.clone.Goals as goal
+use Rattle.micromap_core.proofs.map.Map.clone.Goals.{then-index-len+in_ok-key+in_ok-value, else-index-len}
 
-pub loop-key-init : goal.loop-key-init
-loop-key-init g c = rw (c.into_iter-key-iterator.ensures.into_iter_gives.0, c.new-map.ensures) (cloning_begins _ _)
+pub pair_at-requires : goal.pair_at-requires
+pair_at-requires g c = (assumption, rw (← c.len-len.ensures.answer) c.if-index-len.true)
 
-pub hint_below-requires : goal.hint_below-requires
-hint_below-requires g c =
-    rw c.len.ensures.answer (cloning_room _ c.loop-key.invariant c.in-Some.ensures.steps g.row.N c.len-content.ensures.content.bounded)
+pub hint_equal-requires : goal.hint_equal-requires
+hint_equal-requires g c = c.len.ensures.answer ∙ length_clones _ _ _ _ c.loop-index.invariant (rw (← c.len-len.ensures.answer) c.if-index-len.true)
 
 pub push-requires : goal.push-requires
 push-requires g c =
-    (columns_fit g.row.K g.row.V g.row.N g.K.PartialEq.eq assumption, rw c.map.view_is (cloning_room _ c.loop-key.invariant c.in-Some.ensures.steps g.row.N c.len-content.ensures.content.bounded))
+    (columns_fit g.row.K g.row.V g.row.N g.K.PartialEq.eq assumption, rw (c.map.view_is, length_clones _ _ _ _ c.loop-index.invariant (rw (← c.len-len.ensures.answer) c.if-index-len.true)) c.loop-index-test.true)
 
 pub invariant_of-map : goal.invariant_of-map
 invariant_of-map g c =
     rw (c.push.ensures, c.map.view_is)
-    (IsUnique-cloning g.K.PartialEq.eq g.met.K.Eq.laws g.K.Clone.is_clone g.V.Clone.is_clone c.requires
-    (cloning_more _ c.loop-key.invariant c.in-Some.ensures.steps (c.in_ok-key.key, c.in_ok-value.value) (c.in_ok-key.ensures.cases, c.in_ok-value.ensures.cases))
-    c.len-content.ensures.content.unique)
+    (unique_clones g.K.PartialEq.eq g.met.K.Eq.laws g.K.Clone.is_clone g.V.Clone.is_clone c.requires _ c.args.self.now _
+    (clones_more _ _ _ _ c.loop-index.invariant _ _ (rw (← c.len-len.ensures.answer) c.if-index-len.true) c.pair_at.ensures (c.in_ok-key.ensures.cases, c.in_ok-value.ensures.cases))
+    c.len-len.ensures.content.unique)
 
-pub loop-key-preserved : goal.loop-key-preserved
-loop-key-preserved g c =
-    rw (c.push.ensures, c.map.view_is) (cloning_more _ c.loop-key.invariant c.in-Some.ensures.steps (c.in_ok-key.key, c.in_ok-value.value) (c.in_ok-key.ensures.cases, c.in_ok-value.ensures.cases))
-
-pub loop-key-smaller : goal.loop-key-smaller
-loop-key-smaller g c = omega (arith, ap length c.in-Some.ensures.steps)
+pub loop-index-preserved : goal.loop-index-preserved
+loop-index-preserved g c =
+    elim c.if-index-len.branch [
+      | then-index-len+in_ok-key+in_ok-value w ↦ rw (w.map-is, w.push.ensures, c.map.view_is) (clones_more _ _ _ _ c.loop-index.invariant _ _ (rw (← c.len-len.ensures.answer) w.if-index-len.true) w.pair_at.ensures (w.in_ok-key.ensures.cases, w.in_ok-value.ensures.cases))
+      | else-index-len w ↦ rw w.map-is (clones_all _ _ _ _ c.loop-index.invariant _ (omega (arith, c.len-len.ensures.answer, w.if-index-len.false)) (omega (arith, c.len-len.ensures.answer, w.if-index-len.false)))
+    ]
 
 pub returns-clause-clones : goal.returns-clause-clones
-returns-clause-clones g c = cloning_ends _ c.loop-key.invariant c.in-None.ensures.steps.0
+returns-clause-clones g c = rw (← take_all c.loop-index.index c.args.self.now (omega (arith, c.len-len.ensures.content.bounded, c.loop-index-test.false))) c.loop-index.invariant
 
 pub returns-clause-same : goal.returns-clause-same
 returns-clause-same g c =
@@ -38,9 +41,7 @@ returns-clause-same g c =
     same_from_all_zip _ _ _ (returns-clause-clones g c) (λ p q h. ap (λ k. (k, q.1)) (keys p.0 q.0 h.0) ∙ ap (λ v. (p.0, v)) (values p.1 q.1 h.1))
 
 pub returns-in_err-key-clause-succeeds : goal.returns-in_err-key-clause-succeeds
-returns-in_err-key-clause-succeeds g c =
-    λ all. absurd (c.in_err-key.ensures.cases (cloning_next _ c.loop-key.invariant c.in-Some.ensures.steps (λ p. g.K.Clone.is_infallible p.0 × g.V.Clone.is_infallible p.1) all).0)
+returns-in_err-key-clause-succeeds g c = λ all. absurd (c.in_err-key.ensures.cases (all_at (λ p. g.K.Clone.is_infallible p.0 × g.V.Clone.is_infallible p.1) _ _ _ c.pair_at.ensures all).0)
 
 pub returns-in_err-value-clause-succeeds : goal.returns-in_err-value-clause-succeeds
-returns-in_err-value-clause-succeeds g c =
-    λ all. absurd (c.in_err-value.ensures.cases (cloning_next _ c.loop-key.invariant c.in-Some.ensures.steps (λ p. g.K.Clone.is_infallible p.0 × g.V.Clone.is_infallible p.1) all).1)
+returns-in_err-value-clause-succeeds g c = λ all. absurd (c.in_err-value.ensures.cases (all_at (λ p. g.K.Clone.is_infallible p.0 × g.V.Clone.is_infallible p.1) _ _ _ c.pair_at.ensures all).1)
