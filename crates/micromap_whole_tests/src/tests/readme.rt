@@ -80,7 +80,7 @@ fn values_are_written_at_stored_keys(rt: HostRuntime) {
 fn a_union_is_built(rt: HostRuntime) -> Result<(), Overfull> {
     let first = Set::from([1, 2]);
     let second = Set::from([2, 3]);
-    assert!(rt; first.union(&second).eq([&2, &3, &1]));
+    assert!(rt; first.union(&second).copied().eq([2, 3, 1]));
     let both: Set<i32, 4> = Set::try_from_iter(first.union(&second).copied())?;
     assert_eq!(rt; both.len(), 3);
     Ok(())

@@ -95,7 +95,7 @@ impl<T: Eq, const N: usize> Set<T, N> {
     /// ```
     /// let first = Set::from([1, 2]);
     /// let second = Set::from([2, 3]);
-    /// assert!(rt; first.union(&second).eq([&2, &3, &1]));
+    /// assert!(rt; first.union(&second).copied().eq([2, 3, 1]));
     /// ```
     #[tactic(auto, unfolding(crate::specs::Operations::union, crate::specs::Operations::union_left))]
     pub fn union<'a, const M: usize>(&'a self, other: &'a Set<T, M>) -> Union<'a, T, M>
