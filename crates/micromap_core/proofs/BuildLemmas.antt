@@ -1,5 +1,5 @@
 -- Items that are put one after the other: one more, and all of them. A content that is built has one key for each
--- distinct key of its items, so they all fit where there are few of those.
+-- distinct key of its items, so they all fit where there are few of those. All of it is about any container (`IsKeyed`).
 use Rattle.std.proofs.Common.{◌≡◌, ℕ, zero, suc, ◌+◌, ◌<◌, ◌≤◌, nat_lt, Bool, true, false, ◌&&◌, ◌||◌, not, List, [], ◌∷◌, ◌++◌, length, get_or, take, Option, Some, None, is_some, if◌then◌else◌, IsTrue, refl, ap, sym, subst, ◌∙◌, arith, nat_le, ◌⊎◌, inl, inr, map}
 use Rattle.std.specs.Cmp.{first_so, second_so, IsEquivalence}
 use Rattle.std.specs.Cmp.Derive.{both_true}

@@ -1,4 +1,4 @@
--- One step of writing to a sink and of reading from a source, and their ends.
+-- One step of writing to a sink and of reading from a source, and their ends, for a container over the map too.
 use Rattle.std.proofs.Common.{◌≡◌, ℕ, suc, Bool, true, false, not, List, [], ◌∷◌, ◌++◌, length, take, Option, Result, Ok, Err, if◌then◌else◌, IsTrue, refl, ap, sym, subst, ◌∙◌, append_assoc, arith}
 use Rattle.std.specs.Cmp.{IsEquivalence}
 use Rattle.std.specs.List.{fold, IsDistinct}
