@@ -1,5 +1,4 @@
--- A map with texts as keys, and a set of texts, seen by their bytes: a caller who makes a `String` knows these alone. For
--- callers' contracts; the library's own cite no word of it.
+-- Texts by their bytes, for contracts of callers alone: of a `String` that one makes, no more is known.
 use Rattle.std.specs.Prelude.{ℕ, List, String, map, string_bytes}
 
 -- the pairs with each key as its bytes, and each value as `read` sees it
