@@ -1,16 +1,16 @@
--- Entries whose values are `()`: a set has the keys of the map that is made of them. For callers: `items_read`, and the two
--- lemmas before it.
-use Rattle.std.proofs.Common.{◌≡◌, ℕ, Bool, List, [], ◌∷◌, Option, Result, Ok, refl, ap, sym, ◌∙◌, arith}
+-- Entries whose values are `()`: a set has the keys of the map that is made of them. For callers:
+-- `items_read`.
+use Rattle.std.proofs.Common.{◌≡◌, ℕ, Bool, List, [], ◌∷◌, Option, Result, Ok, refl, ap, sym, ◌∙◌}
 use Rattle.std.specs.Map.{keys_of}
 use Rattle.std.specs.Result.{result_map_both}
 use Rattle.std.proofs.lemmas.Map.Entries.{length-keys_of}
-use Rattle.micromap_core.specs.Build.{each_fits, pair_fits, put_all, put_pair}
+use Rattle.micromap_core.specs.Build.{put_all, put_pair}
 use Rattle.micromap_core.specs.Pairs.{IsContent}
 use Rattle.micromap_core.specs.Stream.{ReadsWhole}
 use Rattle.micromap.specs.Extend.{put_all_items, distinct}
 use Rattle.micromap.specs.ItemEntries.{entries_of}
-use Rattle.micromap.specs.Items.{IsItems, put_item, item_fits}
-use Rattle.micromap.proofs.ItemLemmas.{put_item-keys, fits-keys}
+use Rattle.micromap.specs.Items.{IsItems}
+use Rattle.micromap.proofs.ItemLemmas.{put_item-keys}
 
 module _ {T : Type 0} where
   pub entries_of-keys : (pairs : List (T × Unit {0})) → entries_of (keys_of pairs) ≡ pairs
@@ -22,14 +22,10 @@ module _ {T : Type 0} where
   keys_of-entries (x ∷ items) = ap (λ l. x ∷ l) (keys_of-entries items)
 
   module _ (eq : T → T → Bool) where
-    -- what is put of the entries is what is added of their items, and as many of them fit
+    -- what is put of the entries is what is added of their items
     pub keys_of-put_all : (pairs entries : List (T × Unit {0})) → keys_of (put_all eq pairs entries) ≡ put_all_items eq (keys_of pairs) (keys_of entries)
     keys_of-put_all pairs [] = refl
     keys_of-put_all pairs (p ∷ entries) = keys_of-put_all (put_pair eq pairs p) entries ∙ ap (λ items. put_all_items eq items (keys_of entries)) (sym (put_item-keys eq p.0 p.1 pairs))
-
-    pub each_fits-keys : (N : ℕ) (pairs entries : List (T × Unit {0})) → each_fits (pair_fits eq N) (put_pair eq) pairs entries ≡ each_fits (item_fits eq N) (put_item eq) (keys_of pairs) (keys_of entries)
-    each_fits-keys N pairs [] = refl
-    each_fits-keys N pairs (p ∷ entries) = grind (arith, fits-keys eq N pairs p.0, put_item-keys eq p.0 p.1 pairs, each_fits-keys N (put_pair eq pairs p) entries)
 
   -- the items of a set that is read to the end
   pub items_read : {S E : Type 0} {eq : T → T → Bool} {N : ℕ} {left : S → List (T × Unit {0})} {faults : S → ℕ} {last_fault : S → Option E} {old new : S} (items : List T) → ReadsWhole eq N left faults last_fault old new (entries_of items) → items ≡ distinct eq (keys_of (left old))

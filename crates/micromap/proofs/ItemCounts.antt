@@ -38,27 +38,24 @@ module _ {T : Type 0} (eq : T → T → Bool) where
       grind (arith, new, more, grown)
 
   -- a set that is built of a list has its distinct items
-  pub length_distinct : (xs : List T) → Lawful eq → length (distinct eq xs) ≡ distinct_count eq xs
+  length_distinct : (xs : List T) → Lawful eq → length (distinct eq xs) ≡ distinct_count eq xs
   length_distinct xs laws = length-built (of_lawful eq laws) (items_keyed eq 0) xs
 
-  pub is_member_distinct : (xs : List T) (x : T) → Lawful eq → is_member eq (distinct eq xs) x ≡ list_any (eq x) xs
+  is_member_distinct : (xs : List T) (x : T) → Lawful eq → is_member eq (distinct eq xs) x ≡ list_any (eq x) xs
   is_member_distinct xs x laws = (keys-built (of_lawful eq laws) (items_keyed eq 0) xs).1 x ∙ ap (list_any (eq x)) (map-id xs)
 
-  pub unique_distinct : (xs : List T) → Lawful eq → IsDistinct eq (distinct eq xs)
-  unique_distinct xs laws = (keys-built (of_lawful eq laws) (items_keyed eq 0) xs).0
-
-  pub distinct_take : (xs : List T) (i : ℕ) (d : T) → i < length xs → distinct eq (take (i + 1) xs) ≡ put_item eq (distinct eq (take i xs)) (get_or xs i d)
+  distinct_take : (xs : List T) (i : ℕ) (d : T) → i < length xs → distinct eq (take (i + 1) xs) ≡ put_item eq (distinct eq (take i xs)) (get_or xs i d)
   distinct_take xs i d within = ap (distinct eq) (take_more xs i d within) ∙ fold_push (put_item eq) [] (take i xs) (get_or xs i d)
 
   -- an item that isn't there yet is one more than there are
-  pub distinct_beyond : (xs : List T) (i : ℕ) (d : T) → i < length xs → Lawful eq → is_member eq (distinct eq (take i xs)) (get_or xs i d) ≡ false → length (distinct eq (take i xs)) < distinct_count eq xs
+  distinct_beyond : (xs : List T) (i : ℕ) (d : T) → i < length xs → Lawful eq → is_member eq (distinct eq (take i xs)) (get_or xs i d) ≡ false → length (distinct eq (take i xs)) < distinct_count eq xs
   distinct_beyond xs i d within laws new =
       let built = length_distinct (take (i + 1) xs) laws in
       let longer = ap length (distinct_take xs i d within) ∙ length_put_item eq (distinct eq (take i xs)) (get_or xs i d) ∙ ap (λ b. if b then length (distinct eq (take i xs)) else length (distinct eq (take i xs)) + 1) new in
       omega (arith, built, longer, distinct_prefix eq xs (i + 1) laws)
 
   -- items one of which doesn't fit a new set of capacity N have more than N distinct ones
-  pub misfit_many_items : (N : ℕ) (xs : List T) (at : ℕ) → Lawful eq → ItemMisfitIn eq N [] xs at → N < distinct_count eq xs
+  misfit_many_items : (N : ℕ) (xs : List T) (at : ℕ) → Lawful eq → ItemMisfitIn eq N [] xs at → N < distinct_count eq xs
   misfit_many_items N xs at laws misfit =
       let many : N < distinct_count eq (take (at + 1) xs) = many_prefix (of_lawful eq laws) (items_keyed eq N) (take (at + 1) xs) misfit.1 in
       omega (arith, many, distinct_prefix eq xs (at + 1) laws)

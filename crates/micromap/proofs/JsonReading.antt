@@ -56,7 +56,7 @@ module _ {B Y : Type 0} {put : List B → B → List B} {N : ℕ} {all rest : Op
     more = fold_push put [] has.parts (part y)
 
     -- one more, which wider has as well, is put or doesn't fit
-    pub read_one : {new wider : List B} (fit : Bool) → wider ≡ put now (part y) → (fit ≡ true → new ≡ wider) → (fit ≡ false → N < length wider) → HasRead put N all later new (all_fit && fit)
+    read_one : {new wider : List B} (fit : Bool) → wider ≡ put now (part y) → (fit ≡ true → new ≡ wider) → (fit ≡ false → N < length wider) → HasRead put N all later new (all_fit && fit)
     read_one fit made fits misfits = record {
       parts = has.parts ++ part y ∷ [];
       split = rw (has.split, first, is) (joined later);

@@ -7,7 +7,6 @@ pub mod ItemLemmas
 pub mod JsonPairs
 pub mod JsonReading
 pub mod JsonWriting
-pub mod OperationExamples
 pub mod OperationLaws
 pub mod OperationSteps
 pub mod RetainItems
@@ -15,6 +14,7 @@ pub mod SetLaws
 pub mod SetTextViews
 pub use Rattle.micromap_core.proofs.ClosureLemmas
 pub use Rattle.micromap_core.proofs.CountLaws
+pub use Rattle.micromap_core.proofs.DistinctLemmas
 pub use Rattle.micromap_core.proofs.FairLemmas
 pub use Rattle.micromap_core.proofs.Equalities
 pub use Rattle.micromap_core.proofs.Laws

@@ -120,14 +120,8 @@ module _ {T : Type 0} (eq : T → T → Bool) (items : List T) (x y : T) where
   pub is_member_take_item : Lawful eq → IsDistinct eq items → is_member eq (take_item eq items x) y ≡ (not (eq x y) && is_member eq items y)
   is_member_take_item laws distinct = any_take_item eq (eq y) items x (probes_key eq y laws) distinct ∙ ap (λ b. not b && is_member eq items y) ((of_lawful eq laws).symm y x)
 
-  pub find_item_put_item : Lawful eq → find_item eq (put_item eq items x) y ≡ (if eq x y then Some (unwrap_or (find_item eq items x) x) else find_item eq items y)
-  find_item_put_item laws = find_put_item eq (eq y) items x (probes_key eq y laws) ∙ ap (λ b. if b then Some (unwrap_or (find_item eq items x) x) else find_item eq items y) ((of_lawful eq laws).symm y x)
-
   pub find_item_replace_item : Lawful eq → find_item eq (replace_item eq items x) y ≡ (if eq x y then Some x else find_item eq items y)
   find_item_replace_item laws = find_replace_item eq (eq y) items x (probes_key eq y laws) ∙ ap (λ b. if b then Some x else find_item eq items y) ((of_lawful eq laws).symm y x)
-
-  pub find_item_take_item : Lawful eq → IsDistinct eq items → find_item eq (take_item eq items x) y ≡ (if eq x y then None else find_item eq items y)
-  find_item_take_item laws distinct = find_take_item eq (eq y) items x (probes_key eq y laws) distinct ∙ ap (λ b. if b then None else find_item eq items y) ((of_lawful eq laws).symm y x)
 
 -- an item whose place another took takes it back
 module _ {T : Type 0} (eq : T → T → Bool) where

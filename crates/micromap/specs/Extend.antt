@@ -17,6 +17,6 @@ module _ {T : Type 0} (eq : T → T → Bool) where
   abbrev pub all_items_fit : ℕ → List T → Bool
   all_items_fit N = each_fits (item_fits eq N) (put_item eq) []
 
-  -- the first of the items that doesn't fit stands at the position
+  -- `MisfitIn` of a set: the first of the items that doesn't fit stands at the position
   abbrev pub ItemMisfitIn : ℕ → List T → List T → ℕ → Type 0
   ItemMisfitIn N = StopsAt (item_fits eq N) (put_item eq)

@@ -9,7 +9,7 @@ use Rattle.micromap_core.specs.Closures.{AtEachTurn}
 use Rattle.micromap_core.specs.Equalities.{Lawful}
 
 module _ {T : Type 0} (eq : T → T → Bool) where
-  -- what a set of capacity N may hold: no two items are equal
+  -- what a set of capacity N may hold
   pub record IsItems (N : ℕ) (items : List T) : Type 0 where
     pub unique : IsDistinct eq items
     pub bounded : length items ≤ N
@@ -27,7 +27,7 @@ module _ {T : Type 0} (eq : T → T → Bool) where
   unfoldable pub put_item : List T → T → List T
   put_item items x = if is_member eq items x then items else items ++ x ∷ []
 
-  -- the same where x fits
+  -- `put_item` of an item that fits, else no change
   abbrev pub put_item_if_fits : ℕ → List T → T → List T
   put_item_if_fits N items x = if item_fits N items x then put_item items x else items
 

@@ -1,5 +1,5 @@
 //! The set: a list of at most `N` items, stored as the keys of a map.
-ghost use Rattle.std.specs.Prelude.{◌≡◌, ◌==◌, [], length, Some, IsTrue};
+ghost use Rattle.std.specs.Prelude.{◌≡◌, ◌==◌, [], length};
 ghost use Rattle.std.specs.Option.{option_copied, option_map};
 ghost use Rattle.std.specs.Set.{is_member};
 ghost use Rattle.micromap.specs.Items.{IsItems, find_item, item_fits};

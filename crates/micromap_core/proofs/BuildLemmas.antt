@@ -48,7 +48,7 @@ module _ {C X : Type 0} (fits : C → X → Bool) (put : C → X → C) where
     pub made : now ≡ fold put old items
     pub position_is : position ≡ length items
 
-  pub each_fits-push : (old : C) (items : List X) (x : X) → each_fits fits put old (items ++ x ∷ []) ≡ (each_fits fits put old items && fits (fold put old items) x)
+  each_fits-push : (old : C) (items : List X) (x : X) → each_fits fits put old (items ++ x ∷ []) ≡ (each_fits fits put old items && fits (fold put old items) x)
   each_fits-push old [] x = and-true (fits old x)
   each_fits-push old (y ∷ items) x = ap (λ b. fits old y && b) (each_fits-push (put old y) items x) ∙ sym (and_assoc (fits old y) _ _)
 
@@ -80,7 +80,7 @@ module _ {C X : Type 0} (fits : C → X → Bool) (put : C → X → C) where
 
   -- the item of a list at an index
   module _ (old : C) (items : List X) (index : ℕ) (d : X) (now : C) (within : index < length items) (made : now ≡ fold put old (take index items)) where
-    pub fits_at : IsTrue (each_fits fits put old items) → fits now (get_or items index d) ≡ true
+    fits_at : IsTrue (each_fits fits put old items) → fits now (get_or items index d) ≡ true
     fits_at fit = ap (λ c. fits c (get_or items index d)) made ∙ fits_within old items index d within fit
 
     pub put_at : (new : C) → new ≡ put now (get_or items index d) → new ≡ fold put old (take (index + 1) items)
@@ -135,7 +135,7 @@ module _ {C X K : Type 0} {eq : K → K → Bool} (laws : IsEquivalence eq) {N :
   pub length-built : (items : List X) → length (keys (fold put empty items)) ≡ count items
   length-built items = let built = keys-built items in length-from_keys laws _ (map key items) built.0 built.1 ∙ sym (keyed.counts items)
 
-  pub all_fit-count : (items : List X) → each_fits fits put empty items ≡ nat_le (count items) N
+  all_fit-count : (items : List X) → each_fits fits put empty items ≡ nat_le (count items) N
   all_fit-count items =
       each_fits-count empty items (subst (IsDistinct eq) (sym keyed.none) (IsDistinct-nil eq)) (rw (keyed.none) (omega arith))
       ∙ ap (λ n. nat_le n N) (length-built items)

@@ -1,5 +1,6 @@
 -- For callers: how many distinct keys a list has with one more, that a map has one key for each distinct key that was put,
--- and what a counter has. The ruleset `count_laws` is for a counter.
+-- and what a counter has. The ruleset `count_laws` is for a counter, and for a map into which a loop
+-- puts a list.
 use Rattle.std.proofs.Common.{◌≡◌, ℕ, ◌+◌, ◌<◌, ◌≤◌, ◌||◌, Bool, true, false, List, [], ◌∷◌, ◌++◌, length, get_or, take, drop, unwrap_or, cond, if◌then◌else◌, refl, ap, sym, subst, ◌∙◌, append_assoc, arith}
 use Rattle.std.specs.List.{count_by, fold, list_any}
 use Rattle.std.specs.Map.{keys_of}
@@ -27,9 +28,6 @@ module _ {K : Type 0} (eq : K → K → Bool) where
       let more : is_member eq (ys ++ x ∷ []) y ≡ (is_member eq ys y || eq y x) = list_any-append (eq y) ys (x ∷ []) ∙ ap (λ b. is_member eq ys y || b) (or-false (eq y x)) in
       let alike : eq y x ≡ true → is_member eq ys y ≡ is_member eq ys x = λ same. ap (λ test. list_any test ys) (λ i k. e.congr y x k same i) in
       grind (arith, more, alike, e.symm x y, distinct_push ys x laws)
-
-  pub distinct_take : (xs : List K) (i : ℕ) (d : K) → i < length xs → Lawful eq → distinct_count eq (take (i + 1) xs) ≡ (if list_any (eq (get_or xs i d)) (take i xs) then distinct_count eq (take i xs) else distinct_count eq (take i xs) + 1)
-  distinct_take xs i d within laws = ap (distinct_count eq) (take_more xs i d within) ∙ distinct_push (take i xs) (get_or xs i d) laws
 
   -- a beginning of a list has at most as many distinct keys
   pub distinct_grows : (xs ys : List K) → Lawful eq → distinct_count eq xs ≤ distinct_count eq (xs ++ ys)
@@ -59,7 +57,7 @@ module _ {K V : Type 0} (eq : K → K → Bool) where
       omega (arith, length_put_all pairs (take i items) laws unique, length_put_all pairs items laws unique, distinct_grows eq (keys_of pairs ++ keys_of (take i items)) (keys_of (drop i items)) laws, ap (distinct_count eq) (append_assoc (keys_of pairs) (keys_of (take i items)) (keys_of (drop i items)) ∙ ap (λ l. keys_of pairs ++ l) all))
 
   -- an item that is put when it is new is one more
-  pub put_all_beyond : (pairs items : List (K × V)) (i : ℕ) (d : K × V) → i < length items → Lawful eq → IsUnique eq pairs → has eq (put_all eq pairs (take i items)) (get_or items i d).0 ≡ false → length (put_all eq pairs (take i items)) < length (put_all eq pairs items)
+  put_all_beyond : (pairs items : List (K × V)) (i : ℕ) (d : K × V) → i < length items → Lawful eq → IsUnique eq pairs → has eq (put_all eq pairs (take i items)) (get_or items i d).0 ≡ false → length (put_all eq pairs (take i items)) < length (put_all eq pairs items)
   put_all_beyond pairs items i d within laws unique new =
       let more = ap length (fold_more (put_pair eq) pairs items i d within) ∙ length_put eq (put_all eq pairs (take i items)) (get_or items i d).0 (get_or items i d).1 in
       let grown = put_all_grows pairs items (i + 1) laws unique in
@@ -79,12 +77,12 @@ module _ {K : Type 0} (eq : K → K → Bool) where
   unfolding counts
   counts_none = refl
 
-  pub counts_push : (items : List K) (x : K) → counts eq (items ++ x ∷ []) ≡ count_one eq (counts eq items) x
+  counts_push : (items : List K) (x : K) → counts eq (items ++ x ∷ []) ≡ count_one eq (counts eq items) x
   unfolding counts
   counts_push items x = fold_push (count_one eq) [] items x
 
   -- the count of q after one more of x
-  pub count_more : (pairs : List (K × ℕ)) (x q : K) → Lawful eq → unwrap_or (at eq (count_one eq pairs x) q) 0 ≡ unwrap_or (at eq pairs q) 0 + cond (eq q x) 1 0
+  count_more : (pairs : List (K × ℕ)) (x q : K) → Lawful eq → unwrap_or (at eq (count_one eq pairs x) q) 0 ≡ unwrap_or (at eq pairs q) 0 + cond (eq q x) 1 0
   count_more pairs x q laws =
       let alike : eq x q ≡ true → at eq pairs x ≡ at eq pairs q = at_alike eq x q pairs laws in
       grind (arith, at_put eq pairs x (unwrap_or (at eq pairs x) 0 + 1) q laws, alike, (of_lawful eq laws).symm x q)
@@ -97,7 +95,7 @@ module _ {K : Type 0} (eq : K → K → Bool) where
       let all = counts_all (put eq pairs x v) items laws (unique_put eq pairs x v laws unique) in
       (all.0, λ q. grind (arith, all.1 q, has_put eq pairs x v q laws, e.symm x q), λ q. grind (arith, common_steps, all.2 q, count_more pairs x q laws))
 
-  pub unique_counts : (items : List K) → Lawful eq → IsUnique eq (counts eq items)
+  unique_counts : (items : List K) → Lawful eq → IsUnique eq (counts eq items)
   unfolding counts
   unique_counts items laws = (counts_all [] items laws (unique_empty ℕ eq)).0
 
@@ -114,11 +112,11 @@ module _ {K : Type 0} (eq : K → K → Bool) where
   pub length_counts : (items : List K) → Lawful eq → length (counts eq items) ≡ distinct_count eq items
   length_counts items laws = length_keys eq (counts eq items) items laws (unique_counts items laws) (λ q. has_counts items q laws)
 
-  pub counts_take : (items : List K) (i : ℕ) (d : K) → i < length items → counts eq (take (i + 1) items) ≡ count_one eq (counts eq (take i items)) (get_or items i d)
+  counts_take : (items : List K) (i : ℕ) (d : K) → i < length items → counts eq (take (i + 1) items) ≡ count_one eq (counts eq (take i items)) (get_or items i d)
   counts_take items i d within = ap (counts eq) (take_more items i d within) ∙ counts_push (take i items) (get_or items i d)
 
   -- an item that isn't counted yet is one more than are counted
-  pub counts_beyond : (items : List K) (i : ℕ) (d : K) → i < length items → Lawful eq → has eq (counts eq (take i items)) (get_or items i d) ≡ false → length (counts eq (take i items)) < distinct_count eq items
+  counts_beyond : (items : List K) (i : ℕ) (d : K) → i < length items → Lawful eq → has eq (counts eq (take i items)) (get_or items i d) ≡ false → length (counts eq (take i items)) < distinct_count eq items
   counts_beyond items i d within laws new =
       let counted = length_counts (take (i + 1) items) laws in
       let longer = ap length (counts_take items i d within) ∙ length_put eq (counts eq (take i items)) (get_or items i d) _ in

@@ -31,7 +31,7 @@ pub IsDistinct-sublist : {T : Type 0} (eq : T → T → Bool) (part whole : List
 IsDistinct-sublist eq part whole order distinct = subst (IsDistinct eq) (sym order.1) (picked_distinct eq order.0 whole distinct)
 
 -- what passes a test is a part
-pub IsSublist-filter : {T : Type 0} (test : T → Bool) (xs : List T) → IsSublist (filter test xs) xs
+IsSublist-filter : {T : Type 0} (test : T → Bool) (xs : List T) → IsSublist (filter test xs) xs
 IsSublist-filter test [] = ([], refl)
 IsSublist-filter test (x ∷ xs) = let rest = IsSublist-filter test xs in (test x ∷ rest.0, grind (arith, rest.1))
 
@@ -96,7 +96,7 @@ module _ {T : Type 0} {eq : T → T → Bool} (laws : IsEquivalence eq) (xs ys :
   not_both_sides apart = grind (arith, apart, length-le_from_members laws xs ys first, length-le_from_members laws ys xs second)
 
 -- what holds of each element holds of the one behind the first ones
-pub at_seam : {T : Type 0} (P : T → Type 0) (ys : List T) (x : T) (xs : List T) → AllByRecursion P (ys ++ x ∷ xs) → P x
+at_seam : {T : Type 0} (P : T → Type 0) (ys : List T) (x : T) (xs : List T) → AllByRecursion P (ys ++ x ∷ xs) → P x
 at_seam P [] x xs all = all.0
 at_seam P (y ∷ ys) x xs all = at_seam P ys x xs all.1
 

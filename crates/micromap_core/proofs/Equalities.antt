@@ -36,7 +36,7 @@ module _ {K : Type 0} (eq : K → K → Bool) where
     of_probes p = p
 
   -- a key is a probe
-  pub is_probe : IsEquivalence eq → (k : K) → IsProbe eq (eq k)
+  is_probe : IsEquivalence eq → (k : K) → IsProbe eq (eq k)
   is_probe laws k = record { laws = laws; alike_keys = alike laws k; equal_keys = equal laws k }
 
   pub probes_key : (k : K) → Lawful eq → Probes eq (eq k)

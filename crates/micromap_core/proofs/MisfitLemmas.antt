@@ -41,7 +41,7 @@ module _ {C X S : Type 0} (fits : C → X → Bool) (put : C → X → C) (conte
 
 module _ {K V : Type 0} (eq : K → K → Bool) (N : ℕ) where
   -- items one of which doesn't fit have more than N distinct keys
-  pub misfit_many : (items : List (K × V)) (at : ℕ) → Lawful eq → MisfitIn eq N [] items at → N < distinct_count eq (keys_of items)
+  misfit_many : (items : List (K × V)) (at : ℕ) → Lawful eq → MisfitIn eq N [] items at → N < distinct_count eq (keys_of items)
   misfit_many items at laws misfit =
       let many : N < distinct_count eq (keys_of (take (at + 1) items)) = many_prefix (of_lawful eq laws) (pairs_keyed eq N) (take (at + 1) items) misfit.1 in
       let same : keys_of (take (at + 1) items) ≡ take (at + 1) (keys_of items) = sym (take-map (λ p. p.0) (at + 1) items) in

@@ -53,7 +53,7 @@ module _ {K V : Type 0} (eq : K → K → Bool) (k : K) (pairs : List (K × V)) 
     push-put_key v = rw n.value refl
 
 -- another value at the index of a pair leaves the keys
-pub keys_of-set : {K V : Type 0} (pairs : List (K × V)) (i : ℕ) (p : K × V) (v : V) → slice_get pairs i ≡ Some p → keys_of (set pairs i (p.0, v)) ≡ keys_of pairs
+keys_of-set : {K V : Type 0} (pairs : List (K × V)) (i : ℕ) (p : K × V) (v : V) → slice_get pairs i ≡ Some p → keys_of (set pairs i (p.0, v)) ≡ keys_of pairs
 keys_of-set {K} {V} pairs i p v here =
     let key : K × V → K = λ e. e.0 in
     let read = get_or-map key pairs i p p.0 (slice_get_within pairs i p here) ∙ ap key (get_or_from_slice_get pairs i p p here) in

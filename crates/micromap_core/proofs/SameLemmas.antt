@@ -113,7 +113,7 @@ module _ {K V : Type 0} (eq : K → K → Bool) (same : V → V → Bool) (keys 
   stored_at (e ∷ es) all k = grind (arith, stored_at es, all, at_alike eq k e.0 first (lawful eq keys))
 
   -- they are alike where the second has an equal value at each key of the first, and the first each key of the second
-  pub alike_within : list_all (has_value eq same second) first ≡ true → list_all (has eq first) (keys_of second) ≡ true → FindAlike eq same first second
+  alike_within : list_all (has_value eq same second) first ≡ true → list_all (has eq first) (keys_of second) ≡ true → FindAlike eq same first second
   alike_within equal stored = record { each = λ k. grind (arith, equal_at first equal k, stored_at second stored k, (options_equiv values).symm (at eq first k) (at eq second k)) }
 
   -- what the second lacks, or has with an unequal value, is nothing where each pair has an equal one there

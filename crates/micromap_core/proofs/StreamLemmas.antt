@@ -1,4 +1,4 @@
--- One step of writing to a sink and of reading from a source, and their ends, for a container over the map too.
+-- One step of writing to a sink and of reading from a source, and their ends.
 use Rattle.std.proofs.Common.{◌≡◌, ℕ, suc, Bool, true, false, not, List, [], ◌∷◌, ◌++◌, length, take, Option, Result, Ok, Err, if◌then◌else◌, IsTrue, refl, ap, sym, subst, ◌∙◌, append_assoc, arith}
 use Rattle.std.specs.Cmp.{IsEquivalence}
 use Rattle.std.specs.List.{fold, IsDistinct}
@@ -20,7 +20,7 @@ module _ {S E : Type 0} {faults : S → ℕ} {last_fault : S → Option E} {old 
   pub still_faultless : Faultless faults last_fault now new → Faultless faults last_fault old new
   still_faultless step = record { count = step.count ∙ so_far.count; last = step.last ∙ so_far.last }
 
-  pub first_fault : {e : E} → Faults faults last_fault now new e → Faults faults last_fault old new e
+  first_fault : {e : E} → Faults faults last_fault now new e → Faults faults last_fault old new e
   first_fault step = record { count = step.count ∙ ap suc so_far.count; last = step.last }
 
 -- of the entries these are left, and those before them were appended to old

@@ -3,7 +3,7 @@ use Rattle.std.specs.Prelude.{◌≡◌, Bool, true}
 use Rattle.std.specs.Cmp.{IsEquivalence}
 
 module _ {K : Type 0} where
-  -- the test passes equal keys alike, and keys that pass are equal
+  -- eq is an equivalence, the test passes equal keys alike, and keys that pass are equal
   pub record IsProbe (eq : K → K → Bool) (test : K → Bool) : Type 0 where
     pub laws : IsEquivalence eq
     pub alike_keys : (x y : K) → eq x y ≡ true → test x ≡ test y

@@ -38,7 +38,7 @@ module _ {K V : Type 0} where
     abbrev pub at : List (K × V) → K → Option V
     at pairs k = lookup (eq k) pairs
 
-    -- that pair
+    -- the pair whose key equals k
     abbrev pub pair : List (K × V) → K → Option (K × V)
     pair pairs k = lookup_entry (eq k) pairs
 
@@ -58,7 +58,7 @@ module _ {K V : Type 0} where
     unfoldable pub put : List (K × V) → K → V → List (K × V)
     put pairs k v = if has pairs k then set_value (eq k) pairs v else pairs ++ (k, v) ∷ []
 
-    -- `put` at a key that fits
+    -- `put` at a key that fits, else no change
     abbrev pub put_if_fits : ℕ → List (K × V) → K → V → List (K × V)
     put_if_fits N pairs k v = if fits N pairs k then put pairs k v else pairs
 

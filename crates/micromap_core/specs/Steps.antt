@@ -5,7 +5,7 @@ use Rattle.micromap_core.specs.Pairs.{index_of}
 use Rattle.micromap_core.specs.Same.{has_value}
 
 module _ {K V : Type 0} (eq : K → K → Bool) where
-  -- of a look-up: the index of the key plus one, or the length where the key is missing
+  -- the steps of a look-up: the index of the key plus one, or the length where the key is missing
   abbrev pub look_up_steps : List (K × V) → K → ℕ
   look_up_steps pairs k = option_map_or suc (index_of eq pairs k) (length pairs)
 
@@ -15,6 +15,6 @@ module _ {K V : Type 0} (eq : K → K → Bool) where
     walk_steps [] = 0
     walk_steps (p ∷ ps) = look_up_steps other p.0 + (if has_value eq same other p then walk_steps ps else 0)
 
-  -- of a comparison of two lists: nothing where their lengths differ
+  -- the steps of a comparison of two lists: none where their lengths differ
   abbrev pub comparison_steps : (V → V → Bool) → List (K × V) → List (K × V) → ℕ
   comparison_steps same this other = if nat_eq (length this) (length other) then walk_steps same other this else 0

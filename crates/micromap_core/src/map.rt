@@ -1,5 +1,5 @@
 //! The map: a list of at most `N` pairs, stored in the value itself.
-ghost use Rattle.std.specs.Prelude.{◌≡◌, ◌==◌, ◌≤◌, [], length};
+ghost use Rattle.std.specs.Prelude.{◌≡◌, ◌==◌, [], length};
 ghost use Rattle.micromap_core.specs.Pairs.{IsContent};
 
 pub(crate) mod build;

@@ -1,4 +1,4 @@
-//! The iterators over the pairs of a map of fixed capacity, by reference or by value, from the front.
+//! The filled slots in which a map of fixed capacity keeps its pairs, and the iterators over them, from the front.
 //!
 //! A contract sees an iterator as the list of the items left. `next` returns the first of them, and `None` ever after
 //! the last.

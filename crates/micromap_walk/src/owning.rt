@@ -15,9 +15,6 @@ use std::marker::Model;
 use std::mem;
 
 /// An iterator over the pairs of a map by value, from the front. Pairs that aren't taken are dropped with it.
-///
-/// Every iterator by value is made of this one. Both columns have one index. With an index for each, the iterator would
-/// be two words larger than the map, and a caller that is generic over `N` couldn't show that it fits in memory.
 #[derive(Drop)]
 pub struct IntoIter<K, V, const N: usize> {
     keys: ArrayVec<Option<K>, N>,

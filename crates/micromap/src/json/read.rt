@@ -8,7 +8,7 @@ ghost use Rattle.serde_json.specs.Read.{read as value_of};
 ghost use Rattle.serde_json.specs.View.{view, items_view, members_view};
 ghost use Rattle.micromap.specs.Json.{pairs_for, pairs_in, texts_for, texts_in, whole_number, in_bytes, texts_of, Pairs, HasPairs, IsFault};
 ghost use Rattle.micromap.specs.Items.{IsItems};
-ghost use Rattle.micromap.specs.Pairs.{IsContent, fits, put, put_if_fits};
+ghost use Rattle.micromap.specs.Pairs.{IsContent, fits, put_if_fits};
 ghost use Rattle.micromap.specs.Same.{Same};
 ghost use Rattle.micromap.specs.declared.json.JsonFault.TheVariants.{BadText, Memory};
 

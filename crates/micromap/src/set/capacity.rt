@@ -8,7 +8,7 @@ impl<T: Eq + Drop, const N: usize> Set<T, N> {
     /// Returns this set with the capacity `M`, and the same list of items.
     ///
     /// The result is `Err` exactly if there are more than `M` items. The error is this set, unchanged. Moves each item
-    /// once, compares none, and does not allocate.
+    /// once, and compares none.
     pub fn into_capacity<const M: usize>(self) -> Result<Set<T, M>, Self>
         ensures refuses { IsErr result ↔ (M < length self) }
         ensures items { IfOk result (λ set. set ≡ self) }

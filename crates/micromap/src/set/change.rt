@@ -100,7 +100,7 @@ impl<T: Eq + Drop, const N: usize> Set<T, N> {
 
     /// Removes the first item, and returns it, or `None` if the set is empty.
     ///
-    /// The others keep their order: each moves up by one. Compares no items.
+    /// The others keep their order: each moves up by one. Compares no item.
     #[inline]
     pub fn pop_first(&mut self) -> Option<T>
         ensures answer { result ≡ slice_get self.old 0 }

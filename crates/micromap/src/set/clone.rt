@@ -12,7 +12,7 @@ impl<T: Eq + Clone + Drop, const N: usize> Set<T, N> {
     /// Returns a set of the clones of all items, in the same order.
     ///
     /// Requires that an item's clone is equal to the item. The result is `Err` only if the clone of an item is; then
-    /// the clones made so far are dropped. This set is unchanged in any case. The call allocates no memory of its own.
+    /// the clones made so far are dropped. This set is unchanged in any case. Compares no item.
     pub fn clone(&self) -> Result<Self, AllocError>
         requires { ClonesAreEqual T.eq T.is_clone }
         ensures clones { IfOk result (AllZip T.is_clone self.now) }

@@ -1,5 +1,4 @@
-//! Inserting the items of an iterator, one after the other, as `insert` does. Each distinct item is stored as it first
-//! came, in that order.
+//! Building of an array or an iterator, and extending by one. Each distinct item is stored as it first came, in that order.
 ghost use Rattle.std.specs.Prelude.{◌≡◌, ◌≤◌, [], length, IfOk, OnOk, IfErr, OnErr, IsTrue};
 ghost use Rattle.std.specs.Iterator.{UpTo};
 ghost use Rattle.micromap.specs.Build.{IsOfAll, IsOfFirst, ItemsUpTo, most_items};
@@ -19,7 +18,8 @@ impl<T: Eq + Drop, const N: usize> Set<T, N> {
         self.map.checked_insert(item, ()).is_some()
     }
 
-    /// Inserts the items of an iterator, or returns the position of the first item that doesn't fit, counted from 0.
+    /// Inserts the items of an iterator one after the other, as `insert` does, or returns the position of the first that
+    /// doesn't fit, counted from 0.
     ///
     /// Requires that the iterator ends, after fewer than `usize::MAX` items. After an `Err`, the set is full, and has all
     /// items before that position. The item at it is dropped, and no later item is taken. Makes one scan for each item.
@@ -50,8 +50,8 @@ impl<T: Eq + Drop, const N: usize> Set<T, N> {
         Ok(())
     }
 
-    /// Creates a set of an iterator's items, or returns the position of the first item that doesn't fit, counted from
-    /// 0.
+    /// Creates a set of an iterator's items, inserted one after the other as `insert` does, or returns the position of
+    /// the first that doesn't fit, counted from 0.
     ///
     /// Requires that the iterator ends, after fewer than `usize::MAX` items. The result is `Err` exactly if more than
     /// `N` of the items are distinct. Then at least `N` items came before the one that didn't fit, and these and those left

@@ -48,7 +48,7 @@ impl<'a, K: Eq, V, const N: usize> EntryIn<'a, K, Map<K, V, N>> {
         }
     }
 
-    /// Returns `true` if the entry is occupied or the map has room. Compares no key.
+    /// Returns `true` if the entry is occupied or the map has room.
     pub fn has_room(&self) -> bool
         ensures { result ≡ entry_has_room N self.now }
     {
@@ -58,7 +58,7 @@ impl<'a, K: Eq, V, const N: usize> EntryIn<'a, K, Map<K, V, N>> {
         }
     }
 
-    /// Calls `f` on the value of an occupied entry, and returns the entry. Compares no key.
+    /// Calls `f` on the value of an occupied entry, and returns the entry.
     pub fn and_modify<F: FnOnce(&mut V)>(self, f: F) -> Self
         requires sound { IsSound K.eq self }
         requires callable { (p : MutBor V) → entry_value self ≡ Some p.now → F.pre f p }
@@ -85,8 +85,7 @@ impl<'a, K: Eq, V, const N: usize> EntryIn<'a, K, Map<K, V, N>> {
 impl<'a, K: Eq + Drop, V: Drop, const N: usize> EntryIn<'a, K, Map<K, V, N>> {
     /// Inserts `default` if the entry is vacant, and returns a mutable reference to the value.
     ///
-    /// Requires that the entry is occupied or the map has room, which `has_room` tests. A new pair goes last. Compares
-    /// no key.
+    /// Requires that the entry is occupied or the map has room, which `has_room` tests. A new pair goes last.
     pub fn or_insert(self, default: V) -> &'a mut V
         requires sound { IsSound K.eq self }
         requires room { IsTrue (entry_has_room N self) }
@@ -99,7 +98,7 @@ impl<'a, K: Eq + Drop, V: Drop, const N: usize> EntryIn<'a, K, Map<K, V, N>> {
     /// Inserts the result of `default` if the entry is vacant, and returns a mutable reference to the value.
     ///
     /// Requires that the entry is occupied or the map has room, which `has_room` tests. `default` is called only for a
-    /// vacant entry. A new pair goes last. Compares no key.
+    /// vacant entry. A new pair goes last.
     pub fn or_insert_with<F: FnOnce() -> V>(self, default: F) -> &'a mut V
         requires sound { IsSound K.eq self }
         requires room { IsTrue (entry_has_room N self) }
@@ -114,7 +113,7 @@ impl<'a, K: Eq + Drop, V: Drop, const N: usize> EntryIn<'a, K, Map<K, V, N>> {
     /// value.
     ///
     /// Requires that the entry is occupied or the map has room, which `has_room` tests. `default` is called only for a
-    /// vacant entry. A new pair goes last. Compares no key.
+    /// vacant entry. A new pair goes last.
     pub fn or_insert_with_key<F: FnOnce(&K) -> V>(self, default: F) -> &'a mut V
         requires sound { IsSound K.eq self }
         requires room { IsTrue (entry_has_room N self) }
@@ -135,8 +134,7 @@ impl<'a, K: Eq + Drop, V: Drop, const N: usize> EntryIn<'a, K, Map<K, V, N>> {
 
     /// Inserts a default value if the entry is vacant, and returns a mutable reference to the value.
     ///
-    /// Requires that the entry is occupied or the map has room, which `has_room` tests. A new pair goes last. Compares
-    /// no key.
+    /// Requires that the entry is occupied or the map has room, which `has_room` tests. A new pair goes last.
     pub fn or_default(self) -> &'a mut V
     where
         V: Default,
@@ -151,7 +149,7 @@ impl<'a, K: Eq + Drop, V: Drop, const N: usize> EntryIn<'a, K, Map<K, V, N>> {
     /// Sets the value, and returns the occupied entry.
     ///
     /// Requires that the entry is occupied or the map has room, which `has_room` tests. A stored key stays. Else the
-    /// held key and the value go last. Compares no key.
+    /// held key and the value go last.
     pub fn insert_entry(self, value: V) -> OccupiedEntry<'a, K, V, N>
         requires sound { IsSound K.eq self }
         requires room { IsTrue (entry_has_room N self) }

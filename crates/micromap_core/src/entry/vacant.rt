@@ -23,7 +23,7 @@ impl<'a, K: Eq, V, const N: usize> VacantIn<'a, K, Map<K, V, N>> {
         key
     }
 
-    /// Returns `true` if the map has room. Compares no key.
+    /// Returns `true` if the map has room.
     pub fn has_room(&self) -> bool
         ensures { result ≡ entry_has_room N (Vacant self.now) }
     {
@@ -34,7 +34,7 @@ impl<'a, K: Eq, V, const N: usize> VacantIn<'a, K, Map<K, V, N>> {
 impl<'a, K: Eq + Drop, V: Drop, const N: usize> VacantIn<'a, K, Map<K, V, N>> {
     /// Inserts the held key with `value`, and returns a mutable reference to the value.
     ///
-    /// Requires room, which `has_room` tests. The pair goes last. Compares no key.
+    /// Requires room, which `has_room` tests. The pair goes last.
     pub fn insert(self, value: V) -> &'a mut V
         requires sound { IsSound K.eq (Vacant self) }
         requires room { IsTrue (entry_has_room N (Vacant self)) }
@@ -49,7 +49,7 @@ impl<'a, K: Eq + Drop, V: Drop, const N: usize> VacantIn<'a, K, Map<K, V, N>> {
 
     /// Inserts the held key with `value`, and returns its occupied entry.
     ///
-    /// Requires room, which `has_room` tests. The pair goes last. Compares no key.
+    /// Requires room, which `has_room` tests. The pair goes last.
     pub fn insert_entry(self, value: V) -> OccupiedEntry<'a, K, V, N>
         requires sound { IsSound K.eq (Vacant self) }
         requires room { IsTrue (entry_has_room N (Vacant self)) }

@@ -1,5 +1,5 @@
-//! Inserting the items of an iterator, one after the other, as `insert` does. The keys are stored in the order in which
-//! each distinct key first came. Each has the value of its last item.
+//! Building of an array or an iterator, and extending by one. The keys are stored in the order in which each distinct key
+//! first came. Each has the value of its last item.
 ghost use Rattle.std.specs.Prelude.{◌≡◌, ◌≤◌, [], length, IsTrue, IfOk, OnOk, IfErr, OnErr};
 ghost use Rattle.std.specs.Iterator.{UpTo};
 ghost use Rattle.micromap_core.specs.Build.{all_fit, build, IsOfAll, IsOfFirst, ItemsUpTo, MisfitIn, most_items, put_all};
@@ -47,7 +47,8 @@ impl<K: Eq + Copy, V: Copy, const N: usize> From<[(K, V); N]> for Map<K, V, N> {
 }
 
 impl<K: Eq + Drop, V: Drop, const N: usize> Map<K, V, N> {
-    /// Inserts the items of an iterator, or returns the position of the first item that doesn't fit, counted from 0.
+    /// Inserts the items of an iterator one after the other, as `insert` does, or returns the position of the first that
+    /// doesn't fit, counted from 0.
     ///
     /// Requires that the iterator ends, after fewer than `usize::MAX` items. After an `Err`, the map is full, and has all
     /// items before that position. The item at it is dropped, and no later item is taken. Makes one scan for each item.
@@ -71,8 +72,8 @@ impl<K: Eq + Drop, V: Drop, const N: usize> Map<K, V, N> {
         Ok(())
     }
 
-    /// Creates a map of an iterator's items, or returns the position of the first item that doesn't fit, counted from
-    /// 0.
+    /// Creates a map of an iterator's items, inserted one after the other as `insert` does, or returns the position of
+    /// the first that doesn't fit, counted from 0.
     ///
     /// Requires that the iterator ends, after fewer than `usize::MAX` items. The result is `Err` exactly if the items
     /// have more than `N` distinct keys. Then at least `N` items came before the one that didn't fit, and these and those

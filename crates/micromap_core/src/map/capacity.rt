@@ -8,7 +8,7 @@ impl<K: Eq + Drop, V: Drop, const N: usize> Map<K, V, N> {
     /// Returns this map with the capacity `M`, and the same list of pairs.
     ///
     /// The result is `Err` exactly if there are more than `M` pairs. The error is this map, unchanged. Moves each pair
-    /// once, compares no key, and does not allocate.
+    /// once, and compares no key.
     pub fn into_capacity<const M: usize>(self) -> Result<Map<K, V, M>, Self>
         ensures refuses { IsErr result ↔ (M < length self) }
         ensures pairs { IfOk result (λ map. map ≡ self) }

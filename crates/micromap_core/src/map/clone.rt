@@ -13,8 +13,7 @@ impl<K: Eq + Clone + Drop, V: Clone + Drop, const N: usize> Map<K, V, N> {
     /// Returns a map of the clones of all pairs, in the same order.
     ///
     /// Requires that a key's clone is equal to the key. The result is `Err` only if the clone of a key or a value is;
-    /// then the clones made so far are dropped. This map is unchanged in any case. The call allocates no memory of its
-    /// own.
+    /// then the clones made so far are dropped. This map is unchanged in any case. Compares no key.
     pub fn clone(&self) -> Result<Self, AllocError>
         requires { ClonesAreEqual K.eq K.is_clone }
         ensures clones { IfOk result (AllZip (IsPairClone K.is_clone V.is_clone) self.now) }

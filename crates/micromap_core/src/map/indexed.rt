@@ -15,7 +15,7 @@ use std::mem;
 
 impl<K: Eq, V, const N: usize> Map<K, V, N> {
     // Returns the index of the first pair whose key the probe matches, and ensures what follows from it. This is the
-    // scan of every call by a key, and of every call that changes a map.
+    // scan of every call by a key but the counted ones, and of every call that changes a map.
     #[inline]
     pub(crate) fn index_of<P: Probe<K>>(&self, probe: &P) -> Option<usize>
         ensures answer { result ≡ first_index (P.matches probe.now) self.now }

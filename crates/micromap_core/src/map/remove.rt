@@ -32,7 +32,7 @@ impl<K: Eq + Drop, V: Drop, const N: usize> Map<K, V, N> {
 
     /// Removes the first pair, and returns it, or `None` if the map is empty.
     ///
-    /// The others keep their order: each moves up by one. Compares no keys.
+    /// The others keep their order: each moves up by one. Compares no key.
     #[inline]
     #[tactic(auto, unfolding(crate::specs::Pairs::without_at))]
     pub fn pop_first(&mut self) -> Option<(K, V)>

@@ -63,7 +63,7 @@ impl<K, V, const N: usize> Columns<K, V, N> {
         ensures filled { AreFilled result.now }
         ensures items { items_of result.now ≡ keys_of self.now }
     {
-        // So few bytes, as of 2 slots of `u64` or 8 of `u8`, that a scan is faster if it is unrolled.
+        // At most 40 bytes, as of 2 slots of `u64` or 16 of `u8`: a scan of so few is faster if it is unrolled.
         if mem::size_of_val(&self.keys) <= 40 {
             hint_at_most(self.keys.len(), N);
         }

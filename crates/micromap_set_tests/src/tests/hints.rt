@@ -52,6 +52,21 @@ fn hints_on_the_way(rt: HostRuntime) {
 }
 
 #[test]
+fn hints_of_sets_that_share_an_item(rt: HostRuntime) {
+    let a = Set::from([1, 2, 3]);
+    let b = Set::from([3, 4]);
+    assert!(rt; hints(a.difference(&b), &[1, 2], &[(1, 3), (0, 2), (0, 1)]));
+    assert!(rt; hints(a.intersection(&b), &[3], &[(0, 2), (0, 0)]));
+    assert!(rt;
+        hints(
+            a.union(&b),
+            &[3, 4, 1, 2],
+            &[(3, 5), (2, 4), (1, 3), (0, 2), (0, 1)]
+        )
+    );
+}
+
+#[test]
 fn clones_go_on_from_the_same_item(rt: HostRuntime) -> Result<(), AllocError> {
     let a = Set::from([1, 2, 3]);
     let b = Set::from([3, 4]);

@@ -1,12 +1,13 @@
 //! Callers of the laws about how many keys or items there are.
 ghost use Rattle.std.specs.Prelude.{◌≡◌, ◌↔◌, ◌<◌, length, nat_eq, IfErr, IsErr, IsNone};
+ghost use Rattle.std.specs.Map.{keys_of};
 ghost use Rattle.std.specs.Option.{IfSome};
 ghost use Rattle.std.specs.Set.{distinct_count};
 ghost use Rattle.std.specs.Vec.{vec_items};
 ghost use Rattle.micromap.specs.Extend.{distinct};
 ghost use Rattle.micromap.specs.Operations.{difference, intersection, symmetric_difference, union};
 
-use micromap::{Overfull, Set};
+use micromap::{Map, Overfull, Set};
 use std::alloc::AllocError;
 
 // The numbers of either set. They are refused exactly if the union has more than `L` members.
@@ -73,6 +74,13 @@ fn collected_items<const N: usize>(items: Vec<u8>) -> Result<Set<u8, N>, Overful
     Set::try_from_iter(items.into_iter())
 }
 
+// The pairs of a list that is taken by value, by one call.
+fn collected_pairs<const N: usize>(pairs: Vec<(u8, u8)>) -> Result<Map<u8, u8, N>, Overfull>
+    ensures { IfErr result (λ _. N < distinct_count nat_eq (keys_of (vec_items pairs))) }
+{
+    Map::try_from_iter(pairs.into_iter())
+}
+
 #[test]
 fn members_beyond_the_room_are_refused(rt: HostRuntime) {
     let first = Set::from([1, 2]);
@@ -94,5 +102,7 @@ fn distinct_items_beyond_the_room_are_refused(rt: HostRuntime) -> Result<(), All
     assert!(rt; distinct_items::<0>(&[]).is_some());
     let items = vec![in rt.alloc(); 5, 4, 5]?;
     assert!(rt; collected_items::<1>(items).is_err());
+    let pairs = vec![in rt.alloc(); (5, 1), (4, 2)]?;
+    assert!(rt; collected_pairs::<1>(pairs).is_err());
     Ok(())
 }

@@ -9,7 +9,7 @@ ghost use Rattle.std.specs.Set.{is_member};
 ghost use Rattle.micromap.specs.Build.{put_all};
 ghost use Rattle.micromap.specs.Extend.{put_all_items};
 ghost use Rattle.micromap.specs.Items.{put_item, item_fits};
-ghost use Rattle.micromap.specs.Memory.{IntoIterFits};
+ghost use Rattle.micromap.specs.Memory.{IntoIterFits, IntoKeysFits, IntoValuesFits};
 ghost use Rattle.micromap.specs.Pairs.{at, fits, has, put, take_out};
 ghost use Rattle.micromap.specs.Same.{has_value};
 ghost use Rattle.micromap.specs.SetMemory.{SetIntoIterFits};
@@ -51,6 +51,24 @@ fn first_drained<K: Eq + Drop, V: Drop, const N: usize>(map: &mut Map<K, V, N>) 
     ensures emptied { map.new ≡ [] }
 {
     let first = map.drain().next()?;
+    Some(first)
+}
+
+// Returns the first key, and drops the others.
+fn first_key<K: Eq + Drop, V: Drop, const N: usize>(map: Map<K, V, N>) -> Option<K>
+    requires { IntoKeysFits K.row V.row N.row }
+    ensures { IfSome result (λ k. slice_get (keys_of map) 0 ≡ Some k) }
+{
+    let first = map.into_keys().next()?;
+    Some(first)
+}
+
+// Returns the first value, and drops the others.
+fn first_value<K: Eq + Drop, V: Drop, const N: usize>(map: Map<K, V, N>) -> Option<V>
+    requires { IntoValuesFits K.row V.row N.row }
+    ensures { IfSome result (λ v. slice_get (values_of map) 0 ≡ Some v) }
+{
+    let first = map.into_values().next()?;
     Some(first)
 }
 
@@ -152,6 +170,14 @@ fn put_items<const N: usize>(map: &mut Map<u8, u8, N>, items: Vec<(u8, u8)>) -> 
 {
     let _content = map.len();
     map.try_extend(items.into_iter())
+}
+
+// Puts a vector's items into a set. They are refused only if they would be more than `N`.
+fn put_set_items<const N: usize>(set: &mut Set<u8, N>, items: Vec<u8>) -> Result<(), Overfull>
+    ensures { IfErr result (λ _. N < length (put_all_items nat_eq set.old (vec_items items))) }
+{
+    let _content = set.len();
+    set.try_extend(items.into_iter())
 }
 
 // Adds to a number, and so to the sum.

@@ -1,6 +1,8 @@
 //! Maps and sets written to sinks and read from sources, what stands after a fault of either, and a caller that is
 //! proved to read back what it wrote.
-ghost use Rattle.std.specs.Prelude.{◌≡◌, IfOk, Some, None, if◌then◌else◌, length, nat_le};
+ghost use Rattle.std.specs.Prelude.{◌≡◌, IfOk, IfSome, Some, None, if◌then◌else◌, length, nat_eq, nat_le};
+ghost use Rattle.std.specs.Map.{keys_of};
+ghost use Rattle.micromap.specs.Extend.{distinct};
 
 use micromap::stream::{EntrySink, EntrySource, ReadFault, SliceSource, VecSink};
 use micromap::{Map, Set};
@@ -128,6 +130,16 @@ fn in_capacity<const N: usize, const M: usize>(
     Ok(Map::read_entries(&mut SliceSource::over(sink.entries())).ok())
 }
 
+// The distinct items of the entries, or `None` where they don't fit.
+fn items_of<const N: usize>(entries: &[(u8, ())]) -> Option<Set<u8, N>>
+    ensures { IfSome result (λ set. set ≡ distinct nat_eq (keys_of entries.now)) }
+{
+    match Set::read_entries(&mut SliceSource::over(entries)) {
+        Ok(set) => Some(set),
+        Err(_) => None,
+    }
+}
+
 #[test]
 fn what_was_written_is_read_in_any_capacity_that_holds_it(
     rt: HostRuntime,
@@ -164,6 +176,9 @@ fn an_empty_source_fits_everywhere(rt: HostRuntime) {
     assert!(rt; Map::<u8, u8, 0>::read_entries(&mut source).is_ok_and(|map| map.is_empty()));
     let mut source: SliceSource<'_, u8, ()> = SliceSource::over(&[]);
     assert!(rt; Set::<u8, 0>::read_entries(&mut source).is_ok_and(|set| set.is_empty()));
+    assert!(rt;
+        items_of::<2>(&[(1, ()), (2, ()), (1, ())]).is_some_and(|set| set.iter().eq(&[1, 2]))
+    );
 }
 
 #[test]

@@ -13,8 +13,8 @@ impl<T: Eq + Clone + Drop, const N: usize> Set<T, N> {
     /// Returns a set of the clones of the items that have an equal one in `other`, in their order.
     ///
     /// Requires that an item's clone is equal to the item. The result is `Err` only if the clone of a member is; then
-    /// the clones made so far are dropped. The call allocates no memory of its own. It costs what `intersection` costs,
-    /// and for each member one scan of those before it.
+    /// the clones made so far are dropped. It costs what `intersection` costs, and for each member one scan of those before
+    /// it.
     pub fn bitand<const M: usize>(&self, other: &Set<T, M>) -> Result<Self, AllocError>
         requires { ClonesAreEqual T.eq T.is_clone }
         ensures clones { IfOk result (AllZip T.is_clone (intersection T.eq self.now other.now)) }
@@ -34,8 +34,7 @@ impl<T: Eq + Clone + Drop, const N: usize> Set<T, N> {
     /// Returns a set of the clones of the items that have no equal one in `other`, in their order.
     ///
     /// Requires that an item's clone is equal to the item. The result is `Err` only if the clone of a member is; then
-    /// the clones made so far are dropped. The call allocates no memory of its own. It costs what `difference` costs,
-    /// and for each member one scan of those before it.
+    /// the clones made so far are dropped. It costs what `difference` costs, and for each member one scan of those before it.
     pub fn sub<const M: usize>(&self, other: &Set<T, M>) -> Result<Self, AllocError>
         requires { ClonesAreEqual T.eq T.is_clone }
         ensures clones { IfOk result (AllZip T.is_clone (difference T.eq self.now other.now)) }

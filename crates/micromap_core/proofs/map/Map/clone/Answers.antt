@@ -1,6 +1,4 @@
-use Rattle.std.proofs.Common.{◌<◌, length, ap, sym, ◌∙◌, arith, All}
-use Rattle.std.specs.Prelude.{slice_get, Some}
-use Rattle.std.specs.List.{AllZip}
+use Rattle.std.proofs.Common.{ap, ◌∙◌, arith}
 use Rattle.std.proofs.lemmas.List.Elements.{same_from_all_zip}
 use Rattle.std.proofs.lemmas.List.{take_all}
 use Rattle.micromap_core.proofs.CloneLemmas.{all_at, clones_all, clones_more, length_clones, unique_clones}
