@@ -1,4 +1,4 @@
-//! Whether a value is printed as expected. Where a request for memory is refused it is not.
+//! Whether a value prints an expected text; `false` if a request for memory is refused.
 
 use std::alloc::Global;
 use std::fmt::{Debug, Display};
