@@ -50,7 +50,7 @@ pub fn lockstep<K: Eq + Copy, V: Eq + Copy, const N: usize, const M: usize>(
         → IsTrue result × Same K.eq V.eq first.new second.new }
 {
     // `len` ensures what is true of each map's content.
-    let _held = (first.len(), second.len());
+    let _contents = (first.len(), second.len());
     let mut agreed = true;
     for call in calls {
         let one = perform(first, call);
@@ -109,29 +109,5 @@ fn agrees<K: Eq, V: Eq>(one: &Answer<K, V>, other: &Answer<K, V>) -> bool
         (Answer::Done, Answer::Done) => true,
         (Answer::Refused, Answer::Refused) => true,
         _ => false,
-    }
-}
-
-#[cfg(test)]
-mod tests {
-    use super::{Call, lockstep};
-    use micromap::Map;
-
-    #[test]
-    fn empty_maps_answer_alike_at_any_capacity(rt: HostRuntime) {
-        let mut none: Map<u8, u8, 0> = Map::new();
-        let mut some: Map<u8, u8, 3> = Map::new();
-        let calls = [
-            Call::Get(1),
-            Call::GetKeyValue(1),
-            Call::Remove(1),
-            Call::RemoveEntry(1),
-            Call::Contains(1),
-            Call::Len,
-            Call::IsEmpty,
-            Call::Clear,
-        ];
-        assert!(rt; lockstep(&mut none, &mut some, &calls));
-        assert!(rt; none.eq_with(&some));
     }
 }

@@ -1,4 +1,5 @@
-//! Performs worked rows over the library, and writes for each whether it came out.
+//! Performs numbered examples of the library's calls, the rows, and writes for each whether it returned what was
+//! expected.
 #![tactic(auto)]
 
 ghost use Rattle.std.specs.Prelude.{◌≡◌, ◌≤◌};

@@ -1,4 +1,4 @@
-//! The worked rows, each a function that returns whether every value of its row came out.
+//! The rows, each a function that returns whether every call of its row returned what was expected.
 mod built;
 mod compared;
 mod counted;

@@ -1,12 +1,8 @@
-//! What no contract says: values from outside, that a run comes through, and that a failed write ends it.
-mod capacity;
-
-use super::rows::NUMBERS;
+//! What no contract says: the rows' values, and that a failed write ends a run.
 use super::{Call, lockstep, run_rows};
 use micromap::Map;
 use micromap_testing::Marked;
 use std::io::{self, Write};
-use std::test::Fail;
 
 // A writer that counts its calls, and refuses one of them.
 #[derive(Drop)]
@@ -28,18 +24,6 @@ impl Write for Refusing {
     fn flush(&mut self) -> io::Result<()> {
         Ok(())
     }
-}
-
-#[test]
-fn a_whole_run_writes_each_row(rt: HostRuntime) -> Result<(), Fail> {
-    let mut expected: Vec<u8> = Vec::new(rt.alloc());
-    for number in NUMBERS {
-        writeln!(expected, "row {number}: ok")?;
-    }
-    let mut out: Vec<u8> = Vec::new(rt.alloc());
-    assert_eq!(rt; run_rows(rt.alloc(), &mut out), 0);
-    assert_eq!(rt; out.as_slice(), expected.as_slice());
-    Ok(())
 }
 
 #[test]
@@ -143,4 +127,18 @@ fn room_alone_tells_empty_maps_apart(rt: HostRuntime) {
     assert!(rt; lockstep(&mut none, &mut some, &calls));
     assert!(rt; !lockstep(&mut none, &mut some, &[Call::Insert(1, 1)]));
     assert_eq!(rt; none.differs_at(&some), Some(&1));
+}
+
+#[test]
+fn maps_of_one_capacity_answer_alike(rt: HostRuntime) {
+    let mut second: Map<u8, u8, 2> = Map::new();
+    second.checked_insert(1, 10);
+    match Map::from([(1, 10)]).into_capacity::<2>() {
+        Ok(mut first) => {
+            assert!(rt; lockstep(&mut first, &mut second, &[Call::Insert(2, 20)]));
+            assert!(rt; first.drain().eq([(1, 10), (2, 20)]));
+            assert!(rt; second.drain().eq([(1, 10), (2, 20)]));
+        }
+        Err(_) => panic!(rt; "one pair fits"),
+    }
 }

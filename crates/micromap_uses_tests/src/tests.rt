@@ -1,4 +1,4 @@
-//! What no contract says, a module for each subject.
+//! A module for each subject.
 
 mod attributes;
 mod combined;

@@ -5,7 +5,7 @@ use micromap::{Map, Steps};
 pub(super) fn row_19() -> bool {
     let map = Map::from([(5, 50), (6, 60), (7, 70)]);
     // `len` ensures that the steps fit.
-    let _held = map.len();
+    let _content = map.len();
     let mut steps = Steps::new();
     let found = map.get_counted(&6, &mut steps) == Some(&60);
     let after_one = steps.count();
@@ -26,7 +26,7 @@ fn compared<const N: usize, const M: usize>(
     second: &Map<u8, u8, M>,
 ) -> (bool, u128) {
     // `len` ensures that the steps fit.
-    let _held = first.len();
+    let _content = first.len();
     let mut steps = Steps::new();
     let same = first.eq_with_counted(second, &mut steps);
     (same, steps.count())

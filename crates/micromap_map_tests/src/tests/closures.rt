@@ -3,8 +3,7 @@ ghost use Rattle.std.specs.Prelude.{◌≡◌, ◌==◌, ◌%◌, nat_eq, map};
 ghost use Rattle.std.specs.List.{filter};
 ghost use Rattle.std.specs.Map.{keys_of};
 ghost use Rattle.std.specs.Set.{distinct_count};
-ghost use Rattle.micromap.specs.Closures.{updated_disjoint};
-ghost use Rattle.micromap.specs.Closures.{IsSublist};
+ghost use Rattle.micromap.specs.Closures.{IsSublist, updated_disjoint};
 
 use micromap::Map;
 

@@ -4,7 +4,7 @@ ghost use Rattle.std.specs.Cmp.Rules.{comparing};
 ghost use Rattle.std.specs.Ordering.{on};
 ghost use Rattle.std.proofs.Common.{rules};
 
-use micromap::map::Entry;
+use super::entries::is_stored;
 use micromap::{Map, Set};
 use std::cell::Cell;
 
@@ -127,11 +127,6 @@ fn a_call_drops_what_it_does_not_keep(rt: HostRuntime) {
     assert_eq!(rt; drops.replace(0), 2);
     drop(map);
     assert_eq!(rt; drops.get(), 0);
-}
-
-// Whether an entry is occupied, which is dropped with its key.
-fn is_stored<K: Eq + Drop, V, const N: usize>(map: &mut Map<K, V, N>, key: K) -> bool {
-    matches!(map.entry(key), Entry::Occupied(_))
 }
 
 #[test]

@@ -52,7 +52,7 @@ fn overwrite_stored<K: Eq + Drop, const N: usize>(map: &mut Map<K, u8, N>, key: 
 }
 
 // Whether `key` is stored.
-fn is_stored<K: Eq + Drop, V, const N: usize>(map: &mut Map<K, V, N>, key: K) -> bool
+pub(super) fn is_stored<K: Eq + Drop, V, const N: usize>(map: &mut Map<K, V, N>, key: K) -> bool
     ensures answer { result ≡ has K.eq map.old key }
     ensures pairs { map.new ≡ map.old }
 {
@@ -193,14 +193,6 @@ fn room_decides_at_a_full_map(rt: HostRuntime) {
     assert_eq!(rt; map.get(&1), Some(&10));
     assert_eq!(rt; map.len(), 1);
     assert_eq!(rt; new_key(&mut Map::<u8, u8, 0>::new(), 1), Some((1, false)));
-}
-
-#[test]
-fn an_entry_fills_a_map_of_one_pair(rt: HostRuntime) {
-    let mut map: Map<u8, u8, 1> = Map::new();
-    assert_eq!(rt; get_or_insert(&mut map, 2, 20), 20);
-    assert!(rt; !map.entry(3).has_room());
-    assert!(rt; map.drain().eq([(2, 20)]));
 }
 
 #[test]

@@ -242,19 +242,6 @@ fn each_walk_over_a_set_gives_every_item_and_stays_at_its_end(rt: HostRuntime) {
 }
 
 #[test]
-fn a_cloned_walk_over_a_set_goes_on_from_the_same_position(
-    rt: HostRuntime,
-) -> Result<(), AllocError> {
-    let set: Set<u8, 3> = numbers(&[3, 1, 2]);
-    let mut items = set.iter();
-    assert_eq!(rt; items.next(), Some(&3));
-    assert_eq!(rt; items.len(), 2);
-    assert!(rt; gives(items.clone()?, &[&1, &2]));
-    assert!(rt; gives(items, &[&1, &2]));
-    Ok(())
-}
-
-#[test]
 fn a_loop_lends_each_item_or_gives_it_away(rt: HostRuntime) {
     let set: Set<u8, 3> = numbers(&[1, 2, 3]);
     let mut last = 0u8;

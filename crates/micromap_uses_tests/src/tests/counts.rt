@@ -5,22 +5,12 @@ ghost use Rattle.std.specs.Option.{IfSome};
 ghost use Rattle.std.specs.Set.{distinct_count};
 ghost use Rattle.std.specs.Vec.{vec_items};
 ghost use Rattle.micromap.specs.Extend.{distinct};
-ghost use Rattle.micromap.specs.Operations.{difference, intersection, symmetric_difference, union};
+ghost use Rattle.micromap.specs.Operations.{difference, intersection, symmetric_difference};
 
 use micromap::{Map, Overfull, Set};
 use std::alloc::AllocError;
 
-// The numbers of either set. They are refused exactly if the union has more than `L` members.
-fn share_items<const N: usize, const M: usize, const L: usize>(
-    first: &Set<u8, N>,
-    second: &Set<u8, M>,
-) -> Result<Set<u8, L>, Overfull>
-    ensures { IsErr result ↔ (L < length (union nat_eq first.now second.now)) }
-{
-    Set::try_from_iter(first.union(second).copied())
-}
-
-// The same of the numbers that are in both sets.
+// The numbers that are in both sets. They are refused exactly if there are more than `L`.
 fn common_items<const N: usize, const M: usize, const L: usize>(
     first: &Set<u8, N>,
     second: &Set<u8, M>,
@@ -85,8 +75,6 @@ fn collected_pairs<const N: usize>(pairs: Vec<(u8, u8)>) -> Result<Map<u8, u8, N
 fn members_beyond_the_room_are_refused(rt: HostRuntime) {
     let first = Set::from([1, 2]);
     let second = Set::from([2, 3]);
-    assert!(rt; share_items::<2, 2, 3>(&first, &second).is_ok_and(|set| set.iter().eq(&[2, 3, 1])));
-    assert!(rt; share_items::<2, 2, 2>(&first, &second).is_err());
     assert!(rt; common_items::<2, 2, 1>(&first, &second).is_ok_and(|set| set.iter().eq(&[2])));
     assert!(rt; common_items::<2, 2, 0>(&first, &second).is_err());
     assert!(rt; first_items::<2, 2, 1>(&first, &second).is_ok_and(|set| set.iter().eq(&[1])));

@@ -1,4 +1,5 @@
-//! Callers that are proved by the laws of the map and the set alone: one line names the laws, and no proof is written.
+//! Callers that are proved by the laws of the map and the set alone: one line names the laws. Only `strike` has a proof
+//! file.
 ghost use Rattle.std.specs.Prelude.{◌≡◌, ◌≤◌, ◌+◌, ◌&&◌, ◌||◌, IfOk, Some, None, IsFalse, IsTrue, filter, is_some, length, nat_eq, not, if◌then◌else◌};
 ghost use Rattle.std.specs.Map.{keys_of, lookup, remove_entry, set_value};
 ghost use Rattle.std.specs.Option.{option_map_or};
@@ -6,10 +7,10 @@ ghost use Rattle.std.specs.Ordering.{on};
 ghost use Rattle.std.specs.String.{string_bytes, string_eq};
 ghost use Rattle.std.specs.Set.{is_member};
 ghost use Rattle.micromap.specs.Items.{put_item, item_fits, take_item};
-ghost use Rattle.micromap.specs.Pairs.{at, fits, has, put, take_out};
+ghost use Rattle.micromap.specs.Pairs.{at, fits, has, put};
 ghost use Rattle.micromap.specs.Probe.{is_text};
 ghost use Rattle.std.specs.Str.{bytes_eq};
-ghost use Rattle.micromap.specs.Texts.{item_texts, key_texts, texts};
+ghost use Rattle.micromap.specs.Texts.{item_texts, key_texts};
 
 use micromap::map::Entry;
 use micromap::{Map, Set, Text};
@@ -186,14 +187,6 @@ fn set_named<const N: usize>(
     Ok(map.checked_insert(name, value).is_some())
 }
 
-// The value of a name.
-#[tactic(auto, using(micromap_core::proofs::TextViews::text_views))]
-fn value_of<const N: usize>(map: &Map<String, u8, N>, name: &str) -> Option<u8>
-    ensures { result ≡ at bytes_eq (key_texts map.now) name.now }
-{
-    map.get_by(&Text(name)).copied()
-}
-
 // Puts at one name and reads another, both seen by their bytes.
 #[tactic(auto, using(micromap_core::proofs::TextViews::text_views, micromap_core::proofs::MapLaws::map_laws))]
 fn put_then_read_text(map: &mut Map<String, u8, 8>, a: String, b: &str) -> Option<u8>
@@ -203,15 +196,6 @@ fn put_then_read_text(map: &mut Map<String, u8, 8>, a: String, b: &str) -> Optio
 {
     map.insert(a, 1);
     map.get_by(&Text(b)).copied()
-}
-
-// Removes a name, and returns whether it was there.
-#[tactic(auto, using(micromap_core::proofs::TextViews::text_views))]
-fn forget<const N: usize>(map: &mut Map<String, String, N>, name: &str) -> bool
-    ensures answer { result ≡ has bytes_eq (texts map.old) name.now }
-    ensures texts { texts map.new ≡ take_out bytes_eq (texts map.old) name.now }
-{
-    map.remove_by(&Text(name)).is_some()
 }
 
 // Adds a word that is given as text, and returns whether there was room for it.

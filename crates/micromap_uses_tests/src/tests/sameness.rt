@@ -56,7 +56,7 @@ fn put_both<const N: usize, const M: usize>(
 
 // Puts one pair with its own key into a list and its replica.
 #[tactic(auto, using(micromap_core::proofs::FairLemmas::same_laws))]
-fn replace_item_both<const N: usize, const M: usize>(
+fn put_key_both<const N: usize, const M: usize>(
     list: &mut Map<u8, u8, N>,
     replica: &mut Map<u8, u8, M>,
     key: u8,

@@ -3,7 +3,6 @@ ghost use Rattle.std.specs.Prelude.{◌≡◌, ◌<◌, ◌≤◌, Some, IsFalse
 ghost use Rattle.std.specs.List.{find};
 ghost use Rattle.std.specs.Map.{keys_of};
 ghost use Rattle.std.specs.Option.{IfSome};
-ghost use Rattle.std.specs.String.{string_eq};
 ghost use Rattle.std.specs.Set.{is_member};
 ghost use Rattle.micromap.specs.Pairs.{at, has};
 
@@ -20,21 +19,6 @@ fn pair_over<const N: usize>(map: &Map<u8, u8, N>, limit: u8) -> Option<(u8, u8)
     for (key, value) in map {
         if *value > limit {
             return Some((*key, *value));
-        }
-    }
-    None
-}
-
-// A name whose value is over the limit, if there is one.
-#[tactic(auto, using(micromap_core::proofs::MapLaws::map_laws))]
-fn name_over<const N: usize>(map: &Map<String, u8, N>, limit: u8) -> Option<(&String, u8)>
-    ensures found { IfSome result (λ p. at string_eq map.now p.0.now ≡ Some p.1) }
-    ensures over { IfSome result (λ p. limit < p.1) }
-{
-    let _content = map.len();
-    for (key, value) in map {
-        if *value > limit {
-            return Some((key, *value));
         }
     }
     None

@@ -17,7 +17,7 @@ fn looked_up<const N: usize>(map: &Map<u8, u8, N>, key: u8) -> (Option<&u8>, u12
     ensures steps { result.1 ≡ look_up_steps nat_eq map.now key }
 {
     // `len` ensures that the length fits.
-    let _held = map.len();
+    let _content = map.len();
     let mut steps = Steps::new();
     let value = map.get_counted(&key, &mut steps);
     (value, steps.count())
@@ -32,7 +32,7 @@ fn compared<const N: usize, const M: usize>(
     ensures steps { result.1 ≡ comparison_steps nat_eq nat_eq first.now second.now }
 {
     // `len` ensures that the length fits.
-    let _held = first.len();
+    let _content = first.len();
     let mut steps = Steps::new();
     let same = first.eq_with_counted(second, &mut steps);
     (same, steps.count())
@@ -55,17 +55,6 @@ fn a_look_up_stops_at_its_key(rt: HostRuntime) {
     assert_eq!(rt; looked_up(&three, 5), (Some(&50), 1));
     assert_eq!(rt; looked_up(&three, 7), (Some(&70), 3));
     assert_eq!(rt; looked_up(&three, 9), (None, 3));
-}
-
-#[test]
-fn look_ups_add_up(rt: HostRuntime) {
-    let three = Map::from([(5, 50), (6, 60), (7, 70)]);
-    let _held = three.len();
-    let mut steps = Steps::new();
-    assert_eq!(rt; three.get_counted(&6, &mut steps), Some(&60));
-    assert_eq!(rt; steps.count(), 2);
-    assert_eq!(rt; three.get_counted(&9, &mut steps), None);
-    assert_eq!(rt; steps.count(), 5);
 }
 
 #[test]

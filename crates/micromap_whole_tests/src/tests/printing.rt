@@ -25,16 +25,6 @@ fn a_map_prints_its_pairs(rt: HostRuntime) {
     assert!(rt; debugs(alloc, &Map::<u8, u8, 3>::new(), "{}"));
 }
 
-// A map's text ignores a width, and a set hands it to its items.
-#[test]
-fn a_width_goes_to_the_items_of_a_set_alone(rt: HostRuntime) -> Result<(), AllocError> {
-    let map = Map::from([(1, 2)]);
-    let set = Set::from([1, 2]);
-    assert_eq!(rt; format!(in rt.alloc(); "{map:>3}")?.as_str(), "{1: 2}");
-    assert_eq!(rt; format!(in rt.alloc(); "{set:>3}")?.as_str(), "{  1,   2}");
-    Ok(())
-}
-
 #[test]
 fn a_map_prints_within_another_and_in_a_box(rt: HostRuntime) -> Result<(), AllocError> {
     let mut lists: Map<char, Map<u8, u8, 2>, 2> = Map::new();
