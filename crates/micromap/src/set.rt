@@ -109,10 +109,8 @@ impl<T: Eq, const N: usize> Set<T, N> {
     pub fn get(&self, item: &T) -> Option<&T>
         ensures { option_copied result ≡ find_item T.eq self.now item.now }
     {
-        match self.map.get_key_value(item) {
-            Some((stored, _)) => Some(stored),
-            None => None,
-        }
+        let (stored, _) = self.map.get_key_value(item)?;
+        Some(stored)
     }
 }
 

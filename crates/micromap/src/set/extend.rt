@@ -1,4 +1,4 @@
-//! Building of an array or an iterator, and extending by one. Each distinct item is stored as it first came, in that order.
+//! Building from arrays and iterators, and extending. Each distinct item is stored as it first came, in that order.
 ghost use Rattle.std.specs.Prelude.{◌≡◌, ◌≤◌, [], length, IfOk, OnOk, IfErr, OnErr, IsTrue};
 ghost use Rattle.std.specs.Iterator.{UpTo};
 ghost use Rattle.micromap.specs.Build.{IsOfAll, IsOfFirst, ItemsUpTo, most_items};
@@ -42,7 +42,7 @@ impl<T: Eq + Drop, const N: usize> Set<T, N> {
         for x in items {
             if !self.put(x) {
                 // `len` ensures that it is at most `N`, so the set is full.
-                let _len = self.len();
+                let _content = self.len();
                 return Err(Overfull { at });
             }
             at += 1;

@@ -14,10 +14,8 @@ impl<T: Eq, const N: usize> Set<T, N> {
     pub fn get_by<P: Probe<T>>(&self, probe: &P) -> Option<&T>
         ensures { option_copied result ≡ find (P.matches probe.now) self.now }
     {
-        match self.map.get_key_value_by(probe) {
-            Some((stored, _)) => Some(stored),
-            None => None,
-        }
+        let (stored, _) = self.map.get_key_value_by(probe)?;
+        Some(stored)
     }
 
     /// Returns `true` if a stored item matches. Makes one scan.

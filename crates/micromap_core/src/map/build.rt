@@ -1,5 +1,5 @@
-//! Building of an array or an iterator, and extending by one. The keys are stored in the order in which each distinct key
-//! first came. Each has the value of its last item.
+//! Building from arrays and iterators, and extending. The keys are stored in the order in which each distinct key first
+//! came. Each has the value of its last item.
 ghost use Rattle.std.specs.Prelude.{◌≡◌, ◌≤◌, [], length, IsTrue, IfOk, OnOk, IfErr, OnErr};
 ghost use Rattle.std.specs.Iterator.{UpTo};
 ghost use Rattle.micromap_core.specs.Build.{all_fit, build, IsOfAll, IsOfFirst, ItemsUpTo, MisfitIn, most_items, put_all};
@@ -64,7 +64,7 @@ impl<K: Eq + Drop, V: Drop, const N: usize> Map<K, V, N> {
         for (key, value) in items {
             if self.checked_insert(key, value).is_none() {
                 // `len` ensures that it is at most `N`, so the map is full.
-                let _len = self.len();
+                let _content = self.len();
                 return Err(Overfull { at });
             }
             at += 1;

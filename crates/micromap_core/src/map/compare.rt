@@ -47,7 +47,7 @@ impl<K: Eq, V: Eq, const N: usize> Map<K, V, N> {
         ensures differs { IfSome result (λ k. IsFalse (same_at K.eq V.eq self.now other.now k.now)) }
     {
         // `len` ensures what is true of each map's content.
-        let _held = (self.len(), other.len());
+        let _contents = (self.len(), other.len());
         match self.first_unequal(other) {
             Some(key) => Some(key),
             None => other.first_missing(self),

@@ -39,7 +39,7 @@ impl<K: Eq + Drop, V: Drop, const N: usize> Map<K, V, N> {
         ensures answer { result ≡ slice_get self.old 0 }
         ensures pairs { self.new ≡ drop 1 self.old }
     {
-        if self.len() == 0 {
+        if self.is_empty() {
             return None;
         }
         Some(self.take_at(0))

@@ -55,9 +55,6 @@ impl<'a, K: Copy, V: Copy> EntrySource<K, V> for SliceSource<'a, K, V> {
     }
 
     fn next_entry(&mut self) -> Result<Option<(K, V)>, Infallible> {
-        match self.left.next() {
-            Some(entry) => Ok(Some(*entry)),
-            None => Ok(None),
-        }
+        Ok(self.left.next().copied())
     }
 }

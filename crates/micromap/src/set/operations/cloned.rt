@@ -27,7 +27,7 @@ impl<T: Eq + Clone + Drop, const N: usize> Set<T, N> {
         for x in self.intersection(other) {
             both.insert(x.clone()?);
         }
-        let _made = both.len();
+        let _content = both.len();
         Ok(both)
     }
 
@@ -47,7 +47,7 @@ impl<T: Eq + Clone + Drop, const N: usize> Set<T, N> {
         for x in self.difference(other) {
             rest.insert(x.clone()?);
         }
-        let _made = rest.len();
+        let _content = rest.len();
         Ok(rest)
     }
 }

@@ -21,7 +21,7 @@ loop-x-preserved g c = clones_next g.met.T.Eq.laws c.requires c.loop-x.invariant
 pub returns : goal.returns
 returns g c =
     let clones = clones_end c.loop-x.invariant c.in-None.ensures.steps.member.0 in
-    record { clones = clones; same = λ identical. same_from_all_zip g.T.Clone.is_clone _ _ clones identical; content = c.len-made.ensures.content; succeeds = λ all. refl }
+    record { clones = clones; same = λ identical. same_from_all_zip g.T.Clone.is_clone _ _ clones identical; content = c.len-content.ensures.content; succeeds = λ all. refl }
 
 pub next-requires : goal.next-requires
 next-requires g c = assumption
@@ -29,8 +29,8 @@ next-requires g c = assumption
 pub new-rest-requires : goal.new-rest-requires
 new-rest-requires g c = assumption
 
-pub len-made-requires : goal.len-made-requires
-len-made-requires g c = assumption
+pub len-content-requires : goal.len-content-requires
+len-content-requires g c = assumption
 
 pub difference-x-items-requires : goal.difference-x-items-requires
 difference-x-items-requires g c = assumption

@@ -25,7 +25,7 @@ returns-then-is_none g c =
     let l = c.loop-key in
     let misfit = fits_checked g.K.PartialEq.eq g.row.N l.self c.in-Some.key c.checked_insert.ensures.answer c.if-is_none.ensures in
     let kept : c.checked_insert.new.self ≡ l.self = rw misfit at c.checked_insert.ensures.pairs in
-    let full = ap length kept ∙ full_is (has g.K.PartialEq.eq l.self c.in-Some.key) (length l.self) g.row.N misfit (rw kept at c.len-len.ensures.content.bounded) in
+    let full = ap length kept ∙ full_is (has g.K.PartialEq.eq l.self c.in-Some.key) (length l.self) g.row.N misfit (rw kept at c.len-content.ensures.content.bounded) in
     assumption (
       run_stops (pair_fits g.K.PartialEq.eq g.row.N) (put_pair g.K.PartialEq.eq) c.args.self.now l.yielded l.at l.self c.checked_insert.new.self (c.in-Some.key, c.in-Some.value) l.invariant.put c.checked_insert.ensures.pairs g.I.Iterator.next_gives c.args.items c.next.new.self misfit
           (rw (← c.into_iter-key-iterator.ensures.into_iter_gives) (l.key-iterator, l.yielded_by, c.in-Some.ensures.steps)),
