@@ -1,4 +1,5 @@
--- Pairwise unequal items that are put one after the other, or their clones: each is new, and goes last.
+-- A list of pairwise unequal items, or the list of their clones, is put into a set item by item. Each item is new, and
+-- goes last.
 use Rattle.std.proofs.Common.{◌≡◌, ℕ, ◌<◌, ◌≤◌, Bool, true, false, ◌||◌, List, [], ◌∷◌, ◌++◌, length, get_or, IsTrue, refl, ap, sym, subst, ◌∙◌, append_assoc, arith}
 use Rattle.std.specs.Cmp.{IsEquivalence}
 use Rattle.std.specs.List.{AllZip, IsDistinct}
@@ -12,7 +13,8 @@ use Rattle.micromap_core.proofs.StreamLemmas.{built_in_turn}
 use Rattle.micromap.specs.Extend.{put_all_items}
 use Rattle.micromap.specs.ItemEntries.{entries_of}
 use Rattle.micromap.specs.Items.{put_item, item_fits}
-use Rattle.micromap.proofs.EntryItems.{keys_of-entries, keys_of-put_all}
+use Rattle.micromap.proofs.EntryItems.{keys_of-entries}
+use Rattle.micromap.proofs.ItemLemmas.{keys_put_all_items}
 use Rattle.micromap.proofs.SetLaws.{put_item_new}
 use Rattle.std.proofs.Math.Bool.{or-true}
 use Rattle.std.proofs.lemmas.Bool.{lt-ltb}
@@ -26,7 +28,7 @@ module _ {T : Type 0} {eq : T → T → Bool} (laws : IsEquivalence eq) where
   pub added_all : (xs : List T) → IsDistinct eq xs → put_all_items eq [] xs ≡ xs
   added_all xs distinct =
       let back = keys_of-entries xs in
-      ap (put_all_items eq []) (sym back) ∙ sym (keys_of-put_all eq [] (entries_of xs)) ∙ ap keys_of (built_in_turn laws [] (entries_of xs) (subst (IsDistinct eq) (sym back) distinct)) ∙ back
+      ap (put_all_items eq []) (sym back) ∙ sym (keys_put_all_items eq [] (entries_of xs)) ∙ ap keys_of (built_in_turn laws [] (entries_of xs) (subst (IsDistinct eq) (sym back) distinct)) ∙ back
 
   module _ {C : T → T → Type 0} (equal : ClonesAreEqual eq C) where
     -- an item has an equal one among the clones where an equal item has one among their sources

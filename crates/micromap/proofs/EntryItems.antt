@@ -1,16 +1,15 @@
--- Entries whose values are `()`: a set has the keys of the map that is made of them. For callers:
--- `items_read`.
+-- Entries of a stream whose values are `()`. The set that is read from them has the keys of the map that they make. For
+-- callers: `items_read`.
 use Rattle.std.proofs.Common.{◌≡◌, ℕ, Bool, List, [], ◌∷◌, Option, Result, Ok, refl, ap, sym, ◌∙◌}
 use Rattle.std.specs.Map.{keys_of}
 use Rattle.std.specs.Result.{result_map_both}
 use Rattle.std.proofs.lemmas.Map.Entries.{length-keys_of}
-use Rattle.micromap_core.specs.Build.{put_all, put_pair}
 use Rattle.micromap_core.specs.Pairs.{IsContent}
 use Rattle.micromap_core.specs.Stream.{ReadsWhole}
-use Rattle.micromap.specs.Extend.{put_all_items, distinct}
+use Rattle.micromap.specs.Extend.{distinct}
 use Rattle.micromap.specs.ItemEntries.{entries_of}
 use Rattle.micromap.specs.Items.{IsItems}
-use Rattle.micromap.proofs.ItemLemmas.{put_item-keys}
+use Rattle.micromap.proofs.ItemLemmas.{keys_put_all_items}
 
 module _ {T : Type 0} where
   pub entries_of-keys : (pairs : List (T × Unit {0})) → entries_of (keys_of pairs) ≡ pairs
@@ -21,15 +20,9 @@ module _ {T : Type 0} where
   keys_of-entries [] = refl
   keys_of-entries (x ∷ items) = ap (λ l. x ∷ l) (keys_of-entries items)
 
-  module _ (eq : T → T → Bool) where
-    -- what is put of the entries is what is added of their items
-    pub keys_of-put_all : (pairs entries : List (T × Unit {0})) → keys_of (put_all eq pairs entries) ≡ put_all_items eq (keys_of pairs) (keys_of entries)
-    keys_of-put_all pairs [] = refl
-    keys_of-put_all pairs (p ∷ entries) = keys_of-put_all (put_pair eq pairs p) entries ∙ ap (λ items. put_all_items eq items (keys_of entries)) (sym (put_item-keys eq p.0 p.1 pairs))
-
   -- the items of a set that is read to the end
   pub items_read : {S E : Type 0} {eq : T → T → Bool} {N : ℕ} {left : S → List (T × Unit {0})} {faults : S → ℕ} {last_fault : S → Option E} {old new : S} (items : List T) → ReadsWhole eq N left faults last_fault old new (entries_of items) → items ≡ distinct eq (keys_of (left old))
-  items_read {eq = eq} {left = left} {old = old} items reads = sym (keys_of-entries items) ∙ ap keys_of reads.made ∙ keys_of-put_all eq [] (left old)
+  items_read {eq = eq} {left = left} {old = old} items reads = sym (keys_of-entries items) ∙ ap keys_of reads.made ∙ keys_put_all_items eq [] (left old)
 
   -- what a map reads back, a set does
   pub items_read_back : {F : Type 0} {eq : T → T → Bool} {N : ℕ} {same : Type 0} (r : Result (List (T × Unit {0})) F) (pairs : List (T × Unit {0})) → (IsContent eq N pairs → same → r ≡ Ok pairs) → IsItems eq N (keys_of pairs) → same → result_map_both keys_of (λ e. e) r ≡ Ok (keys_of pairs)

@@ -1,4 +1,4 @@
--- A set that is built has one item for each distinct one that it is given.
+-- A set into which items are put has one item for each distinct item.
 use Rattle.std.proofs.Common.{◌≡◌, ℕ, nat_lt, Bool, true, false, ◌||◌, ◌⊎◌, inl, inr, List, [], ◌∷◌, ◌++◌, length, if◌then◌else◌, refl, ap, sym}
 use Rattle.std.specs.Set.{is_member, distinct_count}
 use Rattle.std.proofs.lemmas.List.{map-id}

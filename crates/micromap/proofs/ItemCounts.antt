@@ -1,6 +1,6 @@
--- For callers: that a set has one item for each distinct one that was put, as `CountLaws` has it of a map's keys. The
+-- For callers: a set has one item for each distinct item that was put. `CountLaws` says the same of a map's keys. The
 -- ruleset `item_counts` is for a set that is built in a loop.
-use Rattle.std.proofs.Common.{◌≡◌, ℕ, ◌+◌, ◌<◌, ◌≤◌, ◌||◌, Bool, false, List, [], ◌++◌, drop, length, get_or, take, Option, Result, Ok, Err, IfErr, if◌then◌else◌, refl, ap, sym, ◌∙◌, append_assoc, arith}
+use Rattle.std.proofs.Common.{◌≡◌, ℕ, ◌+◌, ◌<◌, ◌≤◌, ◌||◌, Bool, false, List, [], ◌++◌, drop, length, get_or, take, Option, Result, IfErr, if◌then◌else◌, refl, ap, sym, ◌∙◌, append_assoc, arith}
 use Rattle.std.specs.Iterator.Runs.{EveryRun, ItemsAre, SomeRun}
 use Rattle.std.specs.List.{list_any, IsDistinct}
 use Rattle.std.specs.Set.{is_member, distinct_count}
@@ -9,12 +9,13 @@ use Rattle.std.proofs.lemmas.List.{map-id, take_all, take_more, take-append-drop
 use Rattle.std.proofs.lemmas.List.Folds.{list_any-append}
 use Rattle.std.proofs.lemmas.List.Sums.{fold_more, fold_push}
 use Rattle.std.proofs.lemmas.Map.Made.{length-from_keys}
+use Rattle.std.proofs.lemmas.Result.{IfErr-weaker}
 use Rattle.micromap_core.specs.Equalities.{Lawful}
 use Rattle.micromap_core.proofs.CountLaws.{distinct_prefix, distinct_grows}
 use Rattle.micromap_core.proofs.BuildLemmas.{keys-built, keys-fold, length-built, many_prefix, each_fits-count}
 use Rattle.micromap_core.proofs.Equalities.{of_lawful}
-use Rattle.micromap_core.proofs.MisfitLemmas.{stops_in}
-use Rattle.micromap.specs.Extend.{put_all_items, distinct, ItemMisfitIn}
+use Rattle.micromap_core.proofs.MisfitLemmas.{misfit_in, put_before_in}
+use Rattle.micromap.specs.Extend.{put_all_items, distinct, ItemMisfitIn, PutsItemsBefore}
 use Rattle.micromap.specs.Items.{IsItems, put_item, item_fits}
 use Rattle.micromap.proofs.ExtendLemmas.{items_keyed}
 use Rattle.micromap.proofs.SetLaws.{length_put_item}
@@ -62,8 +63,7 @@ module _ {T : Type 0} (eq : T → T → Bool) where
 
   -- the facts are those of `misfit_in`, and that the equality is lawful
   pub many_items_in : (N : ℕ) {S E Y : Type 0} {steps : S → Option T → S → Type 0} (rest : S → List T) {s : S} {xs : List T} (at : E → ℕ) (r : Result Y E) → Lawful eq → EveryRun steps (λ q. ItemsAre q (rest q.from)) → rest s ≡ xs → IfErr r (λ e. SomeRun steps s (λ p. (p.len ≡ at e + 1) × ItemMisfitIn eq N [] p.items (at e))) → IfErr r (λ e. N < distinct_count eq xs)
-  many_items_in N rest at (Ok y) laws reads left stops = tt
-  many_items_in N rest {xs = xs} at (Err e) laws reads left stops = misfit_many_items N xs (at e) laws (stops_in (item_fits eq N) (put_item eq) [] rest (at e) stops.0 stops.1 reads left stops.2.0 stops.2.1)
+  many_items_in N rest {xs = xs} at r laws reads left stops = IfErr-weaker r (λ e. ItemMisfitIn eq N [] xs (at e)) (λ e. N < distinct_count eq xs) (λ e. misfit_many_items N xs (at e) laws) (misfit_in (item_fits eq N) (put_item eq) [] rest at r reads left stops)
 
   -- what a search needs, at once: of a set that is built of a list, and of its first so many
   pub each_distinct : (xs : List T) → Lawful eq → (distinct eq xs ≡ distinct eq xs) × (length (distinct eq xs) ≡ distinct_count eq xs) × ((x : T) → is_member eq (distinct eq xs) x ≡ list_any (eq x) xs)
@@ -93,8 +93,7 @@ module _ {T : Type 0} {eq : T → T → Bool} {N : ℕ} {items : List T} (conten
       let fit = each_fits-count (of_lawful eq content.lawful) (items_keyed eq N) items (take (at + 1) xs) content.unique content.bounded in
       omega (arith, leb-false _ N (sym fit ∙ not-true _ stops.1), put_all_items_grows eq items xs (at + 1) content.lawful content.unique)
 
-  pub refused_is_many : {S E Y : Type 0} {steps : S → Option T → S → Type 0} (rest : S → List T) {s : S} {xs : List T} (at : E → ℕ) (r : Result Y E) → EveryRun steps (λ q. ItemsAre q (rest q.from)) → rest s ≡ xs → IfErr r (λ e. SomeRun steps s (λ p. (p.len ≡ at e + 1) × ItemMisfitIn eq N items p.items (at e))) → IfErr r (λ e. N < length (put_all_items eq items xs))
-  refused_is_many rest at (Ok y) reads left stops = tt
-  refused_is_many rest {xs = xs} at (Err e) reads left stops = stopped_many xs (at e) (stops_in (item_fits eq N) (put_item eq) items rest (at e) stops.0 stops.1 reads left stops.2.0 stops.2.1)
+  pub refused_is_many : {S E Y : Type 0} {steps : S → Option T → S → Type 0} (rest : S → List T) {s : S} {xs : List T} (new : List T) (at : E → ℕ) (r : Result Y E) → EveryRun steps (λ q. ItemsAre q (rest q.from)) → rest s ≡ xs → IfErr r (λ e. SomeRun steps s (λ p. (p.len ≡ at e + 1) × PutsItemsBefore eq N items new p.items (at e))) → IfErr r (λ e. N < length (put_all_items eq items xs))
+  refused_is_many rest {xs = xs} new at r reads left stops = IfErr-weaker r (λ e. PutsItemsBefore eq N items new xs (at e)) (λ e. N < length (put_all_items eq items xs)) (λ e puts. stopped_many xs (at e) puts.0) (put_before_in (item_fits eq N) (put_item eq) items rest new at r reads left stops)
 
 pub ruleset item_counts = (each_distinct, each_distinct_take, each_put_all_items_take)

@@ -1,15 +1,18 @@
--- A set's items are the keys of its map's pairs: what each word on pairs says of the keys.
+-- A set's items are the keys of its map. Each lemma says what a word on the map's pairs does to the keys.
 use Rattle.std.proofs.Common.{◌≡◌, ℕ, ◌||◌, nat_lt, Bool, true, List, [], ◌∷◌, length, is_some, if◌then◌else◌, refl, ap, ◌∙◌, arith}
-use Rattle.std.specs.List.{AllZip, find, list_any}
+use Rattle.std.specs.List.{AllZip, IsDistinct, find, list_any}
 use Rattle.std.specs.Map.{keys_of, lookup, lookup_entry, remove_entry, set_value, set_key}
 use Rattle.std.specs.Option.{option_map}
 use Rattle.std.specs.Set.{is_member, remove_key, swap_key}
 use Rattle.std.proofs.lemmas.List.{map_push, length-map}
 use Rattle.std.proofs.lemmas.Map.{keys-set_value}
 use Rattle.std.proofs.lemmas.Map.Entries.{length-keys_of}
+use Rattle.micromap_core.specs.Build.{put_all}
 use Rattle.micromap_core.specs.Clones.{IsPairClone}
+use Rattle.micromap_core.specs.Equalities.{Lawful}
 use Rattle.micromap_core.specs.Pairs.{IsContent, fits, has, put, put_key, take_out}
 use Rattle.micromap_core.proofs.PairsLemmas.{keys_of-put_stored, keys_of-put_new}
+use Rattle.micromap.specs.Extend.{put_all_items}
 use Rattle.micromap.specs.Items.{IsItems, put_item, replace_item, item_fits, take_item}
 
 pub any-find : {T : Type 0} (test : T → Bool) (items : List T) → list_any test items ≡ is_some (find test items)
@@ -46,13 +49,18 @@ module _ {T V : Type 0} where
     unfolding replace_item put_key
     replace_item-keys pairs = grind (arith, any-keys (eq k) pairs, swap-keys (eq k) (set_value (eq k) pairs v) k, keys-set_value (eq k) pairs v, map_push (λ (e : T × V). e.0) pairs (k, v))
 
-    pub put_item-keys : (pairs : List (T × V)) → put_item eq (keys_of pairs) k ≡ keys_of (put eq pairs k v)
+    pub keys_put_item : (pairs : List (T × V)) → keys_of (put eq pairs k v) ≡ put_item eq (keys_of pairs) k
     unfolding put_item
-    put_item-keys pairs = grind (arith, any-keys (eq k) pairs, keys_of-put_stored eq pairs k v, keys_of-put_new eq pairs k v)
+    keys_put_item pairs = grind (arith, any-keys (eq k) pairs, keys_of-put_stored eq pairs k v, keys_of-put_new eq pairs k v)
 
     -- where it fits, the item is added
     pub checked-keys : (N : ℕ) (pairs : List (T × V)) → (if item_fits eq N (keys_of pairs) k then put_item eq (keys_of pairs) k else keys_of pairs) ≡ keys_of (if fits eq N pairs k then put eq pairs k v else pairs)
-    checked-keys N pairs = grind (arith, fits-keys eq N pairs k, put_item-keys pairs)
+    checked-keys N pairs = grind (arith, fits-keys eq N pairs k, keys_put_item pairs)
+
+  -- the keys of a map once pairs are put are the items of a set once their keys are
+  pub keys_put_all_items : (eq : T → T → Bool) (pairs items : List (T × V)) → keys_of (put_all eq pairs items) ≡ put_all_items eq (keys_of pairs) (keys_of items)
+  keys_put_all_items eq pairs [] = refl
+  keys_put_all_items eq pairs (p ∷ items) = keys_put_all_items eq (put eq pairs p.0 p.1) items ∙ ap (λ keys. put_all_items eq keys (keys_of items)) (keys_put_item eq p.0 p.1 pairs)
 
 -- a stored item is added already
 pub put_item-stored : {T : Type 0} (eq : T → T → Bool) (N : ℕ) (items : List T) (x : T) → is_member eq items x ≡ true → (if item_fits eq N items x then put_item eq items x else items) ≡ items
@@ -73,3 +81,8 @@ module _ {T V : Type 0} where
 -- what a map may hold is, as its keys, what a set may hold
 pub content_items : {T V : Type 0} {eq : T → T → Bool} {N : ℕ} {pairs : List (T × V)} {items : List T} → keys_of pairs ≡ items → IsContent eq N pairs → IsItems eq N items
 content_items {pairs = pairs} seen content = rw (← seen) (record { unique = content.unique; bounded = rw (length-keys_of pairs) content.bounded; lawful = content.lawful })
+
+-- and no items at all
+pub items_empty : {T : Type 0} {eq : T → T → Bool} {N : ℕ} {items : List T} → Lawful eq → items ≡ [] → IsItems eq N items
+unfolding IsDistinct
+items_empty laws none = rw none (record { unique = tt; bounded = omega arith; lawful = laws })

@@ -1,4 +1,4 @@
--- A map's pairs with their keys as bytes, and what a reading of an object says of them.
+-- A map's pairs with their keys as bytes. A map that is read of an object has the pairs that its text has.
 use Rattle.std.proofs.Common.{◌≡◌, ℕ, Bool, ◌&&◌, [], ◌∷◌, Result, Ok, Err, MatchResult, IfOk, IfErr, ok_or, BTreeMap, String, Global, inr, ◌||◌, string_bytes, bytes_eq, ℤ, refl, ap, sym, subst, ◌∙◌}
 use Rattle.std.specs.Cmp.{IsEquivalence, int_eq_equiv}
 use Rattle.std.specs.Cmp.Lexicographic.{nat_list_eq_equiv}

@@ -1,4 +1,4 @@
--- Reading an array's elements, and an object's members, one after the other.
+-- A loop that reads the elements of an array, or the members of an object: one more of them, and the end of the loop.
 use Rattle.std.proofs.Common.{◌≡◌, ℕ, ◌<◌, ◌≤◌, Bool, true, false, ◌&&◌, List, [], ◌∷◌, ◌++◌, length, Option, Some, None, option_map, option_and_then, ok_or, if◌then◌else◌, Ok, Err, String, string_bytes, bytes_eq, string_cmp, Global, ℤ, refl, ap, sym, subst, ◌∙◌, arith}
 use Rattle.std.specs.Cmp.Lexicographic.{nat_list_eq_equiv}
 use Rattle.std.specs.List.{IsDistinct, fold}

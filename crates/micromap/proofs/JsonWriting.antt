@@ -1,5 +1,5 @@
--- Writing a map's pairs one after the other as the members of an object, and a set's items as the elements of an array.
-use Rattle.std.proofs.Common.{◌≡◌, ℕ, suc, ◌≤◌, Bool, true, false, ◌||◌, List, [], ◌∷◌, ◌++◌, length, map, Option, Some, option_map, option_and_then, Ok, Ordering, nat_cmp, String, Global, string_bytes, bytes_eq, ℤ, refl, ap, sym, subst, ◌∙◌, arith}
+-- A loop that writes a map's pairs as the members of an object, or a set's items as the elements of an array.
+use Rattle.std.proofs.Common.{◌≡◌, ℕ, suc, ◌≤◌, Bool, true, false, ◌||◌, List, [], ◌∷◌, ◌++◌, length, map, Option, Some, option_map, option_and_then, Ok, Ordering, nat_cmp, String, Global, string_bytes, bytes_eq, ℤ, pos, negsuc, refl, ap, sym, subst, ◌∙◌, arith}
 use Rattle.std.specs.BTreeMap.{insert_entry}
 use Rattle.std.specs.Cmp.{first_so}
 use Rattle.std.specs.Cmp.Derive.{both_true}
@@ -11,14 +11,16 @@ use Rattle.std.specs.Set.{is_member}
 use Rattle.std.specs.String.{string_eq, string_eq_equiv}
 use Rattle.std.proofs.lemmas.List.{append_assoc, append-nil, length-map, length_push, map-append, map_push}
 use Rattle.std.proofs.lemmas.List.Folds.{list_any-append}
+use Rattle.std.proofs.lemmas.List.Sums.{fold_push}
 use Rattle.std.proofs.lemmas.Map.Text.{is_eq-slice_cmp}
-use Rattle.serde_json.specs.Data.{Data, Members, no_members, member, array, object, string, depth, items_depth, members_depth, put}
+use Rattle.serde_json.specs.Data.{Data, Members, no_members, member, array, number, object, string, depth, items_depth, members_depth, put}
+use Rattle.serde_json.specs.Find.{of_integer}
 use Rattle.serde_json.specs.Read.{read, max_depth}
 use Rattle.serde_json.specs.View.{view, items_of, items_view}
-use Rattle.serde_json.specs.Written.{compact_text, has_float, items_have_float}
+use Rattle.serde_json.specs.Written.{compact_text, has_float, items_have_float, members_have_float}
 use Rattle.serde_json.specs.declared.value.Value.{Value}
 use Rattle.micromap.specs.Extend.{distinct}
-use Rattle.micromap.specs.Json.{Bytes, HasPairs, Pairs, all_texts, elements, in_bytes, texts_for, texts_of, whole_number, whole_members}
+use Rattle.micromap.specs.Json.{Bytes, HasPairs, Pairs, all_texts, elements, in_bytes, members, put_member, texts_for, texts_of, whole_number, whole_members}
 use Rattle.micromap_core.specs.Same.{Same, pair_eq}
 use Rattle.micromap_core.specs.Texts.{item_texts}
 use Rattle.micromap_core.proofs.DistinctLemmas.{new_behind}
@@ -41,6 +43,14 @@ module _ (k : Bytes) (d : Data) (n : ℤ) (is : whole_number d ≡ Some n) where
 depth-put : (k : Bytes) (d : Data) (ms : Members) → depth d ≡ 0 → members_depth ms ≡ 0 → members_depth (put k d ms) ≡ 0
 depth-put k d no_members flat all = grind (arith, flat)
 depth-put k d (member l e ms) flat all = grind (arith, flat, all, depth-put k d ms)
+
+float-number : (n : ℤ) → has_float (number (of_integer n)) ≡ false
+float-number (pos n) = refl
+float-number (negsuc n) = refl
+
+float-put : (k : Bytes) (n : ℤ) (ms : Members) → members_have_float ms ≡ false → members_have_float (put k (number (of_integer n)) ms) ≡ false
+float-put k n no_members none = grind (arith, float-number n)
+float-put k n (member l e ms) none = grind (arith, none, float-put k n ms, float-number n)
 
 -- no pair has this name
 abbrev Lacks : List (Bytes × ℤ) → Bytes → Type 0
@@ -65,23 +75,28 @@ pub record HasWritten (ms : Members) (rest all : Pairs) : Type 0 where
   pub pairs : List (Bytes × ℤ)
   pub whole : whole_members ms ≡ Some pairs
   pub flat : members_depth ms ≡ 0
+  pub none_is_float : members_have_float ms ≡ false
+  pub made : ms ≡ members given
   pub alike : (test : Bytes × ℤ → Bool) → list_any test pairs ≡ list_any test (in_bytes given)
   pub count : length pairs ≡ length given
 
 pub none_written : (all : Pairs) → HasWritten no_members all all
-none_written all = record { given = []; split = refl; pairs = []; whole = refl; flat = refl; alike = λ test. refl; count = refl }
+none_written all = record { given = []; split = refl; pairs = []; whole = refl; flat = refl; none_is_float = refl; made = refl; alike = λ test. refl; count = refl }
 
 -- one more
-pub writes_one : {ms after : Members} {rest later all : Pairs} {k : String Global} {n : ℤ} (d : Data) → HasWritten ms rest all → IsDistinct string_eq (keys_of all) → rest ≡ (k, n) ∷ later → whole_number d ≡ Some n → depth d ≡ 0 → after ≡ put (string_bytes k) d ms → HasWritten after later all
-writes_one {ms} {after} {rest} {later} {all} {k} {n} d has distinct first is flat made =
+pub writes_one : {ms after : Members} {rest later all : Pairs} {k : String Global} {n : ℤ} (d : Data) → HasWritten ms rest all → IsDistinct string_eq (keys_of all) → rest ≡ (k, n) ∷ later → d ≡ number (of_integer n) → whole_number d ≡ Some n → depth d ≡ 0 → after ≡ put (string_bytes k) d ms → HasWritten after later all
+writes_one {ms} {after} {rest} {later} {all} {k} {n} d has distinct first seen is flat made =
     let seam : keys_of all ≡ keys_of has.given ++ k ∷ keys_of later = sym (ap keys_of has.split) ∙ ap (λ r. keys_of (has.given ++ r)) first ∙ map-append (λ p. p.0) has.given ((k, n) ∷ later) in
     let new : Lacks has.pairs (string_bytes k) = has.alike _ ∙ any-names k has.given ∙ new_behind string_eq_equiv (keys_of has.given) k (keys_of later) (subst (IsDistinct string_eq) seam distinct) in
+    let put_is : after ≡ put (string_bytes k) (number (of_integer n)) ms = made ∙ ap (λ d. put (string_bytes k) d ms) seen in
     record {
       given = has.given ++ (k, n) ∷ [];
       split = append_assoc has.given ((k, n) ∷ []) later ∙ ap (λ r. has.given ++ r) (sym first) ∙ has.split;
       pairs = insert has.pairs (string_bytes k) n;
       whole = ap whole_members made ∙ whole-put (string_bytes k) d n is ms has.pairs has.whole;
       flat = ap members_depth made ∙ depth-put (string_bytes k) d ms flat has.flat;
+      none_is_float = ap members_have_float put_is ∙ float-put (string_bytes k) n ms has.none_is_float;
+      made = put_is ∙ ap (put (string_bytes k) (number (of_integer n))) has.made ∙ sym (fold_push put_member no_members has.given (k, n));
       alike = λ test. any-insert test has.pairs (string_bytes k) n new ∙ grind (arith, has.alike test, map_push {Y = Bytes × ℤ} (λ p. (string_bytes p.0, p.1)) has.given (k, n), list_any-append test (in_bytes has.given) ((string_bytes k, n) ∷ []));
       count = omega (arith, has.count, length-insert has.pairs (string_bytes k) n new, length_push has.given (k, n));
     }
@@ -99,6 +114,12 @@ written {ms} {all = all} text has none reads_back M short =
     let whole : has.given ≡ all = sym (append-nil has.given) ∙ ap (λ r. has.given ++ r) (sym none) ∙ has.split in
     let is = reads_back (rw has.flat (omega arith)) in
     (has.pairs, rw (is, has.whole) (few M has.pairs (omega (arith, has.count, ap length whole, short))), same_items has.pairs (in_bytes all) (λ test. sym (has.alike test ∙ ap (λ l. list_any test (in_bytes l)) whole)))
+
+-- and is that of all pairs' members
+pub written_text : {ms : Members} {rest all : Pairs} (text : Bytes) → HasWritten ms rest all → rest ≡ [] → (has_float (object ms) ≡ false → text ≡ compact_text (object ms)) → text ≡ compact_text (object (members all))
+written_text {ms} {all = all} text has none is =
+    let whole : has.given ≡ all = sym (append-nil has.given) ∙ ap (λ r. has.given ++ r) (sym none) ∙ has.split in
+    is has.none_is_float ∙ ap (λ ms. compact_text (object ms)) (has.made ∙ ap members whole)
 
 -- a set's items as the elements of an array
 abbrev pub as_data : List (String Global) → List Data

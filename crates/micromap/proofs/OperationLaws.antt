@@ -1,5 +1,5 @@
--- The members of the operations on two lists of items: that they are pairwise unequal, and what of them stays if the
--- two lists change places. For callers: `same_members`.
+-- The members of an operation on two lists of items are pairwise unequal. An operation that doesn't care which list is
+-- first has equal members if the lists change places. For callers: `same_members`.
 use Rattle.std.proofs.Common.{◌≡◌, ◌+◌, Bool, true, not, ◌&&◌, ◌||◌, ◌↔◌, List, [], ◌∷◌, length, filter, if◌then◌else◌, IsTrue, refl, ap, sym, subst, ◌∙◌, arith}
 use Rattle.std.specs.Cmp.{IsEquivalence, both_ways, first_so, second_so}
 use Rattle.std.specs.Cmp.Derive.{both_true}

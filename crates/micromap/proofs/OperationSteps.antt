@@ -1,4 +1,4 @@
--- Where a call of `next` leads an iterator over an operation, and what its hint bounds.
+-- What an iterator over an operation has left after a call of `next`, and that its hint bounds the members left.
 use Rattle.std.proofs.Common.{◌≡◌, ℕ, suc, ◌+◌, ◌-◌, ◌^◌, ◌≤◌, min, Bool, true, false, not, nat_lt, List, [], ◌∷◌, ◌++◌, length, drop, filter, Option, Some, None, if◌then◌else◌, IfSome, refl, ap, sym, subst, ◌∙◌, arith}
 use Rattle.std.specs.Borrow.{Bor}
 use Rattle.std.specs.Cmp.{IsEquivalence}

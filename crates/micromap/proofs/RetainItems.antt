@@ -1,4 +1,5 @@
--- The calls of a set's closure, from those of the closure that passes it the keys of the map.
+-- A set passes its map a closure that calls the set's own closure with each key. The calls of the one tell the calls of
+-- the other.
 use Rattle.std.proofs.Common.{Bool, List, [], ◌∷◌, ap, ◌∙◌}
 use Rattle.std.specs.List.{FoldsTo}
 use Rattle.std.specs.Map.{keys_of}

@@ -1,7 +1,7 @@
--- For callers: what each word on a set's items does to each way of reading them, as `MapLaws` has it of a map's pairs. A
--- law is named for what reads and for the word. What reads is a test of the items (`any`, whether one passes, and
--- `find`, the first that does), an item of one's own (`is_member`, `find_item`, `fits`), the number of items (`length`), and
--- that they are pairwise unequal (`unique`). The ruleset at the end has what a search needs of them.
+-- For callers: what each change of a set does to each way of reading it. `MapLaws` has the same for a map. The name of
+-- a law has the reader first and then the change. The readers are a test of the items (`any`, whether an item passes,
+-- and `find`, the first that does), a given item (`is_member`, `find_item`, `fits`), the number of items (`length`),
+-- and that they are pairwise unequal (`unique`). The ruleset at the end has the laws that a search needs.
 use Rattle.std.proofs.Common.{◌≡◌, ℕ, ◌+◌, ◌≤◌, ◌||◌, ◌&&◌, not, Bool, true, false, List, [], ◌∷◌, ◌++◌, filter, length, Some, None, is_some, if◌then◌else◌, refl, ap, sym, subst, ◌∙◌, arith}
 use Rattle.std.specs.List.{IsDistinct, find, list_all, list_any}
 use Rattle.std.specs.Map.{keys_of, lookup, lookup_entry}
@@ -19,7 +19,7 @@ use Rattle.micromap.specs.Extend.{put_all_items}
 use Rattle.micromap.specs.Items.{put_item, replace_item, find_item, item_fits, take_item}
 use Rattle.micromap.specs.Operations.{difference, intersection, symmetric_difference, union}
 use Rattle.micromap.proofs.EntryItems.{keys_of-entries}
-use Rattle.micromap.proofs.ItemLemmas.{put_item-keys, any-find, any-keys, replace_item-keys, find-keys, take-keys, take_item-keys}
+use Rattle.micromap.proofs.ItemLemmas.{keys_put_item, any-find, any-keys, replace_item-keys, find-keys, take-keys, take_item-keys}
 use Rattle.micromap.proofs.OperationLaws.{is_member-difference, is_member-intersection, is_member-symmetric_difference, is_member-union, within_is_member}
 
 length-entries : {T : Type 0} (items : List T) → length (entries_of items) ≡ length items
@@ -34,7 +34,7 @@ find-entries test items = ap (find test) (sym (keys_of-entries items)) ∙ find-
 -- what each word does to the pairs
 module _ {T : Type 0} (eq : T → T → Bool) (items : List T) (x : T) where
   entries-put_item : put_item eq items x ≡ keys_of (put eq (entries_of items) x tt)
-  entries-put_item = ap (λ l. put_item eq l x) (sym (keys_of-entries items)) ∙ put_item-keys eq x tt (entries_of items)
+  entries-put_item = ap (λ l. put_item eq l x) (sym (keys_of-entries items)) ∙ sym (keys_put_item eq x tt (entries_of items))
 
   entries-replace_item : replace_item eq items x ≡ keys_of (put_key eq (entries_of items) x tt)
   entries-replace_item = ap (λ l. replace_item eq l x) (sym (keys_of-entries items)) ∙ replace_item-keys eq x tt (entries_of items)

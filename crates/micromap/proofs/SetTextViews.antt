@@ -1,15 +1,19 @@
--- For callers: what the words on a set's items are on the texts of the items, which are known by their bytes.
+-- For callers: what each change of a set of texts does to the list of the texts' bytes.
 use Rattle.std.specs.Str.{bytes_eq}
-use Rattle.std.proofs.Common.{◌≡◌, ℕ, false, ◌||◌, List, [], ◌∷◌, length, map, String, is_some, refl, ap, sym, ◌∙◌, string_bytes, arith}
-use Rattle.std.specs.List.{AllByRecursion, IsDistinct, find, list_any}
+use Rattle.std.proofs.Common.{◌≡◌, ◌↔◌, ℕ, Bool, true, false, ◌&&◌, ◌||◌, inl, inr, List, [], ◌∷◌, length, map, String, is_some, refl, ap, sym, subst, ◌∙◌, string_bytes, arith}
+use Rattle.std.specs.List.{AllByRecursion, IsDistinct, find, list_all, list_any}
 use Rattle.std.specs.Option.{option_map}
 use Rattle.std.specs.Set.{swap_key, is_member, remove_key}
 use Rattle.std.specs.String.{string_eq}
+use Rattle.std.proofs.lemmas.Bool.{cases_Bool}
 use Rattle.std.proofs.lemmas.List.{length-map, map-append}
 use Rattle.micromap_core.specs.Probe.{is_text}
+use Rattle.micromap_core.specs.Same.{have_equal_items}
 use Rattle.micromap_core.specs.Texts.{item_texts}
+use Rattle.micromap_core.proofs.Equalities.{of_probes, probes_text, same_test}
 use Rattle.micromap.proofs.ItemLemmas.{any-find}
 use Rattle.micromap.specs.Items.{put_item, replace_item, find_item, take_item}
+use Rattle.micromap.specs.Operations.{HaveEquals}
 
 pub item_texts_empty : (Z : Type 0) → item_texts {Z = Z} [] ≡ []
 unfolding item_texts
@@ -69,4 +73,45 @@ module _ {Z : Type 0} where
     pub is_member_made : (x : String Z) (bs : List ℕ) → string_bytes x ≡ bs → (is_member bytes_eq (item_texts items) bs ≡ is_member bytes_eq (item_texts items) bs) × (is_member string_eq items x ≡ is_member bytes_eq (item_texts items) bs)
     is_member_made x bs is = (refl, sym (is_member_item_texts items (string_bytes x)) ∙ ap (is_member bytes_eq (item_texts items)) is)
 
-pub ruleset set_text_views = (item_texts_empty, is_member_item_texts, unique_item_texts, item_texts_replace_item, length_item_texts, item_texts_put_item, item_texts_take_item, item_texts_remove_key, find_item_item_texts, matched_item_texts, is_member_made)
+-- either no item passes a test, or one does
+by_items : {T : Type 0} (test : T → Bool) (items : List T) (P : Type 0) → (list_any test items ≡ false → P) → ((x : T) → test x ≡ true → P) → P
+by_items test [] P none some = none refl
+by_items test (x ∷ items) P none some = elim (cases_Bool (test x)) [
+  | inl passes ↦ some x passes
+  | inr fails ↦ by_items test items P (λ rest. none (grind (arith, fails, rest))) some
+]
+
+-- two sets have equal items exactly if they have equal texts; the two halves of `each_item_texts` are for a search
+module _ {Z : Type 0} where
+  within_item_texts : (a b : List (String Z)) → list_all (λ x. list_any (bytes_eq x) (item_texts b)) (item_texts a) ≡ list_all (λ x. list_any (string_eq x) b) a
+  unfolding item_texts
+  within_item_texts [] b = refl
+  within_item_texts (x ∷ a) b = λ i. is_member_item_texts b (string_bytes x) i && within_item_texts a b i
+
+  module _ (a b : List (String Z)) where
+    pub same_item_texts : have_equal_items bytes_eq (item_texts a) (item_texts b) ≡ have_equal_items string_eq a b
+    same_item_texts = λ i. within_item_texts a b i && within_item_texts b a i
+
+    -- by an item that has the text
+    member_at_item : (bs : List ℕ) (x : String Z) → is_text bs x ≡ true → is_member string_eq a x ≡ is_member string_eq b x → list_any (is_text bs) a ≡ list_any (is_text bs) b
+    member_at_item bs x matches are =
+        let p = of_probes string_eq (is_text bs) (probes_text Z bs) in
+        subst (λ test. list_any test a ≡ list_any test b) (sym (same_test string_eq (is_text bs) p.alike_keys p.equal_keys x matches)) are
+
+    pub each_item_texts : HaveEquals string_eq a b ↔ HaveEquals bytes_eq (item_texts a) (item_texts b)
+    each_item_texts = (
+      λ each bs. is_member_item_texts a bs
+          ∙ by_items (is_text bs) a _
+          (λ n. by_items (is_text bs) b _ (λ m. n ∙ sym m) (λ x matches. member_at_item bs x matches (each x)))
+          (λ x matches. member_at_item bs x matches (each x))
+          ∙ sym (is_member_item_texts b bs),
+      λ each x. sym (is_member_item_texts a (string_bytes x)) ∙ each (string_bytes x) ∙ is_member_item_texts b (string_bytes x),
+    )
+
+    pub each_item_text : HaveEquals string_eq a b → (bs : List ℕ) → is_member bytes_eq (item_texts a) bs ≡ is_member bytes_eq (item_texts b) bs
+    each_item_text = each_item_texts.0
+
+    pub each_text_item : HaveEquals bytes_eq (item_texts a) (item_texts b) → (x : String Z) → is_member string_eq a x ≡ is_member string_eq b x
+    each_text_item = each_item_texts.1
+
+pub ruleset set_text_views = (item_texts_empty, is_member_item_texts, unique_item_texts, item_texts_replace_item, length_item_texts, item_texts_put_item, item_texts_take_item, item_texts_remove_key, find_item_item_texts, matched_item_texts, is_member_made, same_item_texts, each_item_text, each_text_item)

@@ -1,7 +1,7 @@
--- A set that is given items, which are put one after the other by the rule of insertion.
+-- What a set is after items are put into it one after the other, and which item is the first that doesn't fit.
 use Rattle.std.specs.Prelude.{ℕ, Bool, List, []}
 use Rattle.std.specs.List.{fold}
-use Rattle.micromap_core.specs.Build.{each_fits, StopsAt}
+use Rattle.micromap_core.specs.Build.{each_fits, PutsEach, PutsUpTo, StopsAt}
 use Rattle.micromap.specs.Items.{put_item, item_fits}
 
 module _ {T : Type 0} (eq : T → T → Bool) where
@@ -20,3 +20,11 @@ module _ {T : Type 0} (eq : T → T → Bool) where
   -- `MisfitIn` of a set: the first of the items that doesn't fit stands at the position
   abbrev pub ItemMisfitIn : ℕ → List T → List T → ℕ → Type 0
   ItemMisfitIn N = StopsAt (item_fits eq N) (put_item eq)
+
+  -- `PutsAll` of a set: each of the items fits with the old ones there, and the new ones are `put_all_items` of them
+  abbrev pub PutsAllItems : ℕ → List T → List T → List T → Type 0
+  PutsAllItems N = PutsEach (item_fits eq N) (put_item eq)
+
+  -- `PutsBefore` of a set: the first that doesn't fit stands at the position, and those before it are put
+  abbrev pub PutsItemsBefore : ℕ → List T → List T → List T → ℕ → Type 0
+  PutsItemsBefore N = PutsUpTo (item_fits eq N) (put_item eq)

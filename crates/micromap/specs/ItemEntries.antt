@@ -1,4 +1,4 @@
--- A set as entries of a stream: its items as keys, each with the value `()`. A stream has of it what it has of a map.
+-- A set as entries of a stream. Each item is a key with the value `()`, so a stream of a set is one of a map.
 use Rattle.std.specs.Prelude.{ℕ, Bool, List, map, Option, Result}
 use Rattle.std.specs.Result.{result_map_both}
 use Rattle.micromap_core.specs.Stream.{MapReads}

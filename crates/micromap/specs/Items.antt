@@ -1,12 +1,16 @@
--- A set's content as the list of its items, from front to end, and what one insertion or removal makes of it. Items
--- are compared by eq, which need not be identity; N is the capacity.
+-- A set's content is the list of its items, from front to end. The words say what an insertion or a removal makes of
+-- it. Items are compared by eq, which need not be identity. N is the capacity.
 use Rattle.std.specs.Prelude.{ℕ, ◌≤◌, Bool, ◌||◌, List, [], ◌∷◌, ◌++◌, length, Option, if◌then◌else◌, nat_lt}
 use Rattle.std.specs.Borrow.{Bor}
 use Rattle.std.specs.Fn.{Mut, CalledAt, TakesAt}
-use Rattle.std.specs.List.{IsDistinct, find}
+use Rattle.std.specs.List.{IsDistinct, find, list_any}
 use Rattle.std.specs.Set.{is_member, remove_key, swap_key}
 use Rattle.micromap_core.specs.Closures.{AtEachTurn}
 use Rattle.micromap_core.specs.Equalities.{Lawful}
+
+-- whether an item that passes the test can be put: one is stored, or there is room
+abbrev pub item_fits_by : {T : Type 0} → (T → Bool) → ℕ → List T → Bool
+item_fits_by test N items = list_any test items || nat_lt (length items) N
 
 module _ {T : Type 0} (eq : T → T → Bool) where
   -- what a set of capacity N may hold
@@ -14,6 +18,10 @@ module _ {T : Type 0} (eq : T → T → Bool) where
     pub unique : IsDistinct eq items
     pub bounded : length items ≤ N
     pub lawful : Lawful eq
+
+  -- both lists are what a set of capacity N may hold
+  abbrev pub AreItems : ℕ → List T → List T → Type 0
+  AreItems N old new = IsItems N old × IsItems N new
 
   -- the stored item that equals x
   abbrev pub find_item : List T → T → Option T

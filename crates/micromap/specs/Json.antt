@@ -1,9 +1,11 @@
--- What a text has for a map or a set, by `serde_json`: an object's pairs or an array's texts, else the first fault.
+-- What `serde_json` reads in a text: the pairs of an object for a map, the texts of an array for a set, or the first
+-- fault.
 use Rattle.std.specs.Prelude.{◌≡◌, ◌⊎◌, codes, ℕ, ℤ, List, [], ◌∷◌, length, map, nat_lt, if◌then◌else◌, Option, Some, option_map, option_and_then, ok_or, Result, Ok, Err, String, string_bytes, bytes_eq}
+use Rattle.std.specs.List.{fold}
 use Rattle.std.specs.Ordering.{int_eq}
 use Rattle.std.specs.declared.alloc.Global.{Global}
-use Rattle.serde_json.specs.Data.{Data, Items, no_items, item, Members, no_members, member, string}
-use Rattle.serde_json.specs.Find.{as_array, as_i64, as_number, as_object, as_str}
+use Rattle.serde_json.specs.Data.{Data, Items, no_items, item, Members, no_members, member, number, put, string}
+use Rattle.serde_json.specs.Find.{as_array, as_i64, as_number, as_object, as_str, of_integer}
 use Rattle.serde_json.specs.Read.{read}
 use Rattle.serde_json.specs.View.{items_of}
 use Rattle.micromap.specs.Extend.{distinct}
@@ -97,3 +99,10 @@ HasPairs N text pairs = (members : List (Bytes × ℤ)) × (pairs_for N text ≡
 -- the array of the texts, in their order
 abbrev pub elements : List (String Global) → Items
 elements items = items_of (map (λ s. string (string_bytes s)) items)
+
+-- the members of the pairs, each a name with its number, in the order of an object
+abbrev pub put_member : Members → String Global × ℤ → Members
+put_member ms p = put (string_bytes p.0) (number (of_integer p.1)) ms
+
+abbrev pub members : Pairs → Members
+members pairs = fold put_member no_members pairs

@@ -1,4 +1,5 @@
--- The operations on two lists of items, compared by eq, what an iterator over one has left after a call, and its hints.
+-- The operations on two lists of items, which are compared by eq. For each operation there are its members, what its
+-- iterator has left after a call, and its hint.
 use Rattle.std.specs.Set.{is_member}
 use Rattle.std.specs.Prelude.{◌≡◌, ℕ, ◌+◌, ◌-◌, ◌^◌, min, Bool, not, List, [], ◌∷◌, ◌++◌, length, drop, filter, Option, Some, None, if◌then◌else◌, nat_lt}
 use Rattle.std.specs.Iterator.{YieldsFirstBy}

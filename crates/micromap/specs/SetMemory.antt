@@ -1,9 +1,16 @@
--- That a set's iterators by value fit in memory, for a caller that is generic in the items, as `Memory` has it of a map's.
+-- The conditions that a set and its iterators by value fit in memory. A caller that is generic in the items requires them
+-- if it makes a set, drains one or iterates one by value. `Memory` has the conditions for a map.
+use Rattle.std.specs.Prelude.{Bool}
 use Rattle.std.specs.Borrow.{RattleType}
 use Rattle.micromap_core.specs.Memory.{FitsInMemory}
+use Rattle.micromap.specs.contracts.set.Set as set
 use Rattle.micromap_walk.specs.contracts.owning.IntoKeys as into_keys
 use denote.Builtin.{unit}
 use denote.Param.{param}
 
-abbrev pub SetIntoIterFits : RattleType → RattleType → Type 0
-SetIntoIterFits T N = FitsInMemory (into_keys.the_row (param 0 T) unit (param 1 N))
+module _ (T N : RattleType) where
+  abbrev pub SetFits : (T.Denot → T.Denot → Bool) → Type 0
+  SetFits eq = FitsInMemory (set.the_row (param 0 T) (param 1 N) (record { eq = eq }))
+
+  abbrev pub SetIntoIterFits : Type 0
+  SetIntoIterFits = FitsInMemory (into_keys.the_row (param 0 T) unit (param 1 N))

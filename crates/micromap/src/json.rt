@@ -1,5 +1,5 @@
-//! Maps of texts to whole numbers, and sets of texts, as JSON. `serde_json` alone reads and writes the text: what it
-//! says of a text is what the contracts say.
+//! Maps of texts to whole numbers, and sets of texts, as JSON. `serde_json` reads and writes the text. The contracts
+//! say what it says of a text.
 ghost use Rattle.std.specs.Prelude.{◌≡◌, Some};
 ghost use Rattle.micromap.specs.Json.{code, message};
 ghost use Rattle.micromap.specs.declared.json.JsonFault.TheVariants.{Memory};

@@ -1,4 +1,6 @@
 //! The set: a list of at most `N` items, stored as the keys of a map.
+#![tactic(auto, using(crate::proofs::Forwarded::forwarded))]
+
 ghost use Rattle.std.specs.Prelude.{◌≡◌, ◌==◌, [], length};
 ghost use Rattle.std.specs.Option.{option_copied, option_map};
 ghost use Rattle.std.specs.Set.{is_member};

@@ -1,5 +1,6 @@
--- Items that are put one after the other: one more, and all of them. A content that is built has one key for each
--- distinct key of its items, so they all fit where there are few of those. All of it is about any container (`IsKeyed`).
+-- Items are put into a container one after the other: what one more item does, and what all of them do. The container
+-- has one key for each distinct key of the items. So all items fit if they have few distinct keys. Each lemma is about
+-- any container that is `IsKeyed`.
 use Rattle.std.proofs.Common.{◌≡◌, ℕ, zero, suc, ◌+◌, ◌<◌, ◌≤◌, nat_lt, Bool, true, false, ◌&&◌, ◌||◌, not, List, [], ◌∷◌, ◌++◌, length, get_or, take, Option, Some, None, is_some, if◌then◌else◌, IsTrue, refl, ap, sym, subst, ◌∙◌, arith, nat_le, ◌⊎◌, inl, inr, map}
 use Rattle.std.specs.Cmp.{first_so, second_so, IsEquivalence}
 use Rattle.std.specs.Cmp.Derive.{both_true}
@@ -12,7 +13,7 @@ use Rattle.std.proofs.iter.runs.Made.{run_of_turn}
 use Rattle.std.proofs.lemmas.Bool.{cases_Bool, ltb-false, lt-leb, le-leb, leb-true, leb-false, not-true}
 use Rattle.std.proofs.lemmas.List.{length_push, take_all, take_at, take_more, length-map, length-take}
 use Rattle.std.proofs.lemmas.List.Sums.{fold_push}
-use Rattle.micromap_core.specs.Build.{each_fits, StopsAt, pair_fits, put_pair}
+use Rattle.micromap_core.specs.Build.{each_fits, PutsEach, PutsUpTo, pair_fits, put_pair}
 use Rattle.std.specs.Map.{keys_of}
 use Rattle.std.specs.Set.{distinct_count, is_member}
 use Rattle.std.proofs.lemmas.Bool.Decides.{leb_tells}
@@ -48,7 +49,7 @@ module _ {C X : Type 0} (fits : C → X → Bool) (put : C → X → C) where
     pub made : now ≡ fold put old items
     pub position_is : position ≡ length items
 
-  each_fits-push : (old : C) (items : List X) (x : X) → each_fits fits put old (items ++ x ∷ []) ≡ (each_fits fits put old items && fits (fold put old items) x)
+  pub each_fits-push : (old : C) (items : List X) (x : X) → each_fits fits put old (items ++ x ∷ []) ≡ (each_fits fits put old items && fits (fold put old items) x)
   each_fits-push old [] x = and-true (fits old x)
   each_fits-push old (y ∷ items) x = ap (λ b. fits old y && b) (each_fits-push (put old y) items x) ∙ sym (and_assoc (fits old y) _ _)
 
@@ -62,21 +63,20 @@ module _ {C X : Type 0} (fits : C → X → Bool) (put : C → X → C) where
     }
 
     -- one that doesn't fit: the iterator ran up to it, and what came before it is put
-    pub run_stops : {S : Type 0} (steps : S → Option X → S → Type 0) (it rest : S) → fits now x ≡ false → YieldsThen steps it items (Some x) rest → SomeRun steps it (λ p. (p.len ≡ position + 1) × StopsAt fits put old p.items position) × SomeRun steps it (λ p. (p.len ≡ position + 1) × (new ≡ fold put old (take position p.items)))
+    pub run_stops : {S : Type 0} (steps : S → Option X → S → Type 0) (it rest : S) → fits now x ≡ false → YieldsThen steps it items (Some x) rest → SomeRun steps it (λ p. (p.len ≡ position + 1) × PutsUpTo fits put old new p.items position)
     run_stops steps it rest misfit gave =
         let turn = run_of_turn steps it items gave.0 gave.1 x rest gave.2 in
         let long = turn.2.1 ∙ ap (λ n. n + 1) (sym has.position_is) in
         let front : take position turn.0.items ≡ items = ap (take position) turn.2.0 ∙ take_at items (x ∷ []) position (sym has.position_is) in
         let whole : take (position + 1) turn.0.items ≡ items ++ x ∷ [] = ap (take (position + 1)) turn.2.0 ∙ take_all (position + 1) (items ++ x ∷ []) (omega (arith, length_push items x, has.position_is)) in
         let last : fits (fold put old items) x ≡ false = ap (λ c. fits c x) (sym has.made) ∙ misfit in
-        let stops : IsTrue (not (each_fits fits put old (items ++ x ∷ []))) = grind (arith, each_fits-push old items x, last) in (
-          (turn.0, turn.1, (long, (ap (each_fits fits put old) front ∙ has.fit, ap (λ l. not (each_fits fits put old l)) whole ∙ stops))),
-          (turn.0, turn.1, (long, next ∙ ap (λ b. if b then put now x else now) misfit ∙ has.made ∙ sym (ap (fold put old) front))),
-        )
+        let stops : IsTrue (not (each_fits fits put old (items ++ x ∷ []))) = grind (arith, each_fits-push old items x, last) in
+        let made : new ≡ fold put old (take position turn.0.items) = next ∙ ap (λ b. if b then put now x else now) misfit ∙ has.made ∙ sym (ap (fold put old) front) in
+        (turn.0, turn.1, (long, ((ap (each_fits fits put old) front ∙ has.fit, ap (λ l. not (each_fits fits put old l)) whole ∙ stops), made)))
 
   -- all of them
-  pub run_puts : {S : Type 0} (steps : S → Option X → S → Type 0) (it : S) (old now : C) (items : List X) (position : ℕ) → HasPut old items position now → Drains steps it items → WholeRun steps it (λ p. now ≡ fold put old p.items)
-  run_puts steps it old now items position has gave = total_runs steps it _ (λ items. now ≡ fold put old items) (items, λ _. gave, has.made) (tt {0})
+  pub run_puts : {S : Type 0} (steps : S → Option X → S → Type 0) (it : S) (old now : C) (items : List X) (position : ℕ) → HasPut old items position now → Drains steps it items → WholeRun steps it (λ p. PutsEach fits put old now p.items)
+  run_puts steps it old now items position has gave = total_runs steps it _ (PutsEach fits put old now) (items, λ _. gave, (has.fit, has.made)) (tt {0})
 
   -- the item of a list at an index
   module _ (old : C) (items : List X) (index : ℕ) (d : X) (now : C) (within : index < length items) (made : now ≡ fold put old (take index items)) where

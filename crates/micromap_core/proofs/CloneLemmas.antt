@@ -1,4 +1,4 @@
--- Clones of the first pairs of a map: their keys stay pairwise unequal.
+-- The clones of a map's first pairs have pairwise unequal keys.
 use Rattle.std.proofs.Common.{◌≡◌, ◌<◌, ◌≤◌, ◌+◌, ℕ, zero, suc, Bool, false, All, List, [], ◌∷◌, ◌++◌, length, IsTrue, sym, subst, ◌∙◌, arith}
 use Rattle.std.specs.Prelude.{slice_get, Some, take}
 use Rattle.std.specs.Cmp.{IsEquivalence}

@@ -1,5 +1,6 @@
--- One step of each loop that calls a closure, and its end. For callers: the order of the keys after `retain`, and the
--- plain list after `update_all` or `update_disjoint` with a closure that changes nothing that it captures.
+-- One turn of each loop that calls a closure, and the end of the loop. For callers: which keys `retain` keeps and in
+-- which order, and the plain list that `update_all` or `update_disjoint` leaves if the closure changes nothing that it
+-- captures.
 use Rattle.std.proofs.Common.{◌≡◌, ℕ, suc, ◌+◌, ◌≤◌, Bool, true, false, cond, List, [], ◌∷◌, ◌++◌, length, take, drop, set, slice_get, refl, ap, sym, ◌∙◌, append-nil, append_assoc, arith, add-one, ◌<◌, get_or, map, Some, None, is_some, zero-add, Option, MatchOption, subst}
 use Rattle.std.specs.Borrow.{Bor, MutBor}
 use Rattle.std.specs.Fn.{Mut}

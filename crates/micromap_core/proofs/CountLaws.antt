@@ -1,6 +1,5 @@
--- For callers: how many distinct keys a list has with one more, that a map has one key for each distinct key that was put,
--- and what a counter has. The ruleset `count_laws` is for a counter, and for a map into which a loop
--- puts a list.
+-- For callers: how many distinct keys a list has with one more, how many keys a map has after a list is put into it,
+-- and what a counter has. The ruleset `count_laws` is for a counter, and for a map into which a loop puts a list.
 use Rattle.std.proofs.Common.{◌≡◌, ℕ, ◌+◌, ◌<◌, ◌≤◌, ◌||◌, Bool, true, false, List, [], ◌∷◌, ◌++◌, length, get_or, take, drop, unwrap_or, cond, if◌then◌else◌, refl, ap, sym, subst, ◌∙◌, append_assoc, arith}
 use Rattle.std.specs.List.{count_by, fold, list_any}
 use Rattle.std.specs.Map.{keys_of}

@@ -1,5 +1,5 @@
--- Pairwise unequal items: parts of their list and lists put together, and how many of them another list has. For callers:
--- `IsDistinct-sublist`.
+-- Lists of pairwise unequal items: parts of a list, two lists one after the other, and how many items of a list another
+-- one has. For callers: `IsDistinct-sublist`.
 use Rattle.std.proofs.Common.{◌≡◌, ◌≢◌, ◌<◌, ◌≤◌, Bool, true, false, ◌&&◌, ◌||◌, List, [], ◌∷◌, ◌++◌, filter, get_or, length, refl, ap, sym, subst, ◌∙◌, arith}
 use Rattle.std.specs.Cmp.{IsEquivalence, second_so}
 use Rattle.std.specs.Cmp.Derive.{both_true}

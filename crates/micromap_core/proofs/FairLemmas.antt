@@ -1,6 +1,6 @@
--- From two lists that are the same, with unequal keys, every fair list of calls gets answers that agree, and leaves the
--- two the same; two that differ are told apart by one look-up. Only what the calls do to look-ups is used. For callers:
--- `fair_where_fits`, and the ruleset `same_laws` for two maps that are the same.
+-- Two lists with unequal keys that are the same get answers that agree from every fair list of calls, and are the same
+-- afterwards. Two lists that differ are told apart by one look-up. The proofs use only what the calls do to look-ups.
+-- For callers: `fair_where_fits`, and the ruleset `same_laws` for two maps that are the same.
 use Rattle.std.proofs.Common.{◌≡◌, ◌≢◌, ℕ, Bool, true, false, ◌||◌, List, [], ◌∷◌, length, Option, Some, None, if◌then◌else◌, nat_eq, eq-eqb, IsTrue, IsFalse, refl, ap, sym, subst, ◌∙◌, ◌↔◌, arith}
 use Rattle.std.specs.Bool.{beq, OnTrue}
 use Rattle.std.specs.Cmp.{IsEquivalence, bool_eq_equiv, both_ways, first_so}

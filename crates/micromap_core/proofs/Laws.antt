@@ -1,5 +1,5 @@
--- For callers: what the lengths of two lists with unequal items, or with unequal keys, tell of the two, and that sameness
--- is an equivalence. `Lawful` and the unequal items or keys come from a map's or a set's `content`.
+-- For callers: what the lengths of two lists with unequal items, or with unequal keys, tell of the two. Sameness is an
+-- equivalence. A map's or a set's `content` has the premises: `Lawful`, and the unequal items or keys.
 use Rattle.std.proofs.Common.{◌≡◌, ◌<◌, ◌≤◌, ◌↔◌, Bool, true, false, not, ◌&&◌, ◌||◌, IsTrue, List, [], ◌∷◌, filter, length, ap, ◌∙◌, inl, inr, arith}
 use Rattle.std.specs.Cmp.{IsEquivalence, first_so, second_so}
 use Rattle.std.specs.Cmp.Derive.{both_true}

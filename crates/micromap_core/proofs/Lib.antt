@@ -1,5 +1,6 @@
 pub mod BuildLemmas
 pub mod CloneLemmas
+pub mod ContentLemmas
 pub mod SlotsLemmas
 pub mod ClosureLemmas
 pub mod CountLaws
@@ -10,8 +11,11 @@ pub mod ScanLemmas
 pub mod Laws
 pub mod FairLemmas
 pub mod Lists
+pub mod LoopLaws
+pub mod Opened
 pub mod MapLawLemmas
 pub mod MapLaws
+pub mod MergeLaws
 pub mod MisfitLemmas
 pub mod SameLemmas
 pub mod PairsLemmas

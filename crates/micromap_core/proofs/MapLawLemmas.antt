@@ -1,4 +1,4 @@
--- The inductions behind `MapLaws`: what a probe finds in a list that a word on pairs makes.
+-- The inductions behind `MapLaws`: what a test finds in the list that a change of a map makes.
 use Rattle.std.proofs.Common.{◌≡◌, ℕ, ◌+◌, Bool, true, false, not, List, [], ◌∷◌, ◌++◌, filter, length, reverse, Option, Some, None, is_some, if◌then◌else◌, refl, arith}
 use Rattle.std.specs.List.{IsDistinct, AllByRecursion}
 use Rattle.std.specs.Map.{keys_of, lookup, lookup_entry, remove_entry, set_value, set_key}

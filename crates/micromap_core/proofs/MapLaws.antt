@@ -1,8 +1,8 @@
--- For callers: what each word on a map's pairs does to each way of reading them. A law is named for what reads and for
--- the word, as `lookup_put` and `length_take_out`. What reads is a look-up of the value (`lookup`) or of the pair
--- (`pair`) by a test, and of the keys' own `at`, `has` and `fits`, the number of pairs (`length`), and that keys are
--- pairwise unequal (`unique`). The ruleset at the end has what a search needs of them.
-use Rattle.std.proofs.Common.{◌≡◌, ℕ, ◌+◌, ◌||◌, Bool, true, not, List, [], ◌∷◌, ◌++◌, filter, length, reverse, Some, None, is_some, get_or, if◌then◌else◌, refl, ap, sym, subst, ◌∙◌, arith, ◌≤◌, false, String}
+-- For callers: what each change of a map does to each way of reading it. The name of a law has the reader first and
+-- then the change, as `lookup_put` and `length_take_out`. The readers are look-ups by a test (`lookup` of the value,
+-- `pair` of the pair), look-ups by a key (`at`, `has`, `fits`), the number of pairs (`length`), and that keys are
+-- pairwise unequal (`unique`). The ruleset at the end has the laws that a search needs.
+use Rattle.std.proofs.Common.{◌≡◌, ℕ, ◌+◌, ◌||◌, Bool, true, not, List, [], ◌∷◌, ◌++◌, filter, length, reverse, Some, None, is_some, get_or, if◌then◌else◌, refl, ap, sym, subst, ◌∙◌, inl, inr, arith, ◌≤◌, false, String}
 use Rattle.std.specs.List.{fold, list_all, IsDistinct}
 use Rattle.std.specs.Map.{keys_of, lookup, lookup_entry, remove_entry, set_value}
 use Rattle.std.specs.Option.{option_eq, option_map, option_map_or, option_or, unwrap_or}
@@ -13,6 +13,7 @@ use Rattle.std.proofs.lemmas.List.Sums.{list_all-from_AllPass}
 use Rattle.std.proofs.lemmas.Map.Entries.{length-keys_of, lookup_from_place, option_filter, none_past_head}
 use Rattle.std.proofs.lemmas.Map.{keys-set_value, length-set_value, lookup-none}
 use Rattle.std.proofs.lemmas.Map.Made.{IsDistinct-keys_filter, All-is_member, is_some-lookup}
+use Rattle.std.proofs.lemmas.Bool.{cases_Bool}
 use Rattle.std.proofs.lemmas.Bool.Decides.{nat_tests}
 use Rattle.std.proofs.lemmas.Map.Steps.{set_value_same}
 use Rattle.std.proofs.lemmas.Option.{slice_get-get_or}
@@ -181,6 +182,17 @@ module _ {K V : Type 0} (eq : K → K → Bool) where
   pub unique_build : (items : List (K × V)) → Lawful eq → IsUnique eq (build eq items)
   unique_build items laws = (keys-built (of_lawful eq laws) (pairs_keyed eq 0) items).0
 
+  -- the key of the pair that is found equals the one that was looked for, and is the same key if the equality is exact
+  pub pair_key : (pairs : List (K × V)) (k : K) (p : K × V) → pair eq pairs k ≡ Some p → eq k p.0 ≡ true
+  pair_key [] k p found = cc
+  pair_key (e ∷ pairs) k p found = elim (cases_Bool (eq k e.0)) [
+    | inl here ↦ (let same : Some e ≡ Some p = sym (ap (λ b. if b then Some e else pair eq pairs k) here) ∙ found in let is : e ≡ p = cc in subst (λ q. eq k q.0 ≡ true) is here)
+    | inr not_here ↦ pair_key pairs k p (sym (ap (λ b. if b then Some e else pair eq pairs k) not_here) ∙ found)
+  ]
+
+  pub stored_key : ((x y : K) → eq x y ≡ true → x ≡ y) → (pairs : List (K × V)) (k : K) (p : K × V) → pair eq pairs k ≡ Some p → p.0 ≡ k
+  stored_key exact pairs k p found = sym (exact k p.0 (pair_key pairs k p found))
+
   -- what changes nothing: a put of the value that is stored, and a removal of a key that isn't
   pub put_back : (pairs : List (K × V)) (k : K) (v : V) → at eq pairs k ≡ Some v → put eq pairs k v ≡ pairs
   unfolding put
@@ -281,4 +293,4 @@ module _ {K V : Type 0} (eq : K → K → Bool) (pairs items : List (K × V)) wh
   pub each_put_all : Lawful eq → (put_all eq pairs items ≡ put_all eq pairs items) × ((q : K) → at eq (put_all eq pairs items) q ≡ option_or (at eq (reverse items) q) (at eq pairs q)) × (IsUnique eq items → (q : K) → at eq (put_all eq pairs items) q ≡ option_or (at eq items q) (at eq pairs q)) × ((q : K) → has eq (put_all eq pairs items) q ≡ (has eq items q || has eq pairs q))
   each_put_all laws = (refl, λ q. at_put_all eq pairs items q laws, λ unequal q. at_put_all_unequal eq pairs items q laws unequal, λ q. has_put_all eq pairs items q laws)
 
-pub ruleset map_laws = (keys_put, put_new, put_stored, not_fits, at_first, has_behind, take_out_first, lookup_put_all, lookup_put_all_unequal, is_some-lookup, pair_put, lookup_put, pair_put_key, lookup_put_key, pair_take_out, lookup_take_out, pair_build, lookup_build, pair_filter, lookup_filter, length_put, length_put_key, length_take_out, keys_take_out, length_build, unique_put, unique_put_key, unique_take_out, unique_build, IsDistinct-keys_filter, put_back, put_again, take_out_missing, set_value_missing, remove_entry_missing, length-set_value, length-remove_entry, lookup-set, keys_remove_entry, lookup_remove_entry, lookup_remove_text, unique_set_value, unique_remove_entry, each_put, each_put_key, each_take_out, each_put_all, at_walked, has_walked, equalities)
+pub ruleset map_laws = (pair_key, keys_put, put_new, put_stored, not_fits, at_first, has_behind, take_out_first, lookup_put_all, lookup_put_all_unequal, is_some-lookup, pair_put, lookup_put, pair_put_key, lookup_put_key, pair_take_out, lookup_take_out, pair_build, lookup_build, pair_filter, lookup_filter, length_put, length_put_key, length_take_out, keys_take_out, length_build, unique_put, unique_put_key, unique_take_out, unique_build, IsDistinct-keys_filter, put_back, put_again, take_out_missing, set_value_missing, remove_entry_missing, length-set_value, length-remove_entry, lookup-set, keys_remove_entry, lookup_remove_entry, lookup_remove_text, unique_set_value, unique_remove_entry, each_put, each_put_key, each_take_out, each_put_all, at_walked, has_walked, equalities)

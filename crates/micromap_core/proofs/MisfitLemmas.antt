@@ -1,6 +1,7 @@
--- For callers: where the items of an iterator are known, the place at which a misfit stands is its place in them, and they
--- have more distinct keys than there is room for.
+-- For callers: if the items of an iterator are known as a list, the first item that doesn't fit has its position in
+-- that list. The list then has more distinct keys than there is room for.
 use Rattle.std.proofs.Common.{◌≡◌, ℕ, ◌+◌, ◌<◌, ◌≤◌, Bool, List, [], length, take, slice_index_or, Option, Some, Result, Ok, Err, IfErr, sym, ap, subst, ◌∙◌, arith}
+use Rattle.std.specs.List.{fold}
 use Rattle.std.specs.Option.{option_map}
 use Rattle.std.specs.Iterator.Runs.{EveryRun, ItemsAre, Run, SomeRun}
 use Rattle.std.proofs.lemmas.Bool.{leb-false, not-true}
@@ -9,7 +10,7 @@ use Rattle.std.proofs.lemmas.List.{same_lists, take-map}
 use Rattle.std.proofs.lemmas.Result.{IfErr-weaker}
 use Rattle.std.specs.Map.{keys_of}
 use Rattle.std.specs.Set.{distinct_count}
-use Rattle.micromap_core.specs.Build.{pair_fits, put_pair, MisfitIn, StopsAt, put_all}
+use Rattle.micromap_core.specs.Build.{pair_fits, put_pair, MisfitIn, PutsBefore, PutsUpTo, StopsAt, put_all}
 use Rattle.micromap_core.specs.Equalities.{Lawful}
 use Rattle.micromap_core.proofs.CountLaws.{distinct_prefix, put_all_grows}
 use Rattle.micromap_core.proofs.BuildLemmas.{many_prefix, pairs_keyed, each_fits-count}
@@ -25,19 +26,26 @@ run_taken p xs few reads = same_lists p.items (take p.len xs) (grind (arith, com
     grind (arith, common_steps, same, within))
 
 module _ {C X S : Type 0} (fits : C → X → Bool) (put : C → X → C) (content : C) {steps : S → Option X → S → Type 0} (rest : S → List X) {s : S} {xs : List X} where
-  pub stops_in : (at : ℕ) (p : Run steps) → p.from ≡ s → EveryRun steps (λ q. ItemsAre q (rest q.from)) → rest s ≡ xs → p.len ≡ at + 1 → StopsAt fits put content p.items at → StopsAt fits put content xs at
-  stops_in at p from reads left long stops =
+  first_in : (at : ℕ) (p : Run steps) → p.from ≡ s → EveryRun steps (λ q. ItemsAre q (rest q.from)) → rest s ≡ xs → p.len ≡ at + 1 → (take at p.items ≡ take at xs) × (take (at + 1) p.items ≡ take (at + 1) xs)
+  first_in at p from reads left long =
       let shown = reads p p.seen in
       let are : rest p.from ≡ xs = ap rest from ∙ left in
       let taken : p.items ≡ take p.len xs = subst (λ l. p.items ≡ take p.len l) are (run_taken p (rest p.from) shown.0 shown.2) in
-      let short : take at p.items ≡ take at xs = grind (arith, common_steps, taken, long) in
-      let all : take (at + 1) p.items ≡ take (at + 1) xs = grind (arith, common_steps, taken, long) in
-      rw (← short, ← all) stops
+      (grind (arith, common_steps, taken, long), grind (arith, common_steps, taken, long))
 
-  -- the facts are the clauses `runs` and `rest` of the iterator, and `stops` of the call that it is handed to
+  stops_in : (at : ℕ) (p : Run steps) → p.from ≡ s → EveryRun steps (λ q. ItemsAre q (rest q.from)) → rest s ≡ xs → p.len ≡ at + 1 → StopsAt fits put content p.items at → StopsAt fits put content xs at
+  stops_in at p from reads left long stops = let first = first_in at p from reads left long in rw (← first.0, ← first.1) stops
+
+  -- after an error of `try_from_iter`. The facts are the clauses `runs` and `rest` of the iterator, and `stops` of the call
   pub misfit_in : {E Y : Type 0} (at : E → ℕ) (r : Result Y E) → EveryRun steps (λ q. ItemsAre q (rest q.from)) → rest s ≡ xs → IfErr r (λ e. SomeRun steps s (λ p. (p.len ≡ at e + 1) × StopsAt fits put content p.items (at e))) → IfErr r (λ e. StopsAt fits put content xs (at e))
   misfit_in at (Ok y) reads left stops = tt
   misfit_in at (Err e) reads left stops = stops_in (at e) stops.0 stops.1 reads left stops.2.0 stops.2.1
+
+  -- after an error of `try_extend`, from the same facts: what is put before the misfit, too
+  pub put_before_in : {E Y : Type 0} (new : C) (at : E → ℕ) (r : Result Y E) → EveryRun steps (λ q. ItemsAre q (rest q.from)) → rest s ≡ xs → IfErr r (λ e. SomeRun steps s (λ p. (p.len ≡ at e + 1) × PutsUpTo fits put content new p.items (at e))) → IfErr r (λ e. PutsUpTo fits put content new xs (at e))
+  put_before_in new at (Ok y) reads left stops = tt
+  put_before_in new at (Err e) reads left stops =
+      (stops_in (at e) stops.0 stops.1 reads left stops.2.0 stops.2.1.0, stops.2.1.1 ∙ ap (fold put content) (first_in (at e) stops.0 stops.1 reads left stops.2.0).0)
 
 module _ {K V : Type 0} (eq : K → K → Bool) (N : ℕ) where
   -- items one of which doesn't fit have more than N distinct keys
@@ -61,5 +69,5 @@ module _ {K V : Type 0} {eq : K → K → Bool} {N : ℕ} {pairs : List (K × V)
       let many = leb-false _ N (sym fit ∙ not-true _ stops.1) in
       omega (arith, many, length-keys_of (put_all eq pairs first), put_all_grows eq pairs items (at + 1) content.lawful content.unique)
 
-  pub refused_is_many : {S E Y : Type 0} {steps : S → Option (K × V) → S → Type 0} (rest : S → List (K × V)) {s : S} {xs : List (K × V)} (at : E → ℕ) (r : Result Y E) → EveryRun steps (λ q. ItemsAre q (rest q.from)) → rest s ≡ xs → IfErr r (λ e. SomeRun steps s (λ p. (p.len ≡ at e + 1) × MisfitIn eq N pairs p.items (at e))) → IfErr r (λ e. N < length (put_all eq pairs xs))
-  refused_is_many rest {xs = xs} at r reads left stops = IfErr-weaker r (λ e. MisfitIn eq N pairs xs (at e)) (λ e. N < length (put_all eq pairs xs)) (λ e. stopped_many xs (at e)) (misfit_in (pair_fits eq N) (put_pair eq) pairs rest at r reads left stops)
+  pub refused_is_many : {S E Y : Type 0} {steps : S → Option (K × V) → S → Type 0} (rest : S → List (K × V)) {s : S} {xs : List (K × V)} (new : List (K × V)) (at : E → ℕ) (r : Result Y E) → EveryRun steps (λ q. ItemsAre q (rest q.from)) → rest s ≡ xs → IfErr r (λ e. SomeRun steps s (λ p. (p.len ≡ at e + 1) × PutsBefore eq N pairs new p.items (at e))) → IfErr r (λ e. N < length (put_all eq pairs xs))
+  refused_is_many rest {xs = xs} new at r reads left stops = IfErr-weaker r (λ e. PutsBefore eq N pairs new xs (at e)) (λ e. N < length (put_all eq pairs xs)) (λ e puts. stopped_many xs (at e) puts.0) (put_before_in (pair_fits eq N) (put_pair eq) pairs rest new at r reads left stops)

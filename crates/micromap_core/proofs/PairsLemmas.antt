@@ -1,5 +1,5 @@
--- Facts about lists of pairs: what a look-up, an insertion and a removal do where a key passes a test and where none
--- does, and that keys stay pairwise unequal.
+-- Lists of pairs: what a look-up, an insertion and a removal do if a key passes a test, and if none does. Keys stay
+-- pairwise unequal.
 use Rattle.std.proofs.Common.{◌≡◌, ℕ, zero, suc, Bool, true, false, List, [], ◌∷◌, ◌++◌, get_or, set, Some, None, slice_get, slice_set, if◌then◌else◌, refl, ap, sym, subst, ◌∙◌, arith}
 use Rattle.std.specs.List.{AllByRecursion, IsDistinct, remove}
 use Rattle.std.specs.Cmp.{IsEquivalence}

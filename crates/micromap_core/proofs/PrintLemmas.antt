@@ -1,4 +1,4 @@
--- One step of printing a list in braces, for a container over the map too.
+-- One step of printing a list in braces. A container over the map can cite it too.
 use Rattle.std.proofs.Common.{◌≡◌, ℕ, List, [], ◌∷◌, Option, Some, None, Result, Ok, Err, IsErr, codes, refl, ap, sym, subst, ◌∙◌, IfSome}
 use Rattle.std.specs.Fmt.{◌++?◌, DisplaysOnOk, DisplaysStyledOnOk, HasWrittenStyled, WritesStyledOnOk, WritesText, debug_items, comma_space, formatter_spec}
 use Rattle.std.specs.List.{FoldsTo, concat}

@@ -1,6 +1,6 @@
--- Sameness of lists whose keys are pairwise unequal is that every key finds equal values in both, or none in either. So
--- equally long lists are the same where the one has an equal value at each key of the other: by a count of the keys,
--- nothing is left to test on the other side.
+-- Two lists with pairwise unequal keys are the same exactly if every key finds equal values in both, or none in either.
+-- If the lists are equally long, one side is enough: they are the same if one has an equal value at each key of the
+-- other. That follows by counting keys.
 use Rattle.std.proofs.Common.{◌≡◌, Bool, true, List, [], ◌∷◌, Option, Some, None, is_some, not, get_or, refl, ap, sym, subst, ◌∙◌, ◌↔◌, IfSome, IsNone, IsFalse, slice_get, arith, ◌≢◌, ◌≤◌, ◌&&◌, ◌||◌, if◌then◌else◌, filter, nat_eq, ℕ, IsTrue, length}
 use Rattle.std.specs.Cmp.{IsEquivalence, first_so, second_so}
 use Rattle.std.specs.Cmp.Derive.{both_true}

@@ -1,8 +1,8 @@
--- What follows from the index of the first key that passes a test, or from there being none, by one induction for all
--- words; and a scan that counts as it goes.
-use Rattle.std.proofs.Common.{◌≡◌, ℕ, zero, suc, ◌+◌, ◌<◌, ◌≤◌, Bool, true, false, not, cond, List, [], ◌∷◌, length, Some, None, refl, ap, arith, if◌then◌else◌}
+-- What each word on pairs is at the index of the first key that passes a test, and what it is if no key passes. One
+-- induction proves it for all words. The last lemmas are about a scan that counts as it goes.
+use Rattle.std.proofs.Common.{◌≡◌, ℕ, zero, suc, ◌+◌, ◌<◌, ◌≤◌, Bool, true, false, not, cond, List, [], ◌∷◌, length, Option, Some, None, IfSome, IfNone, is_some, refl, ap, sym, arith, if◌then◌else◌}
 use Rattle.std.specs.List.{position_or_len, position}
-use Rattle.std.specs.Map.{keys_of}
+use Rattle.std.specs.Map.{keys_of, lookup}
 use Rattle.std.proofs.lemmas.Bool.Decides.{nat_tests}
 use Rattle.std.proofs.lemmas.List.{length-map}
 use Rattle.micromap_core.specs.Found.{FoundAt, NotFound}
@@ -105,3 +105,8 @@ module _ {K : Type 0} {test : K → Bool} {count : ℕ} {left all : List K} (sca
   not_yet-missing none =
       let past : position_or_len test all ≡ length all = omega (arith, scan.counted, scan.first, ap length none, ap (position_or_len test) none) in
       grind (arith, common_steps, past)
+
+-- an index is answered where there is a value
+pub is_found : {K V : Type 0} (test : K → Bool) (pairs : List (K × V)) (o : Option ℕ) → IfSome o (FoundAt test pairs) → IfNone o (NotFound test pairs) → is_some o ≡ is_some (lookup test pairs)
+is_found test pairs None found missing = ap is_some (sym missing.value)
+is_found test pairs (Some i) found missing = ap is_some (sym found.value)

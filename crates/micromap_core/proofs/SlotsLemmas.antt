@@ -1,4 +1,4 @@
--- Facts about filled slots and the items in them, and about two columns of one length and the pairs that they are.
+-- Facts about filled slots and the items in them, and about two columns of equal length and their pairs.
 use Rattle.std.proofs.Common.{◌≡◌, ℕ, ◌<◌, List, [], ◌∷◌, ◌++◌, length, get_or, set, take, map, Option, Some, None, is_some, slice_get, ap, sym, ◌∙◌, zero, suc, slice_set, refl, arith}
 use Rattle.std.specs.List.{remove, swap, zip}
 use Rattle.std.proofs.lemmas.Bool.{false≢true}

@@ -1,4 +1,4 @@
--- One step of writing to a sink and of reading from a source, and their ends.
+-- One turn of a loop that writes to a sink or reads from a source, and the end of the loop.
 use Rattle.std.proofs.Common.{◌≡◌, ℕ, suc, Bool, true, false, not, List, [], ◌∷◌, ◌++◌, length, take, Option, Result, Ok, Err, if◌then◌else◌, IsTrue, refl, ap, sym, subst, ◌∙◌, append_assoc, arith}
 use Rattle.std.specs.Cmp.{IsEquivalence}
 use Rattle.std.specs.List.{fold, IsDistinct}

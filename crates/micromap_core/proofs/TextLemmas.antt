@@ -1,4 +1,5 @@
--- For callers: a set's text is known where the texts of its items are, and a map's where those of its keys and values are.
+-- For callers: the text of a set is known if the texts of its items are. The text of a map is known if the texts of its
+-- keys and values are.
 use Rattle.std.proofs.Common.{◌≡◌, ℕ, true, List, [], ◌∷◌, Option, Some, None, is_some, codes, refl}
 use Rattle.std.specs.Fmt.{◌++?◌, debug_items, comma_space}
 use Rattle.std.proofs.lemmas.Bool.{false≢true}

@@ -1,9 +1,9 @@
--- For callers: what the words on a map's pairs are on its texts, which are known by their bytes. The values are seen by
--- any `read`: `key_texts` sees them as they are, and `texts` by their bytes.
-use Rattle.std.proofs.Common.{◌≡◌, ℕ, true, false, List, [], ◌∷◌, ◌++◌, codes, length, String, Some, is_some, refl, ap, sym, ◌∙◌, string_bytes, arith}
-use Rattle.std.specs.List.{AllByRecursion, IsDistinct}
+-- For callers: what each change of a map with texts as keys does to the list that has the keys' bytes. The laws hold
+-- for any way `read` of seeing a value: `key_texts` sees values as they are, and `texts` sees them by their bytes.
+use Rattle.std.proofs.Common.{◌≡◌, ◌↔◌, ℕ, Bool, true, false, ◌&&◌, ◌||◌, IsTrue, List, [], ◌∷◌, ◌++◌, codes, length, String, Some, is_some, refl, ap, sym, subst, ◌∙◌, string_bytes, arith}
+use Rattle.std.specs.List.{AllByRecursion, IsDistinct, list_all, list_any}
 use Rattle.std.specs.Map.{keys_of, lookup, lookup_entry, remove_entry, set_value}
-use Rattle.std.specs.Option.{option_map}
+use Rattle.std.specs.Option.{option_eq, option_map}
 use Rattle.std.specs.Str.{bytes_eq}
 use Rattle.std.specs.String.{string_eq}
 use Rattle.std.proofs.lemmas.List.{length-map, map-append}
@@ -11,7 +11,11 @@ use Rattle.std.specs.Fmt.{◌++?◌, comma_space, debug_items}
 use Rattle.micromap_core.specs.Pairs.{at, has, pair, put, take_out, IsUnique}
 use Rattle.micromap_core.specs.Print.{map_text, pair_text}
 use Rattle.micromap_core.specs.Probe.{is_text}
+use Rattle.micromap_core.specs.Same.{is_same, pair_eq, same_at}
 use Rattle.micromap_core.specs.Texts.{key_texts, texts, texts_by}
+use Rattle.micromap_core.proofs.Equalities.{probes_text}
+use Rattle.micromap_core.proofs.MapLawLemmas.{by_test}
+use Rattle.micromap_core.proofs.MapLaws.{matched_test}
 use Rattle.micromap_core.proofs.TextLemmas.{map_text_known}
 
 module _ {Z V W : Type 0} (read : V → W) where
@@ -89,6 +93,65 @@ texts_empty Z read = refl
 pub at_key_texts : {Z V : Type 0} (pairs : List (String Z × V)) (bs : List ℕ) → at bytes_eq (key_texts pairs) bs ≡ lookup (is_text bs) pairs
 at_key_texts pairs bs = grind (arith, at_texts (λ v. v) bs pairs)
 
+-- what two maps have at a text, where the values are compared as `read` sees them
+module _ {Z V W : Type 0} (read : V → W) (same : W → W → Bool) where
+  module _ (a b : List (String Z × V)) where
+    found_both : (bs : List ℕ) → same_at bytes_eq same (texts_by read a) (texts_by read b) bs ≡ option_eq (λ v w. same (read v) (read w)) (lookup (is_text bs) a) (lookup (is_text bs) b)
+    found_both bs = grind (arith, at_texts read bs a, at_texts read bs b)
+
+    -- by a key that has the text
+    found_at_key : (bs : List ℕ) (k : String Z) → is_text bs k ≡ true → same_at string_eq (λ v w. same (read v) (read w)) a b k ≡ true → option_eq (λ v w. same (read v) (read w)) (lookup (is_text bs) a) (lookup (is_text bs) b) ≡ true
+    found_at_key bs k matches are = subst (λ test. option_eq (λ v w. same (read v) (read w)) (lookup test a) (lookup test b) ≡ true) (sym (matched_test (is_text bs) a string_eq k (probes_text Z bs) matches)) are
+
+    each_by : ((k : String Z) → IsTrue (same_at string_eq (λ v w. same (read v) (read w)) a b k)) ↔ ((bs : List ℕ) → IsTrue (same_at bytes_eq same (texts_by read a) (texts_by read b) bs))
+    each_by = (
+      λ each bs. found_both bs ∙ by_test (is_text bs) a _
+          (λ n. by_test (is_text bs) b _ (λ m. grind (arith, n.value, m.value)) (λ i f. found_at_key bs f.pair.0 f.passes (each f.pair.0)))
+          (λ i f. found_at_key bs f.pair.0 f.passes (each f.pair.0)),
+      λ each k. sym (found_both (string_bytes k)) ∙ each (string_bytes k),
+    )
+
+  any-texts : (p : String Z × V) (b : List (String Z × V)) → list_any (pair_eq bytes_eq same (string_bytes p.0, read p.1)) (texts_by read b) ≡ list_any (pair_eq string_eq (λ v w. same (read v) (read w)) p) b
+  unfolding texts_by
+  any-texts p [] = refl
+  any-texts p (q ∷ b) = ap (λ rest. pair_eq string_eq (λ v w. same (read v) (read w)) p q || rest) (any-texts p b)
+
+  within-texts : (a b : List (String Z × V)) → list_all (λ p. list_any (pair_eq bytes_eq same p) (texts_by read b)) (texts_by read a) ≡ list_all (λ p. list_any (pair_eq string_eq (λ v w. same (read v) (read w)) p) b) a
+  unfolding texts_by
+  within-texts [] b = refl
+  within-texts (p ∷ a) b = λ i. any-texts p b i && within-texts a b i
+
+  same_by : (a b : List (String Z × V)) → is_same bytes_eq same (texts_by read a) (texts_by read b) ≡ is_same string_eq (λ v w. same (read v) (read w)) a b
+  same_by a b = λ i. within-texts a b i && within-texts b a i
+
+-- so two maps are the same exactly if their texts are, with values as they are, and with values by their bytes; the two
+-- halves of `each_texts` are for a search
+module _ {Z V : Type 0} (same : V → V → Bool) (a b : List (String Z × V)) where
+  pub same_texts : is_same bytes_eq same (key_texts a) (key_texts b) ≡ is_same string_eq same a b
+  same_texts = same_by (λ v. v) same a b
+
+  pub each_texts : ((k : String Z) → IsTrue (same_at string_eq same a b k)) ↔ ((bs : List ℕ) → IsTrue (same_at bytes_eq same (key_texts a) (key_texts b) bs))
+  each_texts = each_by (λ v. v) same a b
+
+  pub each_text : ((k : String Z) → IsTrue (same_at string_eq same a b k)) → (bs : List ℕ) → IsTrue (same_at bytes_eq same (key_texts a) (key_texts b) bs)
+  each_text = each_texts.0
+
+  pub each_key : ((bs : List ℕ) → IsTrue (same_at bytes_eq same (key_texts a) (key_texts b) bs)) → (k : String Z) → IsTrue (same_at string_eq same a b k)
+  each_key = each_texts.1
+
+module _ {Y Z : Type 0} (a b : List (String Y × String Z)) where
+  pub same_both_texts : is_same bytes_eq bytes_eq (texts a) (texts b) ≡ is_same string_eq string_eq a b
+  same_both_texts = same_by string_bytes bytes_eq a b
+
+  pub each_both_texts : ((k : String Y) → IsTrue (same_at string_eq string_eq a b k)) ↔ ((bs : List ℕ) → IsTrue (same_at bytes_eq bytes_eq (texts a) (texts b) bs))
+  each_both_texts = each_by string_bytes bytes_eq a b
+
+  pub each_both_text : ((k : String Y) → IsTrue (same_at string_eq string_eq a b k)) → (bs : List ℕ) → IsTrue (same_at bytes_eq bytes_eq (texts a) (texts b) bs)
+  each_both_text = each_both_texts.0
+
+  pub each_both_key : ((bs : List ℕ) → IsTrue (same_at bytes_eq bytes_eq (texts a) (texts b) bs)) → (k : String Y) → IsTrue (same_at string_eq string_eq a b k)
+  each_both_key = each_both_texts.1
+
 -- what is printed of texts: the text that a map prints is that of its texts, and is known
 items-texts : {Y Z : Type 0} (lead : List ℕ) (pairs : List (String Y × String Z)) → debug_items (pair_text (λ (k : String Y). Some (string_bytes k)) (λ (v : String Z). Some (string_bytes v))) lead pairs ≡ debug_items (pair_text (λ (k : List ℕ). Some k) (λ (v : List ℕ). Some v)) lead (texts pairs)
 unfolding texts_by
@@ -98,4 +161,4 @@ items-texts lead (e ∷ es) = ap (λ rest. Some lead ++? pair_text (λ (k : List
 pub text_of_texts : {Y Z : Type 0} (pairs : List (String Y × String Z)) → (map_text (λ name. Some name) (λ value. Some value) (texts pairs) ≡ map_text (λ k. Some (string_bytes k)) (λ v. Some (string_bytes v)) pairs) × (is_some (map_text (λ k. Some (string_bytes k)) (λ v. Some (string_bytes v)) pairs) ≡ true)
 text_of_texts pairs = (ap (λ items. Some (codes "{") ++? items ++? Some (codes "}")) (sym (items-texts [] pairs)), map_text_known (λ k. Some (string_bytes k)) (λ v. Some (string_bytes v)) (λ k. refl) (λ v. refl) pairs)
 
-pub ruleset text_views = (texts_empty, at_key_texts, at_texts, pair_texts, matched_texts, texts_put_matched, texts_take_out_matched, texts_put, texts_take_out, has_texts, unique_texts, length_texts, text_of_texts)
+pub ruleset text_views = (texts_empty, at_key_texts, at_texts, pair_texts, matched_texts, texts_put_matched, texts_take_out_matched, texts_put, texts_take_out, has_texts, unique_texts, length_texts, same_texts, each_text, each_key, same_both_texts, each_both_text, each_both_key, text_of_texts)

@@ -1,4 +1,4 @@
--- What becomes of a content as items are put into it one after the other: of a map by pairs, of a set by its items.
+-- What a map is after pairs are put into it one after the other, and what a set is after items are.
 use Rattle.std.specs.Prelude.{◌≡◌, ℕ, ◌+◌, ◌-◌, ◌^◌, Bool, true, not, ◌&&◌, List, [], ◌∷◌, take, Option, IsTrue, unwrap_or}
 use Rattle.std.specs.Iterator.Runs.{SomeRun, WholeRun}
 use Rattle.std.specs.List.{fold}
@@ -10,17 +10,13 @@ abbrev pub most_items : ℕ
 most_items = 2 ^ 64 - 2
 
 module _ {S A : Type 0} (next_gives : S → Option A → S → Type 0) (items : S) where
-  -- x is f of all items of the iterator
-  abbrev pub IsOfAll : {C : Type 0} → (List A → C) → C → Type 0
-  IsOfAll f x = WholeRun next_gives items (λ p. x ≡ f p.items)
+  -- the iterator gave all its items, and P holds of these
+  abbrev pub AllItems : (List A → Type 0) → Type 0
+  AllItems P = WholeRun next_gives items (λ p. P p.items)
 
   -- the iterator gave items up to the one that didn't fit, and P holds of these and of its position
   abbrev pub ItemsUpTo : (List A → ℕ → Type 0) → Overfull → Type 0
   ItemsUpTo P e = SomeRun next_gives items (λ p. (p.len ≡ e.at + 1) × P p.items e.at)
-
-  -- x is f of the iterator's items before the one that didn't fit
-  abbrev pub IsOfFirst : {C : Type 0} → (List A → C) → C → Overfull → Type 0
-  IsOfFirst f x = ItemsUpTo (λ xs position. x ≡ f (take position xs))
 
 module _ {C X : Type 0} (fits : C → X → Bool) (put : C → X → C) where
   -- whether each item fits when it is put
@@ -31,6 +27,14 @@ module _ {C X : Type 0} (fits : C → X → Bool) (put : C → X → C) where
   -- the first of the items that doesn't fit stands at the position
   abbrev pub StopsAt : C → List X → ℕ → Type 0
   StopsAt content items position = IsTrue (each_fits content (take position items)) × IsTrue (not (each_fits content (take (position + 1) items)))
+
+  -- each of the items fits, and new is the content once they are put
+  abbrev pub PutsEach : C → C → List X → Type 0
+  PutsEach content new items = IsTrue (each_fits content items) × (new ≡ fold put content items)
+
+  -- the first that doesn't fit stands at the position, and new is the content once those before it are put
+  abbrev pub PutsUpTo : C → C → List X → ℕ → Type 0
+  PutsUpTo content new items position = StopsAt content items position × (new ≡ fold put content (take position items))
 
 -- a map's pairs
 module _ {K V : Type 0} (eq : K → K → Bool) where
@@ -58,6 +62,14 @@ module _ {K V : Type 0} (eq : K → K → Bool) where
   abbrev pub MisfitIn : ℕ → List (K × V) → List (K × V) → ℕ → Type 0
   MisfitIn N = StopsAt (pair_fits N) put_pair
 
+  -- each of the items fits a map of capacity N with the old pairs, and the new pairs are `put_all` of them
+  abbrev pub PutsAll : ℕ → List (K × V) → List (K × V) → List (K × V) → Type 0
+  PutsAll N = PutsEach (pair_fits N) put_pair
+
+  -- the first that doesn't fit stands at the position, and the new pairs are `put_all` of those before it
+  abbrev pub PutsBefore : ℕ → List (K × V) → List (K × V) → List (K × V) → ℕ → Type 0
+  PutsBefore N = PutsUpTo (pair_fits N) put_pair
+
 -- a counter: a map that has each of the items that came with the number of times that it came
 module _ {K : Type 0} (eq : K → K → Bool) where
   -- the pairs once one more of x came
@@ -67,3 +79,22 @@ module _ {K : Type 0} (eq : K → K → Bool) where
   -- the pairs once these items came, each distinct one in the order in which it first came
   unfoldable pub counts : List K → List (K × ℕ)
   counts items = fold count_one [] items
+
+-- a map into which values are merged: at each item, `step` makes a new value of the one that is stored at the item's key,
+-- if any, and of the item's own
+module _ {K V W : Type 0} (eq : K → K → Bool) (step : Option V → W → V) where
+  -- the pairs once one item is merged
+  abbrev pub merge_pair : List (K × V) → K × W → List (K × V)
+  merge_pair pairs item = put eq pairs item.0 (step (at eq pairs item.0) item.1)
+
+  -- the pairs once these items are merged one after the other: a stored key keeps its index, a new one goes last
+  unfoldable pub merged : List (K × V) → List (K × W) → List (K × V)
+  merged pairs items = fold merge_pair pairs items
+
+  -- whether each item passes the test of the pairs that it is merged into
+  unfoldable pub all_merge : (List (K × V) → K × W → Bool) → List (K × V) → List (K × W) → Bool
+  all_merge test pairs items = each_fits test merge_pair pairs items
+
+  -- `StopsAt` of a merge: the first of the items that doesn't pass stands at the position
+  abbrev pub MergeStopsAt : (List (K × V) → K × W → Bool) → List (K × V) → List (K × W) → ℕ → Type 0
+  MergeStopsAt test pairs items position = IsTrue (all_merge test pairs (take position items)) × IsTrue (not (all_merge test pairs (take (position + 1) items)))

@@ -1,4 +1,5 @@
--- What a closure that gets a `&mut` to a value may be called on, and what its calls answered and made of a map's pairs.
+-- What a closure that gets a `&mut` to a value may be called on, what its calls answered, and what they made of a map's
+-- pairs.
 use Rattle.std.specs.Prelude.{◌≡◌, ℕ, Bool, List, [], ◌∷◌, ◌++◌, Some, MatchOption, slice_get, slice_set}
 use Rattle.std.specs.Borrow.{Bor, MutBor}
 use Rattle.std.specs.Fn.{Mut, Called, Takes}

@@ -37,7 +37,7 @@ module _ {K V : Type 0} where
   entry_value (Vacant e) = None
 
   -- the pairs once v is the key's value
-  abbrev pub entry_put : EntryIn K (List (K × V)) → V → List (K × V)
+  unfoldable pub entry_put : EntryIn K (List (K × V)) → V → List (K × V)
   entry_put (Occupied o) v = with_value_at o.map.now o.index v
   entry_put (Vacant e) v = e.map.now ++ (e.key, v) ∷ []
 
@@ -79,7 +79,7 @@ module _ {K V : Type 0} where
 
   -- o once v is its value
   abbrev pub with_entry_value : OccupiedIn (List (K × V)) → V → OccupiedIn (List (K × V))
-  with_entry_value o v = record o { map = record o.map { now = with_value_at o.map.now o.index v } }
+  with_entry_value o v = record o { map = record o.map { now = entry_put (Occupied o) v } }
 
 -- a call of f at a reference to the key may answer r
 abbrev pub AnswersOfKey : {F K V : Type 0} → Once F (Bor K × Unit {0}) V → F → Option K → V → Type 0

@@ -1,4 +1,5 @@
--- What a law requires of an equality, and of a test of keys: words that don't unfold, so that a search finds them.
+-- What a law requires of an equality, and of a test of keys. The words don't unfold, so that a search finds them by
+-- their names.
 use Rattle.std.specs.Prelude.{◌≡◌, Bool, true}
 use Rattle.std.specs.Cmp.{IsEquivalence}
 

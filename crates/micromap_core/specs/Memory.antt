@@ -1,7 +1,9 @@
--- That the iterators by value, and a drain, fit in memory. A caller that is generic in key and value, and holds one,
--- requires it of its own callers. Where key and value are known, it is computed.
-use Rattle.std.specs.Prelude.{◌<◌, ◌^◌}
+-- The conditions that a map and its iterators by value fit in memory. A caller that is generic in key and value requires
+-- them of its own callers if it makes a map, drains one or iterates one by value. Where key and value are known, they are
+-- computed.
+use Rattle.std.specs.Prelude.{◌<◌, ◌^◌, Bool}
 use Rattle.std.specs.Borrow.{RattleType}
+use Rattle.micromap_core.specs.contracts.map.Map as map
 use Rattle.micromap_walk.specs.contracts.owning.IntoIter as into_iter
 use Rattle.micromap_walk.specs.contracts.owning.IntoKeys as into_keys
 use Rattle.micromap_walk.specs.contracts.owning.IntoValues as into_values
@@ -13,6 +15,9 @@ abbrev pub FitsInMemory : RattleType → Type 0
 FitsInMemory row = size (layout row) < 2 ^ 63
 
 module _ (K V N : RattleType) where
+  abbrev pub MapFits : (K.Denot → K.Denot → Bool) → Type 0
+  MapFits eq = FitsInMemory (map.the_row (param 0 K) (param 1 V) (param 2 N) (record { eq = eq }))
+
   abbrev pub IntoIterFits : Type 0
   IntoIterFits = FitsInMemory (into_iter.the_row (param 0 K) (param 1 V) (param 2 N))
 

@@ -1,5 +1,5 @@
--- A map's content as a list of pairs of a key and a value, from front to end, and what one look-up, insertion
--- or removal makes of it. Keys are compared by eq, which need not be identity; N is the capacity.
+-- A map's content is a list of pairs of a key and a value, from front to end. The words say what a look-up, an
+-- insertion or a removal makes of it. Keys are compared by eq, which need not be identity. N is the capacity.
 use Rattle.std.specs.Prelude.{ℕ, ◌≤◌, Bool, ◌||◌, List, [], ◌∷◌, ◌++◌, length, Option, is_some, slice_get, slice_set, if◌then◌else◌, nat_lt}
 use Rattle.std.specs.Option.{option_map_or}
 use Rattle.std.specs.List.{IsDistinct, position, remove}
@@ -19,6 +19,10 @@ module _ {K V : Type 0} where
   abbrev pub first_index : (K → Bool) → List (K × V) → Option ℕ
   first_index test pairs = position test (keys_of pairs)
 
+  -- whether a pair whose key passes the test can be put: one is stored, or there is room
+  abbrev pub fits_by : (K → Bool) → ℕ → List (K × V) → Bool
+  fits_by test N pairs = is_some (lookup test pairs) || has_room N pairs
+
   -- with v as the value of the pair at the index
   abbrev pub with_value_at : List (K × V) → ℕ → V → List (K × V)
   with_value_at pairs index v = option_map_or (λ p. slice_set pairs index (p.0, v)) (slice_get pairs index) pairs
@@ -33,6 +37,10 @@ module _ {K V : Type 0} where
       pub unique : IsUnique pairs
       pub bounded : length pairs ≤ N
       pub lawful : Lawful eq
+
+    -- both lists are what a map of capacity N may hold
+    abbrev pub AreContents : ℕ → List (K × V) → List (K × V) → Type 0
+    AreContents N old new = IsContent N old × IsContent N new
 
     -- the value of the pair whose key equals k
     abbrev pub at : List (K × V) → K → Option V

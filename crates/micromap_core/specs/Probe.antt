@@ -1,5 +1,5 @@
--- The tests of a text's probe, and the laws of a probe that compares by an equality. A call by probe is said in the
--- standard library's words, by the probe's test of a key: `lookup`, `lookup_entry`, `set_value`, `remove_entry`.
+-- The tests of `Text`, and the laws of a probe that compares by an equality. A contract states a call by probe by the
+-- probe's test of a key, with the standard library's `lookup`, `lookup_entry`, `set_value` and `remove_entry`.
 use Rattle.std.specs.Prelude.{◌≡◌, ℕ, Bool, true, List, String, nat_eq, string_bytes}
 use Rattle.std.proofs.Common.{sym, ◌∙◌}
 use Rattle.std.specs.Borrow.{Bor}

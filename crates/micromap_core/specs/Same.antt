@@ -1,5 +1,5 @@
--- When two lists of pairs are the same, whatever the order of their pairs, and where they first differ. It is said of any
--- two lists, also with repeated keys: a list has a pair where some pair of it is so.
+-- Two lists of pairs are the same if each pair of either has an equal key with an equal value in the other, in whatever
+-- order. A list may have repeated keys. The file also says at which key two lists first differ.
 use Rattle.std.specs.Prelude.{Bool, ◌&&◌, List, Option, Some, not, IsTrue}
 use Rattle.std.specs.List.{find, list_all, list_any}
 use Rattle.std.specs.Map.{keys_of}

@@ -1,4 +1,4 @@
--- Streams of entries: what a call makes of the number of faults and the last one, and of the entries taken or left.
+-- Streams of entries: what a call makes of the number of errors, of the last error, and of the entries taken or left.
 use Rattle.std.specs.Prelude.{◌≡◌, ℕ, suc, ◌-◌, ◌^◌, ◌<◌, ◌≤◌, Bool, not, List, [], ◌∷◌, ◌++◌, length, take, Option, Some, Result, Ok, Err, IsTrue}
 use Rattle.std.specs.Map.{keys_of}
 use Rattle.std.specs.Set.{distinct_count}

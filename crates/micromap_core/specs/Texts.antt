@@ -1,4 +1,4 @@
--- Texts by their bytes, for contracts of callers alone: of a `String` that one makes, no more is known.
+-- Texts seen by their bytes. The words are for callers' contracts: a caller that makes a `String` knows no more of it.
 use Rattle.std.specs.Prelude.{ℕ, List, String, map, string_bytes}
 
 -- the pairs with each key as its bytes, and each value as `read` sees it

@@ -1,6 +1,6 @@
 //! The map: a list of at most `N` pairs, stored in the value itself.
 ghost use Rattle.std.specs.Prelude.{◌≡◌, ◌==◌, [], length};
-ghost use Rattle.micromap_core.specs.Pairs.{IsContent};
+ghost use Rattle.micromap_core.specs.Pairs.{AreContents, IsContent};
 
 pub(crate) mod build;
 mod capacity;
@@ -66,7 +66,8 @@ impl<K: Eq, V, const N: usize> Map<K, V, N> {
     /// Returns the number of pairs.
     ///
     /// The clause `content` states three facts of the map: no two keys are equal, there are at most `N` pairs, and the
-    /// equality of keys is lawful (reflexive, symmetric and transitive).
+    /// equality of keys is lawful (reflexive, symmetric and transitive). A call that changes a map states them of the
+    /// map before and after it.
     #[inline]
     pub fn len(&self) -> usize
         ensures answer { result ≡ length self.now }
@@ -95,8 +96,10 @@ impl<K: Eq, V, const N: usize> Map<K, V, N> {
 impl<K: Eq + Drop, V: Drop, const N: usize> Map<K, V, N> {
     /// Removes and drops every pair.
     pub fn clear(&mut self)
-        ensures { self.new ≡ [] }
+        ensures emptied { self.new ≡ [] }
+        ensures content { AreContents K.eq N self.old self.new }
     {
+        let _content = self.len();
         self.pairs.clear();
     }
 }

@@ -1,5 +1,5 @@
 //! The slots in which a map keeps its keys, and those in which it keeps its values. A slot is an `Option`, and each is
-//! filled: only this module, `columns`, `map::walk` and `micromap_walk` know that.
+//! filled. Only this module, `columns`, `map::walk` and `micromap_walk` know that.
 ghost use Rattle.std.specs.Prelude.{◌≡◌, ◌-◌, ◌<◌, ◌≤◌, [], ◌∷◌, ◌++◌, length, take, Some, slice_get, slice_index_or};
 ghost use Rattle.std.specs.Borrow.{sem};
 ghost use Rattle.std.specs.List.{remove, swap};

@@ -1,4 +1,4 @@
--- The slots in which a map keeps its keys and its values, where none is empty.
+-- The slots in which a map keeps its keys and its values. None of them is empty.
 use Rattle.std.specs.Prelude.{◌≡◌, ◌≤◌, ℕ, List, drop, length, map, Option, Some}
 use Rattle.std.specs.List.{filter_map}
 

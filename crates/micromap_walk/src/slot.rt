@@ -1,4 +1,4 @@
-//! Access to a filled slot, and what the compiler is told because it doesn't see it by itself.
+//! Access to a filled slot, and hints that tell the compiler what it doesn't see by itself.
 ghost use Rattle.std.specs.Prelude.{◌≡◌, ◌<◌, ◌≤◌, Some, IsSome};
 ghost use Rattle.std.specs.Borrow.{sem};
 ghost use Rattle.micromap_walk.specs.Lends.{lends_item};

@@ -1,10 +1,11 @@
 //! Writing a map as an object, and a set as an array.
 ghost use Rattle.std.specs.Prelude.{◌≡◌, ℕ, ◌≤◌, length, IfOk, IfErr, Ok, Some, string_bytes};
-ghost use Rattle.serde_json.specs.Data.{array, depth};
+ghost use Rattle.serde_json.specs.Data.{array, depth, number, object};
+ghost use Rattle.serde_json.specs.Find.{of_integer};
 ghost use Rattle.serde_json.specs.Read.{read};
 ghost use Rattle.serde_json.specs.View.{view};
 ghost use Rattle.serde_json.specs.Written.{compact_text};
-ghost use Rattle.micromap.specs.Json.{HasPairs, elements, texts_for, texts_of, whole_number};
+ghost use Rattle.micromap.specs.Json.{HasPairs, elements, members, texts_for, texts_of, whole_number};
 ghost use Rattle.micromap.specs.declared.json.JsonFault.TheVariants.{Memory};
 
 use super::JsonFault;
@@ -12,15 +13,17 @@ use crate::{Map, Set};
 use serde_json::Value;
 use std::alloc::Global;
 
-/// Returns the object of the map's pairs as text.
+/// Returns the object of the map's pairs as text, with no white space between its parts.
 ///
-/// The members have the order of `serde_json`'s own map. Allocates memory for a copy of each key and for the text.
+/// The members are in the order of their names, compared as bytes. Allocates memory for a copy of each key and for the
+/// text.
 pub fn map_to_json<const N: usize>(
     alloc: Global,
     map: &Map<String, i64, N>,
 ) -> Result<String, JsonFault>
     ensures object { IfOk result (λ text. (M : ℕ) → length map.now ≤ M
         → HasPairs M (string_bytes text) map.now) }
+    ensures text { IfOk result (λ text. string_bytes text ≡ compact_text (object (members map.now))) }
     ensures fault { IfErr result (λ fault. fault ≡ Memory) }
 {
     let _content = map.len();
@@ -31,7 +34,7 @@ pub fn map_to_json<const N: usize>(
     Ok(Value::Object(members).to_string(alloc)?)
 }
 
-/// Returns the array of the set's items as text, from front to end.
+/// Returns the array of the set's items, from front to end, as text with no white space between its parts.
 ///
 /// Allocates memory for a copy of each item and for the text.
 pub fn set_to_json<const N: usize>(alloc: Global, set: &Set<String, N>) -> Result<String, JsonFault>
@@ -50,7 +53,8 @@ pub fn set_to_json<const N: usize>(alloc: Global, set: &Set<String, N>) -> Resul
 }
 
 fn value_of(n: i64) -> Value
-    ensures value { whole_number (view result) ≡ Some n }
+    ensures value { view result ≡ number (of_integer n) }
+    ensures whole { whole_number (view result) ≡ Some n }
     ensures flat { depth (view result) ≡ 0 }
 {
     Value::from(n)

@@ -1,14 +1,15 @@
 //! Inserting and removing items.
 ghost use Rattle.std.specs.Prelude.{◌≡◌, [], Some, None, IsTrue, not, if◌then◌else◌, drop, slice_get};
 ghost use Rattle.std.specs.Set.{is_member};
-ghost use Rattle.micromap.specs.Items.{put_item, put_item_if_fits, replace_item, find_item, item_fits, take_item};
+ghost use Rattle.micromap.specs.Items.{AreItems, put_item, put_item_if_fits, replace_item, find_item, item_fits, take_item};
 
 use super::{Set, item_of};
 
 impl<T: Eq + Drop, const N: usize> Set<T, N> {
     /// Removes and drops every item.
     pub fn clear(&mut self)
-        ensures { self.new ≡ [] }
+        ensures emptied { self.new ≡ [] }
+        ensures content { AreItems T.eq N self.old self.new }
     {
         self.map.clear();
     }
@@ -22,6 +23,7 @@ impl<T: Eq + Drop, const N: usize> Set<T, N> {
         requires { IsTrue (item_fits T.eq N self.old item) }
         ensures answer { result ≡ not (is_member T.eq self.old item) }
         ensures items { self.new ≡ put_item T.eq self.old item }
+        ensures content { AreItems T.eq N self.old self.new }
     {
         self.map.insert(item, ()).is_none()
     }
@@ -32,6 +34,7 @@ impl<T: Eq + Drop, const N: usize> Set<T, N> {
         requires { IsTrue (item_fits T.eq N self.old item) }
         ensures answer { result ≡ not (is_member T.eq self.old item) }
         ensures items { self.new ≡ put_item T.eq self.old item }
+        ensures content { AreItems T.eq N self.old self.new }
     {
         self.insert(item)
     }
@@ -44,6 +47,7 @@ impl<T: Eq + Drop, const N: usize> Set<T, N> {
         requires { IsTrue (item_fits T.eq N self.old item) }
         ensures old { result ≡ find_item T.eq self.old item }
         ensures items { self.new ≡ replace_item T.eq self.old item }
+        ensures content { AreItems T.eq N self.old self.new }
     {
         item_of(self.map.insert_key_value(item, ()))
     }
@@ -63,6 +67,7 @@ impl<T: Eq + Drop, const N: usize> Set<T, N> {
     pub fn checked_insert(&mut self, item: T) -> Option<T>
         ensures answer { result ≡ (if is_member T.eq self.old item then Some item else None) }
         ensures items { self.new ≡ put_item_if_fits T.eq N self.old item }
+        ensures content { AreItems T.eq N self.old self.new }
     {
         if self.len() < N {
             // `item` stands where the equal item was. Now that item goes back, and `item` comes out.
@@ -83,6 +88,7 @@ impl<T: Eq + Drop, const N: usize> Set<T, N> {
     pub fn take(&mut self, item: &T) -> Option<T>
         ensures answer { result ≡ find_item T.eq self.old item.now }
         ensures items { self.new ≡ take_item T.eq self.old item.now }
+        ensures content { AreItems T.eq N self.old self.new }
     {
         item_of(self.map.remove_entry(item))
     }
@@ -94,6 +100,7 @@ impl<T: Eq + Drop, const N: usize> Set<T, N> {
     pub fn remove(&mut self, item: &T) -> bool
         ensures answer { result ≡ is_member T.eq self.old item.now }
         ensures items { self.new ≡ take_item T.eq self.old item.now }
+        ensures content { AreItems T.eq N self.old self.new }
     {
         self.map.remove(item).is_some()
     }
@@ -105,6 +112,7 @@ impl<T: Eq + Drop, const N: usize> Set<T, N> {
     pub fn pop_first(&mut self) -> Option<T>
         ensures answer { result ≡ slice_get self.old 0 }
         ensures items { self.new ≡ drop 1 self.old }
+        ensures content { AreItems T.eq N self.old self.new }
     {
         item_of(self.map.pop_first())
     }

@@ -1,5 +1,5 @@
 //! Cloning a set.
-ghost use Rattle.std.specs.Prelude.{◌≡◌, All, IsOk, IfOk};
+ghost use Rattle.std.specs.Prelude.{◌≡◌, ⊤, All, IsOk, IfOk};
 ghost use Rattle.std.specs.List.{AllZip};
 ghost use Rattle.std.specs.Set.{ClonesAreEqual};
 ghost use Rattle.micromap.specs.Clones.{AreIdentical};
@@ -21,6 +21,19 @@ impl<T: Eq + Clone + Drop, const N: usize> Set<T, N> {
         ensures succeeds { All T.is_infallible self.now → IsOk result }
     {
         let map = self.map.clone()?;
+        Ok(Set { map })
+    }
+}
+
+/// A set whose items are `Copy` has the trait too, so that a map of sets can be cloned. It never fails, and needs no
+/// precondition. `set.clone()` is the call above.
+impl<T: Eq + Copy, const N: usize> Clone for Set<T, N> {
+    ghost is_clone = { λ items new. new ≡ items };
+
+    ghost is_infallible = { λ _. ⊤ };
+
+    fn clone(&self) -> Result<Self, AllocError> {
+        let map = Clone::clone(&self.map)?;
         Ok(Set { map })
     }
 }

@@ -1,9 +1,10 @@
-//! Building from arrays and iterators, and extending. Each distinct item is stored as it first came, in that order.
+//! Building a set from an array or an iterator, and extending it. Of equal items the first is stored. Items are in the
+//! order in which they first came.
 ghost use Rattle.std.specs.Prelude.{◌≡◌, ◌≤◌, [], length, IfOk, OnOk, IfErr, OnErr, IsTrue};
 ghost use Rattle.std.specs.Iterator.{UpTo};
-ghost use Rattle.micromap.specs.Build.{IsOfAll, IsOfFirst, ItemsUpTo, most_items};
-ghost use Rattle.micromap.specs.Extend.{put_all_items, all_items_fit, distinct, ItemMisfitIn};
-ghost use Rattle.micromap.specs.Items.{IsItems, put_item_if_fits, item_fits};
+ghost use Rattle.micromap.specs.Build.{most_items, AllItems, ItemsUpTo};
+ghost use Rattle.micromap.specs.Extend.{all_items_fit, distinct, ItemMisfitIn, PutsAllItems, PutsItemsBefore};
+ghost use Rattle.micromap.specs.Items.{AreItems, IsItems, put_item_if_fits, item_fits};
 
 use super::Set;
 use crate::Overfull;
@@ -14,6 +15,7 @@ impl<T: Eq + Drop, const N: usize> Set<T, N> {
     pub(crate) fn put(&mut self, item: T) -> bool
         ensures answer { result ≡ item_fits T.eq N self.old item }
         ensures items { self.new ≡ put_item_if_fits T.eq N self.old item }
+        ensures content { AreItems T.eq N self.old self.new }
     {
         self.map.checked_insert(item, ()).is_some()
     }
@@ -33,16 +35,15 @@ impl<T: Eq + Drop, const N: usize> Set<T, N> {
     pub fn try_extend<I: Iterator<Item = T>>(&mut self, items: I) -> Result<(), Overfull>
         requires can { I.can_next items }
         requires ends { UpTo (I.remaining items) most_items }
-        ensures runs { OnOk result (IsOfAll I.next_gives items (put_all_items T.eq self.old) self.new) }
-        ensures stops { IfErr result (ItemsUpTo I.next_gives items (ItemMisfitIn T.eq N self.old)) }
-        ensures before { IfErr result (IsOfFirst I.next_gives items (put_all_items T.eq self.old) self.new) }
+        ensures runs { OnOk result (AllItems I.next_gives items (PutsAllItems T.eq N self.old self.new)) }
+        ensures stops { IfErr result (ItemsUpTo I.next_gives items (PutsItemsBefore T.eq N self.old self.new)) }
         ensures full { OnErr result (length self.new ≡ N) }
+        ensures content { AreItems T.eq N self.old self.new }
     {
+        let _content = self.len();
         let mut at = 0;
         for x in items {
             if !self.put(x) {
-                // `len` ensures that it is at most `N`, so the set is full.
-                let _content = self.len();
                 return Err(Overfull { at });
             }
             at += 1;
@@ -64,14 +65,13 @@ impl<T: Eq + Drop, const N: usize> Set<T, N> {
     pub fn try_from_iter<I: Iterator<Item = T>>(items: I) -> Result<Self, Overfull>
         requires can { I.can_next items }
         requires ends { UpTo (I.remaining items) most_items }
-        ensures runs { IfOk result (IsOfAll I.next_gives items (distinct T.eq)) }
+        ensures runs { IfOk result (λ set. AllItems I.next_gives items (PutsAllItems T.eq N [] set)) }
         ensures stops { IfErr result (ItemsUpTo I.next_gives items (ItemMisfitIn T.eq N [])) }
         ensures full { IfErr result (λ e. N ≤ e.at) }
         ensures content { IfOk result (IsItems T.eq N) }
     {
         let mut set = Set::new();
         set.try_extend(items)?;
-        let _content = set.len();
         Ok(set)
     }
 }

@@ -1,5 +1,5 @@
-//! The operations on two sets, which may have different capacities. Each returns an iterator over references to the
-//! members. Making it compares nothing. Each call of `next` goes up to and including the next member.
+//! The operations on two sets, which may have different capacities. Each call returns an iterator over references to
+//! the members, and compares nothing. Each call of `next` walks up to and including the next member.
 ghost use Rattle.std.specs.Prelude.{◌≡◌};
 ghost use Rattle.micromap.specs.Operations.{both_hints};
 

@@ -1,9 +1,10 @@
-//! The set's calls by probe. Each does what its plain form does at the one stored item that matches, or at a missing
-//! item if none matches.
+//! The set's calls by probe. Each call does what its plain form does at the one stored item that matches, or at a
+//! missing item if none matches.
 ghost use Rattle.std.specs.Prelude.{◌≡◌, is_some};
 ghost use Rattle.std.specs.List.{find, list_any};
 ghost use Rattle.std.specs.Option.{option_copied};
 ghost use Rattle.std.specs.Set.{remove_key};
+ghost use Rattle.micromap.specs.Items.{AreItems, item_fits_by};
 
 use super::{Set, item_of};
 use crate::Probe;
@@ -25,6 +26,16 @@ impl<T: Eq, const N: usize> Set<T, N> {
     {
         self.map.contains_key_by(probe)
     }
+
+    /// Returns `true` if an item that matches can be inserted: a stored item matches, or there is room.
+    ///
+    /// No item need be made to ask. Compares no item if there is room. Else it makes one scan.
+    #[inline]
+    pub fn fits_by<P: Probe<T>>(&self, probe: &P) -> bool
+        ensures { result ≡ item_fits_by (P.matches probe.now) N self.now }
+    {
+        self.map.fits_by(probe)
+    }
 }
 
 impl<T: Eq + Drop, const N: usize> Set<T, N> {
@@ -35,6 +46,7 @@ impl<T: Eq + Drop, const N: usize> Set<T, N> {
     pub fn take_by<P: Probe<T>>(&mut self, probe: &P) -> Option<T>
         ensures answer { result ≡ find (P.matches probe.now) self.old }
         ensures items { self.new ≡ remove_key (P.matches probe.now) self.old }
+        ensures content { AreItems T.eq N self.old self.new }
     {
         item_of(self.map.remove_entry_by(probe))
     }
@@ -46,6 +58,7 @@ impl<T: Eq + Drop, const N: usize> Set<T, N> {
     pub fn remove_by<P: Probe<T>>(&mut self, probe: &P) -> bool
         ensures answer { result ≡ is_some (find (P.matches probe.now) self.old) }
         ensures items { self.new ≡ remove_key (P.matches probe.now) self.old }
+        ensures content { AreItems T.eq N self.old self.new }
     {
         self.take_by(probe).is_some()
     }

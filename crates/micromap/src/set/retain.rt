@@ -2,7 +2,7 @@
 ghost use Rattle.std.specs.Fn.{CalledAt};
 ghost use Rattle.std.specs.List.Retain.{IsFiltered};
 ghost use Rattle.micromap_core.specs.Closures.{IsSublist};
-ghost use Rattle.micromap.specs.Items.{MayRetainItems};
+ghost use Rattle.micromap.specs.Items.{AreItems, MayRetainItems};
 
 use super::Set;
 
@@ -15,6 +15,7 @@ impl<T: Eq + Drop, const N: usize> Set<T, N> {
         requires { MayRetainItems F.FnMut keep self.old }
         ensures items { IsFiltered (CalledAt F.FnMut) keep self.old self.new }
         ensures order { IsSublist self.new self.old }
+        ensures content { AreItems T.eq N self.old self.new }
     {
         self.map.retain(
             |x: &T, _: &mut ()|

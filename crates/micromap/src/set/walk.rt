@@ -1,6 +1,7 @@
 //! The iterators over a set, by reference and by value, from the front.
-ghost use Rattle.std.specs.Prelude.{◌≡◌, ◌≤◌, [], length};
+ghost use Rattle.std.specs.Prelude.{◌≡◌, []};
 ghost use Rattle.std.specs.Map.Iter.{GivesInOrder, ShowsInOrder, deref};
+ghost use Rattle.micromap.specs.Items.{AreItems, IsItems};
 
 use super::Set;
 use crate::map;
@@ -38,7 +39,9 @@ impl<T: Eq + Drop, const N: usize> Set<T, N> {
         ensures answer { result ≡ self.old }
         ensures emptied { self.new ≡ [] }
         ensures runs { GivesInOrder T }
+        ensures content { AreItems T.eq N self.old self.new }
     {
+        let _content = self.len();
         mem::take(self).into_iter()
     }
 }
@@ -50,10 +53,10 @@ impl<T: Eq + Drop, const N: usize> IntoIterator for Set<T, N> {
 
     type IntoIter = IntoIter<T, N>;
 
-    ghost into_iter_gives = { λ s walk. (walk ≡ s) × GivesInOrder T × (length s ≤ N) };
+    ghost into_iter_gives = { λ s walk. (walk ≡ s) × GivesInOrder T × IsItems T.eq N s };
 
     fn into_iter(self) -> IntoIter<T, N> {
-        let _bounded = self.len();
+        let _content = self.len();
         let Set { map } = self;
         map.into_keys()
     }
@@ -65,9 +68,10 @@ impl<'a, T: Eq, const N: usize> IntoIterator for &'a Set<T, N> {
 
     type IntoIter = Iter<'a, T>;
 
-    ghost into_iter_gives = { λ s walk. (walk ≡ s.now) × ShowsInOrder (deref {X = T}) };
+    ghost into_iter_gives = { λ s walk. (walk ≡ s.now) × ShowsInOrder (deref {X = T}) × IsItems T.eq N s.now };
 
     fn into_iter(self) -> Iter<'a, T> {
+        let _content = self.len();
         self.iter()
     }
 }

@@ -4,6 +4,7 @@ ghost use Rattle.std.specs.Prelude.{◌≡◌, Some, None, IsTrue, unwrap_or};
 ghost use Rattle.std.specs.Borrow.{sem, Bor, MutBor};
 ghost use Rattle.std.specs.Map.Calls.{ModifiesValue};
 ghost use Rattle.std.specs.Option.{UnwrapsOrElse, option_map_or};
+ghost use Rattle.micromap_core.specs.Pairs.{IsContent};
 ghost use Rattle.micromap_core.specs.Entry.{Occupied, AnswersOfKey, entry_map_ref, entry_pairs, is_occupied, entry_key, entry_value, entry_put, entry_taken, entry_has_room, IsSound, IsEntryOf, IsWritten, entry_lends};
 
 use super::{Entry, EntryIn, OccupiedEntry, OccupiedIn, VacantIn};
@@ -27,7 +28,8 @@ impl<K: Eq, V, const N: usize> Map<K, V, N> {
     pub fn entry(&mut self, key: K) -> Entry<'_, K, V, N>
     where
         K: Drop,
-        ensures { IsEntryOf K.eq self.entry key result }
+        ensures entry { IsEntryOf K.eq self.entry key result }
+        ensures content { IsContent K.eq N self.old }
     {
         match self.index_of(&key) {
             Some(index) => Entry::Occupied(OccupiedIn { map: self, index }),

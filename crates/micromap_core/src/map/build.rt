@@ -1,9 +1,9 @@
-//! Building from arrays and iterators, and extending. The keys are stored in the order in which each distinct key first
-//! came. Each has the value of its last item.
+//! Building a map from an array or an iterator, and extending it. Keys are in the order in which they first came. Each
+//! key has the value of its last item.
 ghost use Rattle.std.specs.Prelude.{◌≡◌, ◌≤◌, [], length, IsTrue, IfOk, OnOk, IfErr, OnErr};
 ghost use Rattle.std.specs.Iterator.{UpTo};
-ghost use Rattle.micromap_core.specs.Build.{all_fit, build, IsOfAll, IsOfFirst, ItemsUpTo, MisfitIn, most_items, put_all};
-ghost use Rattle.micromap_core.specs.Pairs.{IsContent};
+ghost use Rattle.micromap_core.specs.Build.{all_fit, build, most_items, AllItems, ItemsUpTo, MisfitIn, PutsAll, PutsBefore};
+ghost use Rattle.micromap_core.specs.Pairs.{AreContents, IsContent};
 
 use super::Map;
 use std::error::Error;
@@ -55,16 +55,15 @@ impl<K: Eq + Drop, V: Drop, const N: usize> Map<K, V, N> {
     pub fn try_extend<I: Iterator<Item = (K, V)>>(&mut self, items: I) -> Result<(), Overfull>
         requires can { I.can_next items }
         requires ends { UpTo (I.remaining items) most_items }
-        ensures runs { OnOk result (IsOfAll I.next_gives items (put_all K.eq self.old) self.new) }
-        ensures stops { IfErr result (ItemsUpTo I.next_gives items (MisfitIn K.eq N self.old)) }
-        ensures before { IfErr result (IsOfFirst I.next_gives items (put_all K.eq self.old) self.new) }
+        ensures runs { OnOk result (AllItems I.next_gives items (PutsAll K.eq N self.old self.new)) }
+        ensures stops { IfErr result (ItemsUpTo I.next_gives items (PutsBefore K.eq N self.old self.new)) }
         ensures full { OnErr result (length self.new ≡ N) }
+        ensures content { AreContents K.eq N self.old self.new }
     {
+        let _content = self.len();
         let mut at = 0;
         for (key, value) in items {
             if self.checked_insert(key, value).is_none() {
-                // `len` ensures that it is at most `N`, so the map is full.
-                let _content = self.len();
                 return Err(Overfull { at });
             }
             at += 1;
@@ -81,14 +80,13 @@ impl<K: Eq + Drop, V: Drop, const N: usize> Map<K, V, N> {
     pub fn try_from_iter<I: Iterator<Item = (K, V)>>(items: I) -> Result<Self, Overfull>
         requires can { I.can_next items }
         requires ends { UpTo (I.remaining items) most_items }
-        ensures runs { IfOk result (IsOfAll I.next_gives items (build K.eq)) }
+        ensures runs { IfOk result (λ map. AllItems I.next_gives items (PutsAll K.eq N [] map)) }
         ensures stops { IfErr result (ItemsUpTo I.next_gives items (MisfitIn K.eq N [])) }
         ensures full { IfErr result (λ e. N ≤ e.at) }
         ensures content { IfOk result (IsContent K.eq N) }
     {
         let mut map = Map::new();
         map.try_extend(items)?;
-        let _content = map.len();
         Ok(map)
     }
 }

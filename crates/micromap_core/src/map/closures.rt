@@ -7,7 +7,7 @@ ghost use Rattle.std.specs.Map.{keys_of};
 ghost use Rattle.std.specs.Map.Calls.{CallableOnEachPair, RetainsPairs};
 ghost use Rattle.std.specs.Set.{distinct_count};
 ghost use Rattle.micromap_core.specs.Closures.{AcceptsPair, CalledOnPair, IsSublist, MayUpdateAll, MayUpdateDisjoint, UpdatesAll, UpdatesDisjoint};
-ghost use Rattle.micromap_core.specs.Pairs.{has};
+ghost use Rattle.micromap_core.specs.Pairs.{AreContents, has};
 
 use super::Map;
 
@@ -20,8 +20,11 @@ impl<K: Eq + Drop, V: Drop, const N: usize> Map<K, V, N> {
         requires { CallableOnEachPair (CalledOnPair F.FnMut) (AcceptsPair F.FnMut) keep self.old }
         ensures pairs { RetainsPairs (CalledOnPair F.FnMut) keep self.old self.new }
         ensures order { IsSublist (keys_of self.new) (keys_of self.old) }
+        ensures content { AreContents K.eq N self.old self.new }
     {
+        let _before = self.len();
         self.pairs.retain(keep);
+        let _after = self.len();
     }
 }
 
@@ -31,11 +34,13 @@ impl<K: Eq, V, const N: usize> Map<K, V, N> {
     /// Keys, order and length stay. Compares no key.
     pub fn update_all<F: FnMut(&K, &mut V)>(&mut self, mut update: F)
         requires { MayUpdateAll F.FnMut update self.old }
-        ensures { UpdatesAll F.FnMut update self.old self.new }
+        ensures pairs { UpdatesAll F.FnMut update self.old self.new }
+        ensures content { AreContents K.eq N self.old self.new }
     {
         for index in 0..self.len() {
             self.visit_at(index, &mut update);
         }
+        let _after = self.len();
     }
 
     /// Calls `update` on the value of each of `keys` that is stored, and returns which of them are stored.
@@ -59,7 +64,9 @@ impl<K: Eq, V, const N: usize> Map<K, V, N> {
         requires callable { MayUpdateDisjoint K.eq F.FnMut update self.old keys.now }
         ensures answer { result ≡ map (has K.eq self.old) keys.now }
         ensures pairs { UpdatesDisjoint K.eq F.FnMut update self.old keys.now self.new }
+        ensures content { AreContents K.eq N self.old self.new }
     {
+        let _content = self.len();
         let mut found = [false; J];
         for (position, key) in keys.iter().enumerate() {
             found[position] = match self.get_mut(key) {

@@ -1,4 +1,4 @@
-//! A look-up and a comparison that count the comparisons of keys. All are made by `Steps::same`.
+//! A look-up and a comparison that count the comparisons of keys. `Steps::same` makes each of these.
 ghost use Rattle.std.specs.Prelude.{◌≡◌, ◌↔◌, ◌+◌, ◌*◌, ◌^◌, ◌<◌, ◌≤◌, length, IsTrue, IsFalse};
 ghost use Rattle.std.specs.Bool.{OnTrue};
 ghost use Rattle.std.specs.List.{list_all};

@@ -1,4 +1,6 @@
 //! The pairs by their index, and the scans of the calls by a key or a probe.
+#![tactic(auto, using(crate::proofs::Opened::opened_map))]
+
 ghost use Rattle.std.specs.Prelude.{◌≡◌, ◌∷◌, [], ◌++◌, ◌<◌, length, Some, None, IfNone, slice_get};
 ghost use Rattle.std.specs.Borrow.{sem};
 ghost use Rattle.std.specs.Map.{lookup, lookup_entry, remove_entry};
@@ -7,7 +9,7 @@ ghost use Rattle.std.specs.Option.{IfSome, option_map};
 ghost use Rattle.micromap_core.specs.Closures.{AcceptsPair, VisitsAt};
 ghost use Rattle.micromap_core.specs.Found.{FoundAt, NotFound};
 ghost use Rattle.micromap_core.specs.Lends.{lends_value_at};
-ghost use Rattle.micromap_core.specs.Pairs.{at, first_index, has_room, index_of, pair, put, put_key, with_value_at, without_at};
+ghost use Rattle.micromap_core.specs.Pairs.{AreContents, IsContent, at, first_index, has_room, index_of, pair, put, put_key, with_value_at, without_at};
 
 use super::Map;
 use crate::probe::Probe;
@@ -21,9 +23,10 @@ impl<K: Eq, V, const N: usize> Map<K, V, N> {
         ensures answer { result ≡ first_index (P.matches probe.now) self.now }
         ensures found { IfSome result (FoundAt (P.matches probe.now) self.now) }
         ensures missing { IfNone result (NotFound (P.matches probe.now) self.now) }
+        ensures content { IsContent K.eq N self.now }
     {
         let keys = self.keys();
-        let _bounded = keys.len();
+        let _content = self.len();
         let mut index = 0;
         for key in keys {
             if probe.matches(key) {
@@ -142,6 +145,7 @@ impl<K: Eq + Drop, V: Drop, const N: usize> Map<K, V, N> {
         ensures pair { result ≡ lookup_entry (P.matches probe.now) self.old }
         ensures value { option_map (λ p. p.1) result ≡ lookup (P.matches probe.now) self.old }
         ensures pairs { self.new ≡ remove_entry (P.matches probe.now) self.old }
+        ensures content { AreContents K.eq N self.old self.new }
     {
         let index = self.index_of(probe)?;
         Some(self.take_at(index))

@@ -1,6 +1,8 @@
 //! Inserting a pair.
+#![tactic(auto, using(crate::proofs::Opened::opened_map))]
+
 ghost use Rattle.std.specs.Prelude.{◌≡◌, Some, None, IsTrue, if◌then◌else◌};
-ghost use Rattle.micromap_core.specs.Pairs.{at, pair, fits, put, put_if_fits, put_key};
+ghost use Rattle.micromap_core.specs.Pairs.{AreContents, at, pair, fits, put, put_if_fits, put_key};
 
 use super::Map;
 
@@ -14,6 +16,7 @@ impl<K: Eq + Drop, V: Drop, const N: usize> Map<K, V, N> {
         requires { IsTrue (fits K.eq N self.old key) }
         ensures old { result ≡ at K.eq self.old key }
         ensures pairs { self.new ≡ put K.eq self.old key value }
+        ensures content { AreContents K.eq N self.old self.new }
     {
         match self.index_of(&key) {
             Some(index) => Some(self.put_at(index, &key, value)),
@@ -30,6 +33,7 @@ impl<K: Eq + Drop, V: Drop, const N: usize> Map<K, V, N> {
         requires { IsTrue (fits K.eq N self.old key) }
         ensures old { result ≡ at K.eq self.old key }
         ensures pairs { self.new ≡ put K.eq self.old key value }
+        ensures content { AreContents K.eq N self.old self.new }
     {
         self.insert(key, value)
     }
@@ -43,6 +47,7 @@ impl<K: Eq + Drop, V: Drop, const N: usize> Map<K, V, N> {
         requires { IsTrue (fits K.eq N self.old key) }
         ensures old { result ≡ pair K.eq self.old key }
         ensures pairs { self.new ≡ put_key K.eq self.old key value }
+        ensures content { AreContents K.eq N self.old self.new }
     {
         match self.index_of(&key) {
             Some(index) => Some(self.put_key_at(index, key, value)),
@@ -69,6 +74,7 @@ impl<K: Eq + Drop, V: Drop, const N: usize> Map<K, V, N> {
     pub fn checked_insert(&mut self, key: K, value: V) -> Option<Option<V>>
         ensures answer { result ≡ (if fits K.eq N self.old key then Some (at K.eq self.old key) else None) }
         ensures pairs { self.new ≡ put_if_fits K.eq N self.old key value }
+        ensures content { AreContents K.eq N self.old self.new }
     {
         match self.index_of(&key) {
             Some(index) => Some(Some(self.put_at(index, &key, value))),

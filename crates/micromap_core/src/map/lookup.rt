@@ -1,9 +1,11 @@
 //! Looking up a key.
+#![tactic(auto, using(crate::proofs::Opened::opened_map))]
+
 ghost use Rattle.std.specs.Prelude.{◌≡◌, Some, IsTrue};
 ghost use Rattle.std.specs.Borrow.{sem};
 ghost use Rattle.std.specs.Map.Iter.{deref_pair};
 ghost use Rattle.std.specs.Option.{option_copied, option_copied_mut, option_map};
-ghost use Rattle.micromap_core.specs.Pairs.{at, pair, has, fits};
+ghost use Rattle.micromap_core.specs.Pairs.{IsContent, at, pair, has, fits};
 ghost use Rattle.micromap_core.specs.Lends.{lends_at, lends_at_if};
 
 use super::Map;
@@ -29,6 +31,7 @@ impl<K: Eq, V, const N: usize> Map<K, V, N> {
     pub fn get_mut(&mut self, key: &K) -> Option<&mut V>
         ensures* writes_back { sem 𝓛 (lends_at_if K.row V.row N.row K.eq self.entry key.now result) }
         ensures answer { option_copied_mut result ≡ at K.eq self.old key.now }
+        ensures content { IsContent K.eq N self.old }
     {
         match self.index_of(key) {
             Some(index) => Some(self.value_at(index)),
@@ -86,6 +89,7 @@ impl<K: Eq, V, const N: usize> Map<K, V, N> {
         requires { IsTrue (has K.eq self.old key.now) }
         ensures* writes_back { sem 𝓛 (lends_at K.row V.row N.row K.eq self.entry key.now result) }
         ensures answer { at K.eq self.old key.now ≡ Some result.now }
+        ensures content { IsContent K.eq N self.old }
     {
         match self.index_of(key) {
             Some(index) => self.value_at(index),
@@ -115,6 +119,7 @@ impl<'k, K: Eq, V, const N: usize> IndexMut<&'k K> for Map<K, V, N> {
         requires { IsTrue (has K.eq self.old key.now) }
         ensures* writes_back { sem 𝓛 (lends_at K.row V.row N.row K.eq self.entry key.now result) }
         ensures answer { at K.eq self.old key.now ≡ Some result.now }
+        ensures content { IsContent K.eq N self.old }
     {
         self.index_mut(key)
     }

@@ -1,11 +1,12 @@
-//! The keyed calls by probe. Each does what its plain form does at the one stored key that matches, or at a missing key
-//! if none matches.
+//! The keyed calls by probe. Each call does what its plain form does at the one stored key that matches, or at a
+//! missing key if none matches.
 ghost use Rattle.std.specs.Prelude.{◌≡◌, Some, IsTrue, is_some};
 ghost use Rattle.std.specs.Borrow.{sem};
 ghost use Rattle.std.specs.Map.{lookup, lookup_entry, remove_entry};
 ghost use Rattle.std.specs.Map.Iter.{deref_pair};
 ghost use Rattle.std.specs.Option.{option_copied, option_copied_mut, option_map};
 ghost use Rattle.micromap_core.specs.Lends.{lends_matched, lends_matched_if};
+ghost use Rattle.micromap_core.specs.Pairs.{AreContents, IsContent, fits_by};
 
 use super::Map;
 use crate::probe::Probe;
@@ -34,6 +35,7 @@ impl<K: Eq, V, const N: usize> Map<K, V, N> {
         ensures* writes_back { sem 𝓛 (lends_matched_if K.row V.row N.row K.eq self.entry
             (P.matches probe.now) result) }
         ensures answer { option_copied_mut result ≡ lookup (P.matches probe.now) self.old }
+        ensures content { IsContent K.eq N self.old }
     {
         match self.index_of(probe) {
             Some(index) => Some(self.value_at(index)),
@@ -55,6 +57,16 @@ impl<K: Eq, V, const N: usize> Map<K, V, N> {
         ensures { result ≡ is_some (lookup (P.matches probe.now) self.now) }
     {
         self.find(probe).is_some()
+    }
+
+    /// Returns `true` if a pair whose key matches can be inserted: a stored key matches, or there is room.
+    ///
+    /// No key need be made to ask. Compares no key if there is room. Else it makes one scan.
+    #[inline]
+    pub fn fits_by<P: Probe<K>>(&self, probe: &P) -> bool
+        ensures { result ≡ fits_by (P.matches probe.now) N self.now }
+    {
+        self.has_room() || self.contains_key_by(probe)
     }
 
     /// Returns a reference to the value of the key that matches.
@@ -81,6 +93,7 @@ impl<K: Eq, V, const N: usize> Map<K, V, N> {
         ensures* writes_back { sem 𝓛 (lends_matched K.row V.row N.row K.eq self.entry
             (P.matches probe.now) result) }
         ensures answer { lookup (P.matches probe.now) self.old ≡ Some result.now }
+        ensures content { IsContent K.eq N self.old }
     {
         match self.index_of(probe) {
             Some(index) => self.value_at(index),
@@ -97,6 +110,7 @@ impl<K: Eq + Drop, V: Drop, const N: usize> Map<K, V, N> {
     pub fn remove_by<P: Probe<K>>(&mut self, probe: &P) -> Option<V>
         ensures answer { result ≡ lookup (P.matches probe.now) self.old }
         ensures pairs { self.new ≡ remove_entry (P.matches probe.now) self.old }
+        ensures content { AreContents K.eq N self.old self.new }
     {
         let (_key, value) = self.take(probe)?;
         Some(value)
@@ -109,6 +123,7 @@ impl<K: Eq + Drop, V: Drop, const N: usize> Map<K, V, N> {
     pub fn remove_entry_by<P: Probe<K>>(&mut self, probe: &P) -> Option<(K, V)>
         ensures answer { result ≡ lookup_entry (P.matches probe.now) self.old }
         ensures pairs { self.new ≡ remove_entry (P.matches probe.now) self.old }
+        ensures content { AreContents K.eq N self.old self.new }
     {
         self.take(probe)
     }

@@ -1,6 +1,8 @@
 //! Removing a pair.
+#![tactic(auto, using(crate::proofs::Opened::opened_map))]
+
 ghost use Rattle.std.specs.Prelude.{◌≡◌, drop, slice_get};
-ghost use Rattle.micromap_core.specs.Pairs.{at, pair, take_out};
+ghost use Rattle.micromap_core.specs.Pairs.{AreContents, at, pair, take_out};
 
 use super::Map;
 
@@ -13,6 +15,7 @@ impl<K: Eq + Drop, V: Drop, const N: usize> Map<K, V, N> {
     pub fn remove(&mut self, key: &K) -> Option<V>
         ensures answer { result ≡ at K.eq self.old key.now }
         ensures pairs { self.new ≡ take_out K.eq self.old key.now }
+        ensures content { AreContents K.eq N self.old self.new }
     {
         let (_key, value) = self.take(key)?;
         Some(value)
@@ -26,6 +29,7 @@ impl<K: Eq + Drop, V: Drop, const N: usize> Map<K, V, N> {
     pub fn remove_entry(&mut self, key: &K) -> Option<(K, V)>
         ensures answer { result ≡ pair K.eq self.old key.now }
         ensures pairs { self.new ≡ take_out K.eq self.old key.now }
+        ensures content { AreContents K.eq N self.old self.new }
     {
         self.take(key)
     }
@@ -38,10 +42,11 @@ impl<K: Eq + Drop, V: Drop, const N: usize> Map<K, V, N> {
     pub fn pop_first(&mut self) -> Option<(K, V)>
         ensures answer { result ≡ slice_get self.old 0 }
         ensures pairs { self.new ≡ drop 1 self.old }
+        ensures content { AreContents K.eq N self.old self.new }
     {
-        if self.is_empty() {
-            return None;
+        match self.len() {
+            0 => None,
+            _ => Some(self.take_at(0)),
         }
-        Some(self.take_at(0))
     }
 }

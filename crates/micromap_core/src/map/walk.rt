@@ -5,9 +5,10 @@
 //!
 //! An iterator by value is larger than the map. So a caller that is generic in `K` and `V`, and holds one, must know that
 //! it fits in memory, which the conditions of `specs/Memory` say. `pop_first` asks for nothing of the kind.
-ghost use Rattle.std.specs.Prelude.{◌≡◌, ◌≤◌, [], length};
+ghost use Rattle.std.specs.Prelude.{◌≡◌, []};
 ghost use Rattle.std.specs.Map.{keys_of, values_of};
 ghost use Rattle.std.specs.Map.Iter.{GivesInOrder, ShowsInOrder, deref, deref_pair};
+ghost use Rattle.micromap_core.specs.Pairs.{AreContents, IsContent};
 
 use super::{Drain, IntoIter, IntoKeys, IntoValues, Iter, Keys, Map, Values};
 use std::mem;
@@ -78,7 +79,9 @@ impl<K: Eq + Drop, V: Drop, const N: usize> Map<K, V, N> {
         ensures answer { result ≡ self.old }
         ensures emptied { self.new ≡ [] }
         ensures runs { GivesInOrder (K × V) }
+        ensures content { AreContents K.eq N self.old self.new }
     {
+        let _content = self.len();
         mem::take(self).into_iter()
     }
 }
@@ -90,10 +93,10 @@ impl<K: Eq + Drop, V: Drop, const N: usize> IntoIterator for Map<K, V, N> {
 
     type IntoIter = IntoIter<K, V, N>;
 
-    ghost into_iter_gives = { λ m walk. (walk ≡ m) × GivesInOrder (K × V) × (length m ≤ N) };
+    ghost into_iter_gives = { λ m walk. (walk ≡ m) × GivesInOrder (K × V) × IsContent K.eq N m };
 
     fn into_iter(self) -> IntoIter<K, V, N> {
-        let _bounded = self.len();
+        let _content = self.len();
         let Map { pairs } = self;
         let (keys, values) = pairs.into_array_vecs();
         IntoIter::over(keys, values)
@@ -106,9 +109,10 @@ impl<'a, K: Eq, V, const N: usize> IntoIterator for &'a Map<K, V, N> {
 
     type IntoIter = Iter<'a, K, V>;
 
-    ghost into_iter_gives = { λ m walk. (walk ≡ m.now) × ShowsInOrder (deref_pair {K = K} {X = V}) };
+    ghost into_iter_gives = { λ m walk. (walk ≡ m.now) × ShowsInOrder (deref_pair {K = K} {X = V}) × IsContent K.eq N m.now };
 
     fn into_iter(self) -> Iter<'a, K, V> {
+        let _content = self.len();
         self.iter()
     }
 }

@@ -16,6 +16,7 @@ returns-in_err-stored g c =
     record {
       answer = c.from_residual.ensures ∙ ap (λ b. if b then Some c.args.item else None) (sym (any-find (eq c.args.item) items ∙ ap is_some new));
       items = c.in_err-stored.ensures.items ∙ replace_item_new eq items c.args.item new ∙ sym (put_item-room eq g.row.N items c.args.item room);
+      content = c.in_err-stored.ensures.content;
     }
 
 -- and one that is stored takes its place back
@@ -35,6 +36,7 @@ returns-then-len g c =
     record {
       answer = c.replace-then-len.ensures.old ∙ ap (λ l. find_item eq l y) c.in_ok-stored.ensures.items ∙ find_item_replace_back eq c.len.ensures.content.lawful items c.args.item y stored ∙ ap (λ b. if b then Some c.args.item else None) (sym there);
       items = c.replace-then-len.ensures.items ∙ ap (λ l. replace_item eq l y) c.in_ok-stored.ensures.items ∙ replace_item_back eq c.len.ensures.content.lawful items c.args.item y stored ∙ sym (put_item-stored eq g.row.N items c.args.item there);
+      content = (c.len.ensures.content, c.replace-then-len.ensures.content.1);
     }
 
 -- a full set is left as it is

@@ -1,6 +1,7 @@
-use Rattle.std.proofs.Common.{rules}
+use Rattle.std.proofs.Common.{rules, refl}
 use Rattle.std.specs.Fn.{CalledAt, TakesAt}
 use Rattle.micromap_core.proofs.ClosureLemmas.{retained_keys}
+use Rattle.micromap.proofs.ItemLemmas.{content_items}
 use Rattle.micromap.proofs.RetainItems.{callable_inner}
 use Rattle.micromap.proofs.Sizes.{map_fits}
 use Rattle.micromap.proofs.set.Set.retain.Goals as goal
@@ -16,4 +17,5 @@ pub returns : goal.returns
 returns g c = record {
   items = rw (← c.self.view_is) (retained_keys (CalledAt g.F.FnMut) (λ f. f.0.now) (λ f x v b w t said. search rules) _ _ _ c.retain.ensures.pairs);
   order = rw (← c.self.view_is) c.retain.ensures.order;
+  content = (content_items c.self.view_is c.retain.ensures.content.0, content_items refl c.retain.ensures.content.1);
 }

@@ -14,6 +14,7 @@ loop-x-preserved g c =
       finite = goes.1;
       counted = omega (arith, goes.2, l.invariant.counted);
       put = has_put_more (item_fits eq g.row.N) (put_item eq) c.args.self.now l.yielded l.at l.self c.put.new.self c.in-Some.x l.invariant.put c.put.ensures.items (sym c.put.ensures.answer ∙ c.if-not-put.false);
+      content = c.put.ensures.content.1;
     }
 
 -- the set is as it was before the item that didn't fit, and full
@@ -23,12 +24,15 @@ returns-then-not-put g c =
     let eq = g.T.PartialEq.eq in
     let misfit : item_fits eq g.row.N l.self c.in-Some.x ≡ false = sym c.put.ensures.answer ∙ c.if-not-put.true in
     let kept = c.put.ensures.items ∙ ap (λ b. if b then put_item eq l.self c.in-Some.x else l.self) misfit in
-    let full = ap length kept ∙ full_is (is_member eq l.self c.in-Some.x) (length l.self) g.row.N misfit (rw kept at c.len-content.ensures.content.bounded) in
-    assumption (
-      run_stops (item_fits eq g.row.N) (put_item eq) c.args.self.now l.yielded l.at l.self c.put.new.self c.in-Some.x l.invariant.put c.put.ensures.items g.I.Iterator.next_gives c.args.items c.next.new.self misfit
-          (rw (← c.into_iter-x-iterator.ensures.into_iter_gives) (l.x-iterator, l.yielded_by, c.in-Some.ensures.steps)),
-      full,
-    )
+    let full = ap length kept ∙ full_is (is_member eq l.self c.in-Some.x) (length l.self) g.row.N misfit (l.invariant.content.bounded) in
+    record {
+      runs = tt;
+      stops =
+          run_stops (item_fits eq g.row.N) (put_item eq) c.args.self.now l.yielded l.at l.self c.put.new.self c.in-Some.x l.invariant.put c.put.ensures.items g.I.Iterator.next_gives c.args.items c.next.new.self misfit
+          (rw (← c.into_iter-x-iterator.ensures.into_iter_gives) (l.x-iterator, l.yielded_by, c.in-Some.ensures.steps));
+      full = full;
+      content = (c.len-content.ensures.content, c.put.ensures.content.1);
+    }
 
 pub returns-clause-runs : goal.returns-clause-runs
 returns-clause-runs g c =

@@ -1,6 +1,6 @@
 use Rattle.std.specs.Prelude.{◌+◌, ◌≤◌}
 use Rattle.micromap.specs.Build.{most_items}
-use Rattle.micromap.specs.Items.{put_item, item_fits}
+use Rattle.micromap.specs.Items.{IsItems, put_item, item_fits}
 use Rattle.micromap_core.proofs.BuildLemmas.{HasPut}
 use Rattle.micromap.proofs.set.Set.try_extend.Given as goal
 
@@ -10,4 +10,5 @@ invariant-loop-x g l = record {
   finite : (goal.iterator-loop-x g).is_finite l.x-iterator;
   counted : l.at + (goal.iterator-loop-x g).remaining l.x-iterator ≤ most_items;
   put : HasPut (item_fits g.T.PartialEq.eq g.row.N) (put_item g.T.PartialEq.eq) l.initial.self l.yielded l.at l.self;
+  content : IsItems g.T.PartialEq.eq g.row.N l.self;
 }

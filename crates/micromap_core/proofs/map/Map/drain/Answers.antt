@@ -1,4 +1,6 @@
+use Rattle.std.proofs.Common.{rules}
 use Rattle.micromap_walk.proofs.Runs.{gives_in_order}
+use Rattle.micromap_core.proofs.ContentLemmas.{content_empty}
 use Rattle.micromap_core.proofs.map.Map.drain.Goals as goal
 
 pub returns-clause-runs : goal.returns-clause-runs
@@ -9,3 +11,6 @@ take-requires-room-T-Default g c = assumption
 
 pub into_iter-requires : goal.into_iter-requires
 into_iter-requires g c = assumption
+
+pub returns-clause-content : goal.returns-clause-content
+returns-clause-content g c = (c.len-content.ensures.content, content_empty c.len-content.ensures.content.lawful (search rules))

@@ -8,7 +8,7 @@ pub returns-in-Some : goal.returns-in-Some
 returns-in-Some g c =
     let found = c.in-Some.ensures.found in (
       ap (λ (after : g.row.V.Denot → _). inl (c.value_at.result.ghost_name, after)) (λ j w. with_value_at-put g.K.PartialEq.eq c.args.key.now c.args.self.now c.in-Some.index found w j),
-      record { writes_back = tt; answer = sym c.value_at.ensures.value ∙ ap (option_map (λ p. p.1)) found.here ∙ sym found.value },
+      record { writes_back = tt; answer = sym c.value_at.ensures.value ∙ ap (option_map (λ p. p.1)) found.here ∙ sym found.value; content = c.in-Some.ensures.content },
     )
 
 pub value_at-requires : goal.value_at-requires
@@ -18,4 +18,4 @@ pub index_of-requires : goal.index_of-requires
 index_of-requires g c = assumption
 
 pub returns-in-None : goal.returns-in-None
-returns-in-None g c = (refl, record { writes_back = tt; answer = sym c.in-None.ensures.missing.value })
+returns-in-None g c = (refl, record { writes_back = tt; answer = sym c.in-None.ensures.missing.value; content = c.in-None.ensures.content })

@@ -9,7 +9,7 @@ pub returns : goal.returns
 returns g c =
     let found = c.in-Some.ensures.found in (
       (refl, λ w. with_value_at-put g.K.PartialEq.eq c.args.key.now c.args.self.now c.in-Some.index found w),
-      record { writes_back = tt; answer = found.value ∙ sym (ap (option_map (λ p. p.1)) found.here) ∙ c.value_at.ensures.value },
+      record { writes_back = tt; answer = found.value ∙ sym (ap (option_map (λ p. p.1)) found.here) ∙ c.value_at.ensures.value; content = c.in-Some.ensures.content },
     )
 
 pub index_of-requires : goal.index_of-requires

@@ -1,11 +1,8 @@
-use Rattle.std.proofs.Common.{sym}
+use Rattle.micromap_core.proofs.ContentLemmas.{content_put}
 use Rattle.micromap_core.proofs.map.Map.insert.Goals as goal
 
-pub returns-in-Some : goal.returns-in-Some
-returns-in-Some g c = record { old = cc; pairs = cc }
+pub returns-in-Some-clause-content : goal.returns-in-Some-clause-content
+returns-in-Some-clause-content g c = content_put c.in-Some.ensures.content c.args.key c.args.value c.requires c.put_at.ensures.pairs
 
-pub index_of-requires : goal.index_of-requires
-index_of-requires g c = assumption
-
-pub returns-in-None : goal.returns-in-None
-returns-in-None g c = record { old = sym c.in-None.ensures.missing.value; pairs = c.push_pair.ensures.put }
+pub returns-in-None-clause-content : goal.returns-in-None-clause-content
+returns-in-None-clause-content g c = content_put c.in-None.ensures.content c.args.key c.args.value c.requires c.push_pair.ensures.put

@@ -6,7 +6,7 @@ use Rattle.micromap_core.proofs.map.Map.try_extend.Goals as goal
 
 pub loop-key-init : goal.loop-key-init
 loop-key-init g c =
-    rw c.into_iter-key-iterator.ensures.into_iter_gives (record { can = c.requires.can; finite = c.requires.ends.0; counted = omega (arith, c.requires.ends.1); put = record { fit = refl; made = refl; position_is = refl } })
+    rw c.into_iter-key-iterator.ensures.into_iter_gives (record { content = c.len-content.ensures.content; can = c.requires.can; finite = c.requires.ends.0; counted = omega (arith, c.requires.ends.1); put = record { fit = refl; made = refl; position_is = refl } })
 
 pub loop-key-preserved : goal.loop-key-preserved
 loop-key-preserved g c =
@@ -17,6 +17,7 @@ loop-key-preserved g c =
       finite = goes.1;
       counted = omega (arith, goes.2, l.invariant.counted);
       put = has_put_more (pair_fits g.K.PartialEq.eq g.row.N) (put_pair g.K.PartialEq.eq) c.args.self.now l.yielded l.at l.self c.checked_insert.new.self (c.in-Some.key, c.in-Some.value) l.invariant.put c.checked_insert.ensures.pairs (fits_checked g.K.PartialEq.eq g.row.N l.self c.in-Some.key c.checked_insert.ensures.answer c.if-is_none.ensures);
+      content = c.checked_insert.ensures.content.1;
     }
 
 -- the map is as it was before the item that didn't fit, and full
@@ -25,19 +26,27 @@ returns-then-is_none g c =
     let l = c.loop-key in
     let misfit = fits_checked g.K.PartialEq.eq g.row.N l.self c.in-Some.key c.checked_insert.ensures.answer c.if-is_none.ensures in
     let kept : c.checked_insert.new.self ≡ l.self = rw misfit at c.checked_insert.ensures.pairs in
-    let full = ap length kept ∙ full_is (has g.K.PartialEq.eq l.self c.in-Some.key) (length l.self) g.row.N misfit (rw kept at c.len-content.ensures.content.bounded) in
-    assumption (
-      run_stops (pair_fits g.K.PartialEq.eq g.row.N) (put_pair g.K.PartialEq.eq) c.args.self.now l.yielded l.at l.self c.checked_insert.new.self (c.in-Some.key, c.in-Some.value) l.invariant.put c.checked_insert.ensures.pairs g.I.Iterator.next_gives c.args.items c.next.new.self misfit
-          (rw (← c.into_iter-key-iterator.ensures.into_iter_gives) (l.key-iterator, l.yielded_by, c.in-Some.ensures.steps)),
-      full,
-    )
+    let full = ap length kept ∙ full_is (has g.K.PartialEq.eq l.self c.in-Some.key) (length l.self) g.row.N misfit (c.loop-key.invariant.content.bounded) in
+    record {
+      runs = tt;
+      stops =
+          run_stops (pair_fits g.K.PartialEq.eq g.row.N) (put_pair g.K.PartialEq.eq) c.args.self.now l.yielded l.at l.self c.checked_insert.new.self (c.in-Some.key, c.in-Some.value) l.invariant.put c.checked_insert.ensures.pairs g.I.Iterator.next_gives c.args.items c.next.new.self misfit
+          (rw (← c.into_iter-key-iterator.ensures.into_iter_gives) (l.key-iterator, l.yielded_by, c.in-Some.ensures.steps));
+      full = full;
+      content = (c.len-content.ensures.content, c.checked_insert.ensures.content.1);
+    }
 
 pub returns : goal.returns
 returns g c =
     let l = c.loop-key in
-    assumption
-    (run_puts (pair_fits g.K.PartialEq.eq g.row.N) (put_pair g.K.PartialEq.eq) g.I.Iterator.next_gives c.args.items c.args.self.now l.self l.yielded l.at l.invariant.put
-    (rw (← c.into_iter-key-iterator.ensures.into_iter_gives) (c.next.new.self, (l.key-iterator, l.yielded_by, c.in-None.ensures.steps))))
+    record {
+      runs =
+          run_puts (pair_fits g.K.PartialEq.eq g.row.N) (put_pair g.K.PartialEq.eq) g.I.Iterator.next_gives c.args.items c.args.self.now l.self l.yielded l.at l.invariant.put
+          (rw (← c.into_iter-key-iterator.ensures.into_iter_gives) (c.next.new.self, (l.key-iterator, l.yielded_by, c.in-None.ensures.steps)));
+      stops = tt;
+      full = tt;
+      content = (c.len-content.ensures.content, l.invariant.content);
+    }
 
 pub checked_insert-requires : goal.checked_insert-requires
 checked_insert-requires g c = assumption

@@ -1,5 +1,6 @@
 use Rattle.std.specs.Prelude.{◌+◌, ◌≤◌}
 use Rattle.micromap_core.specs.Build.{most_items, pair_fits, put_pair}
+use Rattle.micromap_core.specs.Pairs.{IsContent}
 use Rattle.micromap_core.proofs.BuildLemmas.{HasPut}
 use Rattle.micromap_core.proofs.map.Map.try_extend.Given as goal
 
@@ -9,4 +10,5 @@ invariant-loop-key g l = record {
   finite : (goal.iterator-loop-key g).is_finite l.key-iterator;
   counted : l.at + (goal.iterator-loop-key g).remaining l.key-iterator ≤ most_items;
   put : HasPut (pair_fits g.K.PartialEq.eq g.row.N) (put_pair g.K.PartialEq.eq) l.initial.self l.yielded l.at l.self;
+  content : IsContent g.K.PartialEq.eq g.row.N l.self;
 }

@@ -14,7 +14,7 @@ loop-index-preserved g c = updates_next g.F.FnMut c.args.update c.args.self.now 
 pub returns : goal.returns
 returns g c =
     let at = c.loop-index.invariant in
-    update_ends g.F.FnMut c.args.update c.args.self.now _ _ _ at (omega arith)
+    record { pairs = update_ends g.F.FnMut c.args.update c.args.self.now _ _ _ at (omega arith); content = (c.len-index-end.ensures.content, c.len-after.ensures.content) }
 
 pub len-index-end-requires : goal.len-index-end-requires
 len-index-end-requires g c = assumption

@@ -1,5 +1,6 @@
 use Rattle.std.proofs.Common.{◌<◌, length, refl, rules, sym, ◌∙◌}
 use Rattle.micromap_core.proofs.ClosureLemmas.{asks_value, updates_stored, updates_missing, update_keys_end}
+use Rattle.micromap_core.proofs.ContentLemmas.{content_same_keys}
 use Rattle.micromap_core.proofs.map.Map.update_disjoint.Goals as goal
 use Rattle.std.proofs.lemmas.List.{length-replicate}
 
@@ -24,7 +25,7 @@ loop-position-preserved g c =
     ]
 
 pub returns : goal.returns
-returns g c = assumption (update_keys_end g.K.PartialEq.eq g.F.FnMut c.args.update c.args.self.now c.args.keys.now _ _ _ _ c.loop-position.invariant (search rules))
+returns g c = assumption (content_same_keys c.len-content.ensures.content c.loop-position.invariant.same_keys, update_keys_end g.K.PartialEq.eq g.F.FnMut c.args.update c.args.self.now c.args.keys.now _ _ _ _ c.loop-position.invariant (search rules))
 
 pub get_mut-requires : goal.get_mut-requires
 get_mut-requires g c = assumption

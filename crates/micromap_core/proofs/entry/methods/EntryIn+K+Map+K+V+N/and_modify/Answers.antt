@@ -1,12 +1,13 @@
 use Rattle.std.proofs.Common.{refl}
 use Rattle.std.specs.Map.Calls.{MayWrite}
-use Rattle.micromap_core.specs.Entry.{with_entry_value}
+use Rattle.micromap_core.specs.Entry.{entry_put, with_entry_value}
 use Rattle.micromap_core.proofs.Lists.{slice_get_some}
 use Rattle.micromap_core.proofs.EntryLemmas.{occupied_written}
 use Rattle.micromap_core.proofs.entry.methods.EntryIn+K+Map+K+V+N.and_modify.Goals as goal
 
 -- the closure was called on the value, and left another
 pub returns-in-Occupied : goal.returns-in-Occupied
+unfolding entry_put
 returns-in-Occupied g c =
     let o = c.in-Occupied.entry in
     let v = c.f.new.arg2 in

@@ -1,11 +1,13 @@
 use Rattle.std.proofs.Common.{refl, sym, ◌∙◌, []}
 use Rattle.std.proofs.lemmas.Option.{same_Some, slice_get_within}
+use Rattle.micromap_core.specs.Entry.{entry_put}
 use Rattle.micromap_core.proofs.EntryLemmas.{vacant_written}
 use Rattle.micromap_core.proofs.entry.vacant.VacantIn+K+Map+K+V+N.insert.Goals as goal
 use Rattle.micromap_core.proofs.Lists.{slice_get_seam}
 
 -- the pair stands last, and its value is lent
 pub returns : goal.returns
+unfolding entry_put
 returns g c =
     let self = c.args.self in
     let new = record self.map { now = c.push_pair.new.self } in

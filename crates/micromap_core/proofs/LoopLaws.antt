@@ -1,0 +1,57 @@
+-- For callers: loops over a map that build another one, or put its pairs into another. The ruleset `loop_laws` has what
+-- the search needs beside `map_laws`.
+use Rattle.std.proofs.Common.{◌≡◌, ℕ, ◌<◌, ◌≤◌, Bool, true, false, ◌||◌, List, [], ◌∷◌, ◌++◌, drop, length, is_some, ap, subst, ◌∙◌, append_assoc, arith}
+use Rattle.std.specs.List.{IsDistinct}
+use Rattle.std.specs.Map.{keys_of}
+use Rattle.std.proofs.Math.Bool.{or-true}
+use Rattle.std.proofs.lemmas.Bool.{lt-ltb}
+use Rattle.std.proofs.lemmas.List.{map-append}
+use Rattle.std.proofs.lemmas.Map.Keys.{IsDistinct-tail}
+use Rattle.std.proofs.lemmas.Map.Made.{is_some-lookup}
+use Rattle.micromap_core.specs.Build.{build, put_all}
+use Rattle.micromap_core.specs.Equalities.{Lawful}
+use Rattle.micromap_core.specs.Pairs.{fits, has, put, IsUnique}
+use Rattle.micromap_core.proofs.DistinctLemmas.{new_behind}
+use Rattle.micromap_core.proofs.Equalities.{of_lawful}
+use Rattle.micromap_core.proofs.MapLaws.{at_first, length_put, put_new}
+use Rattle.micromap_core.proofs.StreamLemmas.{built_in_turn}
+
+module _ {K V : Type 0} (eq : K → K → Bool) where
+  -- the first pair, and those behind it
+  pub unique_behind : (p : K × V) (behind : List (K × V)) → IsUnique eq (p ∷ behind) → IsUnique eq behind
+  unique_behind p behind unique = IsDistinct-tail eq p.0 (keys_of behind) unique
+
+  pub has_first : (p : K × V) (behind : List (K × V)) → Lawful eq → has eq (p ∷ behind) p.0 ≡ true
+  has_first p behind laws = ap is_some (at_first eq p behind laws)
+
+  -- a missing key is missing behind the first pair too
+  pub has_drop : (pairs : List (K × V)) (k : K) → has eq pairs k ≡ false → has eq (drop 1 pairs) k ≡ false
+  has_drop [] k missing = missing
+  has_drop (p ∷ behind) k missing = grind (arith, missing)
+
+  -- with room each key fits
+  pub fits_room : (N : ℕ) (pairs : List (K × V)) (k : K) → length pairs < N → fits eq N pairs k ≡ true
+  fits_room N pairs k room = ap (λ b. has eq pairs k || b) (lt-ltb (length pairs) N room) ∙ or-true (has eq pairs k)
+
+  -- pairs that are done and pairs that are left: a new key goes between them
+  pub put_first_of_rest : (done rest : List (K × V)) (k : K) (v : V) → has eq done k ≡ false → put eq done k v ++ rest ≡ done ++ (k, v) ∷ rest
+  put_first_of_rest done rest k v missing = ap (λ l. l ++ rest) (put_new eq done k v missing) ∙ append_assoc done ((k, v) ∷ []) rest
+
+  -- the key of the next pair is none of those that are done, since keys are unequal
+  pub has_done : (done rest : List (K × V)) (p : K × V) → Lawful eq → IsUnique eq (done ++ p ∷ rest) → has eq done p.0 ≡ false
+  has_done done rest p laws unique =
+      is_some-lookup (eq p.0) done ∙ new_behind (of_lawful eq laws) (keys_of done) p.0 (keys_of rest) (subst (IsDistinct eq) (map-append (λ (q : K × V). q.0) done (p ∷ rest)) unique)
+
+  pub copied_next : (done rest : List (K × V)) (k : K) (v : V) → Lawful eq → IsUnique eq (done ++ (k, v) ∷ rest) → put eq done k v ++ rest ≡ done ++ (k, v) ∷ rest
+  copied_next done rest k v laws unique = put_first_of_rest done rest k v (has_done done rest (k, v) laws unique)
+
+  -- pairs with unequal keys are built as they are
+  pub build_unique : (pairs : List (K × V)) → Lawful eq → IsUnique eq pairs → build eq pairs ≡ pairs
+  build_unique pairs laws unique = built_in_turn (of_lawful eq laws) [] pairs unique
+
+  -- a list of pairs that is put takes none away
+  pub length_le_put_all : (pairs items : List (K × V)) → length pairs ≤ length (put_all eq pairs items)
+  length_le_put_all pairs [] = omega arith
+  length_le_put_all pairs (p ∷ items) = grind (arith, length_put eq pairs p.0 p.1, length_le_put_all (put eq pairs p.0 p.1) items)
+
+pub ruleset loop_laws = (has_first, has_drop, fits_room, copied_next, build_unique, length_le_put_all)
