@@ -1,4 +1,4 @@
--- What is left to run makes of two maps what the whole list of calls makes of them.
+-- The calls that are left to run lead two maps, and the answers so far, to the same end as all calls from the start.
 use Rattle.std.proofs.Common.{◌≡◌, ◌↔◌, ℕ, ◌+◌, ◌<◌, ◌≤◌, Bool, true, false, ◌&&◌, List, [], ◌∷◌, length, get_or, drop, map, IsTrue, refl, ap, sym, ◌∙◌}
 use Rattle.std.specs.Cmp.{IsEquivalence}
 use Rattle.std.specs.Cmp.Lexicographic.{pointwise}

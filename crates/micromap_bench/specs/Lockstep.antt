@@ -1,4 +1,4 @@
--- The program's calls and answers, as the calls and answers of the definitions.
+-- Each call and answer of the program as a call or an answer of `Calls`.
 use Rattle.micromap.specs.Calls as spec
 use Rattle.micromap_bench.specs.declared.calls.Call.{Call}
 use Rattle.micromap_bench.specs.declared.calls.Call.TheVariants.{Insert, InsertKeyValue, Get, GetKeyValue, Contains, Remove, RemoveEntry, Len, IsEmpty, Clear}

@@ -1,4 +1,4 @@
--- What the program writes of a row.
+-- What the program writes for a row.
 use Rattle.std.specs.Prelude.{ℕ, List, ◌++◌, codes}
 use Rattle.std.specs.Fmt.{decimal}
 

@@ -1,4 +1,4 @@
-//! What no contract says: the rows' values, and that a failed write ends a run.
+//! Tests of what no contract says: the rows have their values, and a failed write ends a run.
 use super::{Call, lockstep, run_rows};
 use micromap::Map;
 use micromap_testing::Marked;

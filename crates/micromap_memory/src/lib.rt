@@ -1,5 +1,5 @@
-//! What the calls that may lack memory do where a request for it is refused. The tests are run once for each request,
-//! which is then refused.
+//! Calls that may lack memory, and what they do if a request for it is refused. `tools/refuse-memory` runs the tests
+//! once for each request, which it refuses.
 #![tactic(auto)]
 
 #[cfg(test)]

@@ -1,4 +1,4 @@
-//! Performs the calls that stand on its standard input on maps and sets of the library, and writes for each its answer
+//! Reads calls from its standard input, performs them on maps and sets of the library, and writes for each its answer
 //! and the content after it. `LANGUAGE.md` says how calls and answers are written.
 #![tactic(auto)]
 

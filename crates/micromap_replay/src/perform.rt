@@ -1,5 +1,4 @@
-//! Performs calls on maps and sets of the library. A call is refused if its precondition isn't met, and then nothing
-//! has changed.
+//! Performs calls on maps and sets of the library. A call whose precondition isn't met is refused, and changes nothing.
 mod entry;
 mod keyed;
 mod map;

@@ -1,4 +1,4 @@
-//! The workloads' calls at the `IndexMap` of the kit, a hash map in the order of insertion, which its removals keep.
+//! The workloads' calls at the kit's `IndexMap`, a hash map that keeps the order of insertion, also in a removal.
 use crate::numbers::Numbers;
 use indexmap::IndexMap;
 use std::alloc::Global;

@@ -1,9 +1,9 @@
 //! Workloads over this library's map and set, for the driver in `tools/speed` that times them beside the Rust crate's.
 //!
-//! `inputs` and the files of workloads (`bytes`, `numbers`, `texts` and `wide`) have no clause and are Rust as well: the
-//! driver compiles the same files. `library` has what this library's types do at a workload's calls, `scan` and `index_map`
-//! what types do that a user might take in their place. Of a workload it is proved that it is safe and ends; the driver
-//! compares what it returns.
+//! `inputs` and the files of workloads (`bytes`, `numbers`, `texts` and `wide`) have no clause and are Rust as well:
+//! the driver compiles the same files. `library` has the workloads' calls at this library's types, and `scan` and
+//! `index_map` have them at types that a user might take in their place. A workload is proved to be safe and to end.
+//! The driver compares what it returns.
 #![tactic(auto)]
 
 ghost use Rattle.std.specs.Prelude.{◌≤◌};

@@ -1,4 +1,4 @@
-//! What no contract says, a module for each subject.
+//! Tests of what no contract says. Each subject has a module.
 
 mod building;
 mod capacity;

@@ -4,13 +4,12 @@ use micromap::{Map, Steps};
 // A look-up costs the index of the key plus one, or the length where the key is missing.
 pub(super) fn row_19() -> bool {
     let map = Map::from([(5, 50), (6, 60), (7, 70)]);
-    // `len` ensures that the steps fit.
-    let _content = map.len();
+    let whole = map.len() == 3;
     let mut steps = Steps::new();
     let found = map.get_counted(&6, &mut steps) == Some(&60);
     let after_one = steps.count();
     let missing = map.get_counted(&9, &mut steps).is_none();
-    found && after_one == 2 && missing && steps.count() == 5
+    whole && found && after_one == 2 && missing && steps.count() == 5
 }
 
 // A comparison costs a look-up of each key, and nothing where the lengths differ.

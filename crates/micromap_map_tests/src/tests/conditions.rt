@@ -1,5 +1,5 @@
-//! The tests that are offered for the conditions of calls, each where it begins to say no: at a map that is full, one
-//! that is full and has the key, an empty one, and one of capacity 0.
+//! The tests by which a caller meets the preconditions of calls. Each is tried at a full map, at a full map that has
+//! the key, at an empty map and at one of capacity 0.
 use micromap::map::Entry;
 use micromap::{Map, Set, Text};
 

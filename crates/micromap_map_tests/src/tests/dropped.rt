@@ -1,4 +1,4 @@
-//! Elements that count their drops: each is dropped once, however far an iterator or a call has come.
+//! Elements that count their drops. Each is dropped once, however far an iterator or a call has come.
 ghost use Rattle.std.specs.Prelude.{nat_eq};
 ghost use Rattle.std.specs.Cmp.Rules.{comparing};
 ghost use Rattle.std.specs.Ordering.{on};

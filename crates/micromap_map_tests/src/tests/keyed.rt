@@ -33,7 +33,6 @@ fn put_and_get<const N: usize>(map: &mut Map<u8, u8, N>, key: u8, value: u8) -> 
 fn take_and_get<const N: usize>(map: &mut Map<u8, u8, N>, key: u8) -> Option<u8>
     ensures { result ≡ None }
 {
-    let _content = map.len();
     map.remove(&key);
     map.get(&key).copied()
 }
@@ -53,6 +52,35 @@ fn a_value_is_written_where_its_key_is_there(rt: HostRuntime) {
     overwrite(&mut map, 2, 20);
     assert_eq!(rt; map.get(&1), Some(&11));
     assert_eq!(rt; map.len(), 1);
+}
+
+#[test]
+#[tactic(auto, unfolding(micromap_core::specs::Pairs::put))]
+fn insertions_answer_what_was_there(rt: HostRuntime) {
+    let mut map = Map::<_, _, 3>::new();
+    assert_eq!(rt; map.insert(37, "a"), None);
+    assert_eq!(rt; map.insert(37, "b"), Some("a"));
+    assert_eq!(rt; map.insert(37, "c"), Some("b"));
+    assert!(rt; map.contains_key(&37));
+    assert_eq!(rt; *map.index(&37), "c");
+}
+
+#[test]
+fn a_removed_entry_is_gone(rt: HostRuntime) {
+    let mut map = Map::<_, _, 2>::new();
+    assert_eq!(rt; map.insert(1, "a"), None);
+    assert_eq!(rt; map.remove_entry(&1), Some((1, "a")));
+    assert_eq!(rt; map.remove(&1), None);
+}
+
+#[test]
+#[tactic(auto, unfolding(micromap_core::specs::Pairs::put))]
+fn a_map_has_its_capacity(rt: HostRuntime) {
+    let mut map: Map<u64, &str, 10> = Map::new();
+    assert_eq!(rt; map.insert(1, "foo"), None);
+    assert_eq!(rt; map.insert(2, "bar"), None);
+    assert_eq!(rt; map.len(), 2);
+    assert_eq!(rt; map.capacity(), 10);
 }
 
 // A map of these names, which all fit.

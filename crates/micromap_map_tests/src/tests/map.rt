@@ -1,5 +1,6 @@
-//! The Rust crate's own tests of the map, a module for each of its files.
+//! The Rust crate's own tests of the map. Each of its files has a module.
 use micromap::Map;
+use std::process::Abort;
 
 mod ctors;
 mod drain;
@@ -12,10 +13,10 @@ mod values;
 
 type Named = Map<&'static str, i32, 10>;
 
-// One pair.
-fn one() -> Named {
+// One pair, whose key is new.
+fn one(rt: &impl Abort) -> Named {
     let mut map = Map::new();
-    map.insert("one", 42);
+    assert!(rt; map.insert("one", 42) == None);
     map
 }
 

@@ -1,4 +1,4 @@
-//! The first pair, which `pop_first` takes out.
+//! `pop_first` of a map.
 use micromap::Map;
 
 #[test]

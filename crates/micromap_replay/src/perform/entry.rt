@@ -1,6 +1,7 @@
 //! Performs the calls of entries.
 ghost use Rattle.std.specs.Prelude.{◌≡◌, if◌then◌else◌};
 ghost use Rattle.std.specs.Option.{unwrap_or};
+ghost use Rattle.micromap.specs.Entry.{IsEntryOf};
 ghost use Rattle.micromap.specs.Pairs.{at, has, put_if_fits};
 ghost use Rattle.micromap_replay.specs.declared.calls.map.EntryCall.TheVariants.{OrInsert, AndModifyOrInsert, InsertEntry, VacantInsert};
 ghost use Rattle.micromap_replay.specs.KeyedCalls.{after_entry, answer_entry, raised, same_id};
@@ -54,6 +55,13 @@ fn or_insert<const N: usize>(map: &mut Numbers<N>, key: Marked, value: i32) -> A
     }
 }
 
+// Returns the entry of the key.
+fn entry_of<const N: usize>(map: &mut Numbers<N>, key: Marked) -> Entry<'_, Marked, i32, N>
+    ensures { IsEntryOf same_id map.entry key result }
+{
+    map.entry(key)
+}
+
 fn and_modify_or_insert<const N: usize>(
     map: &mut Numbers<N>,
     key: Marked,
@@ -63,9 +71,7 @@ fn and_modify_or_insert<const N: usize>(
     ensures answer { result ≡ answer_entry N map.old (AndModifyOrInsert key amount value) }
     ensures map { map.new ≡ (if has same_id map.old key then raised N map.old key amount else put_if_fits same_id N map.old key value) }
 {
-    let entry = map
-        .entry(key)
-        .and_modify(|stored| *stored = stored.wrapping_add(amount));
+    let entry = entry_of(map, key).and_modify(|stored| *stored = stored.wrapping_add(amount));
     if entry.has_room() {
         Answer::Value(*entry.or_insert(value))
     } else {

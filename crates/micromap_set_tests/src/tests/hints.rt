@@ -1,4 +1,4 @@
-//! The hints of the operations on two sets, and their clones, on the way.
+//! The hints and the clones of the iterators over two sets, after each call of `next`.
 use micromap::Set;
 use micromap::set::{Difference, Intersection, SymmetricDifference, Union};
 use micromap_testing::debugs;

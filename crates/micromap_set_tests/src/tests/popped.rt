@@ -1,4 +1,4 @@
-//! The first item, which `pop_first` takes out.
+//! `pop_first` of a set.
 use micromap::Set;
 
 #[test]

@@ -1,4 +1,4 @@
-//! Operations on two sets where the clone of an item fails at its turn: both sets stay as they were, and each clone
+//! Operations on two sets in which the clone of an item fails at its turn. Both sets stay as they were, and each clone
 //! that was made is dropped.
 ghost use Rattle.std.specs.Prelude.{◌≡◌, nat_eq};
 ghost use Rattle.std.specs.Cmp.Rules.{comparing};

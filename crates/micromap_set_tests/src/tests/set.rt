@@ -1,4 +1,4 @@
-//! The set as a user meets it, and two callers' proofs over its items. The modules are those of its calls.
+//! The set as a user meets it, and two callers' proofs over its items. Each of its calls has a module.
 ghost use Rattle.std.specs.Prelude.{◌≡◌, ◌==◌, ◌%◌, nat_eq};
 ghost use Rattle.micromap.specs.Items.{put_item_if_fits};
 ghost use Rattle.std.specs.List.{filter};
@@ -155,7 +155,7 @@ fn put<const N: usize>(set: &mut Set<i32, N>, item: i32) -> bool {
 
 // Whether an empty set takes two items once each, and is drained of them.
 fn fills_and_drains(set: &mut Set<i32, 10>) -> bool {
-    let empty = set.capacity() == 10 && set.is_empty() && *set == Set::default();
+    let empty = set.capacity() == 10 && set.len() == 0 && set.is_empty() && *set == Set::default();
     let first = put(set, 0) && set.len() == 1 && !put(set, 0) && set.len() == 1;
     let second = put(set, 1) && set.len() == 2;
     let mut drained = set.drain();

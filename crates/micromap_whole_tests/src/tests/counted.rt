@@ -1,4 +1,4 @@
-//! What look-ups and comparisons cost: by their contracts, and counted by items whose `==` counts.
+//! How many comparisons look-ups and comparisons of maps make, by their contracts and by items whose `==` counts.
 ghost use Rattle.std.specs.Prelude.{◌≡◌, ◌↔◌, nat_eq, IsTrue};
 ghost use Rattle.std.specs.Cmp.Rules.{comparing};
 ghost use Rattle.std.specs.Option.{option_copied};

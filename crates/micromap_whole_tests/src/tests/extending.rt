@@ -1,15 +1,15 @@
 //! A map that is given items, and a caller's proof over the items.
 ghost use Rattle.std.specs.Prelude.{◌≡◌, IfErr, IfOk, nat_eq};
 ghost use Rattle.std.specs.Vec.{vec_items};
-ghost use Rattle.micromap.specs.Build.{put_all, MisfitIn};
+ghost use Rattle.micromap.specs.Build.{put_all, PutsBefore};
 
 use micromap::{Map, Overfull};
 use std::alloc::AllocError;
 
-// Inserts these items, or those before the first that doesn't fit, whose place is returned.
+// Inserts these items, or those before the first that doesn't fit, whose position is returned.
 fn put_items<const N: usize>(map: &mut Map<u8, u8, N>, items: Vec<(u8, u8)>) -> Result<(), Overfull>
     ensures all { IfOk result (λ _. map.new ≡ put_all nat_eq map.old (vec_items items)) }
-    ensures misfit { IfErr result (λ e. MisfitIn nat_eq N map.old (vec_items items) e.at) }
+    ensures before { IfErr result (λ e. PutsBefore nat_eq N map.old map.new (vec_items items) e.at) }
 {
     map.try_extend(items.into_iter())
 }

@@ -17,7 +17,6 @@ fn rewritten(alloc: Global, text: &str) -> Result<String, JsonFault>
     ensures fault { IfErr result (IsFault (pairs_for 8 text.now)) }
 {
     let settings: Map<String, i64, 8> = map_from_json(alloc, text)?;
-    let _content = settings.len();
     map_to_json(alloc, &settings)
 }
 

@@ -1,7 +1,6 @@
 //! The code of the README, and the examples of doc comments.
 use micromap::{Map, Overfull, Set, Text};
 use std::alloc::AllocError;
-use std::io;
 
 #[test]
 fn insertions(rt: HostRuntime) {
@@ -56,17 +55,6 @@ fn a_set(rt: HostRuntime) {
     assert_eq!(rt; seen.checked_insert(1), None);
     assert_eq!(rt; seen.checked_insert(1), Some(1));
     assert!(rt; seen.contains(&1));
-}
-
-#[test]
-fn a_program(rt: HostRuntime) -> io::Result<()> {
-    let mut ages: Map<&str, u8, 4> = Map::new();
-    ages.checked_insert("Ada", 36);
-    ages.checked_insert("Alan", 41);
-    for (name, age) in &ages {
-        println!(rt; "{name} is {age}")?;
-    }
-    Ok(())
 }
 
 #[test]

@@ -299,6 +299,17 @@ fn a_set_is_written_as_keys_with_no_value(rt: HostRuntime) -> Result<(), AllocEr
 }
 
 #[test]
+fn a_list_takes_as_many_entries_as_come(rt: HostRuntime) -> Result<(), AllocError> {
+    let mut sink = VecSink::new(rt.alloc());
+    for key in 0..1000u16 {
+        assert_eq!(rt; sink.faults(), 0);
+        sink.entry(&key, &())?;
+    }
+    assert_eq!(rt; sink.entries().len(), 1000);
+    Ok(())
+}
+
+#[test]
 fn a_fault_says_whose_it_is(rt: HostRuntime) {
     let alloc = rt.alloc();
     let source: ReadFault<Fault> = ReadFault::Source(Fault::At(2));

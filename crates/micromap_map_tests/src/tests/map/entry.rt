@@ -56,6 +56,7 @@ fn insert_entry(map: &mut Letters, letter: char, value: u8) -> Option<u8> {
 }
 
 // The value there, and the one that is written in its place before a last one.
+#[tactic(auto, unfolding(micromap_core::specs::Entry::entry_put))]
 fn write_twice(map: &mut Letters, letter: char, first: u8, last: u8) -> Option<(u8, u8)> {
     match map.entry(letter) {
         Entry::Occupied(mut entry) => {
@@ -99,10 +100,13 @@ fn vacant_key(map: &mut Letters, letter: char) -> Option<(char, char)> {
     }
 }
 
-// The value that a vacant entry has from now on.
-fn insert_new(map: &mut Letters, letter: char, value: u8) -> Option<u8> {
+// The letter that a vacant entry shows, and the value that it has from now on.
+fn insert_new(map: &mut Letters, letter: char, value: u8) -> Option<(char, u8)> {
     match map.entry(letter) {
-        Entry::Vacant(entry) if entry.has_room() => Some(*entry.insert(value)),
+        Entry::Vacant(entry) if entry.has_room() => {
+            let shown = *entry.key();
+            Some((shown, *entry.insert(value)))
+        }
         Entry::Vacant(_entry) => None,
         Entry::Occupied(_entry) => None,
     }
@@ -140,7 +144,7 @@ fn takes_and_puts(map: &mut Letters) -> bool {
         && or_insert_with_key(map, 'f', Some(255)) == Some(102)
         && remove(map, 'e') == Some(101)
         && vacant_key(map, 'e') == Some(('e', 'e'))
-        && insert_new(map, 'e', 101) == Some(101)
+        && insert_new(map, 'e', 101) == Some(('e', 101))
         && insert_and_remove(map, 'e', 69) == Some((101, ('e', 69)))
         && insert_entry(map, 'e', 101) == Some(101)
 }

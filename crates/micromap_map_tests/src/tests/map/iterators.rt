@@ -30,7 +30,7 @@ fn empty_iterator(rt: HostRuntime) {
 
 #[test]
 fn insert_and_jump_over_next(rt: HostRuntime) {
-    let mut pairs = one().into_iter();
+    let mut pairs = one(&rt).into_iter();
     assert!(rt; pairs.next().is_some_and(|pair| pair.1 == 42));
     assert!(rt; pairs.next().is_none());
 }
@@ -129,7 +129,13 @@ fn iter_size_hint(rt: HostRuntime) {
     map.insert('a', 97);
     map.insert('c', 99);
     assert!(rt; map.iter().len() == 2);
-    assert!(rt; gives(map.into_iter(), &[('a', 97), ('c', 99)]));
+    let mut pairs = map.into_iter();
+    assert!(rt; pairs.size_hint() == (2, Some(2)));
+    assert!(rt; pairs.next() == Some(('a', 97)));
+    assert!(rt; pairs.size_hint() == (1, Some(1)));
+    assert!(rt; pairs.next() == Some(('c', 99)));
+    assert!(rt; pairs.next().is_none() && pairs.next().is_none());
+    assert!(rt; pairs.len() == 0 && pairs.size_hint() == (0, Some(0)));
 }
 
 #[test]

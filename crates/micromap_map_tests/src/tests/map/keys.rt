@@ -43,7 +43,9 @@ fn keys_debug(rt: HostRuntime) {
 
 #[test]
 fn keys_default(rt: HostRuntime) {
-    assert!(rt; gives(Keys::<&str, i32>::default(), &[]));
+    let keys = Keys::<&str, i32>::default();
+    assert!(rt; keys.len() == 0);
+    assert!(rt; gives(keys, &[]));
 }
 
 #[test]
@@ -53,5 +55,7 @@ fn into_keys_debug(rt: HostRuntime) {
 
 #[test]
 fn into_keys_default(rt: HostRuntime) {
-    assert!(rt; gives(IntoKeys::<&str, i32, 10>::default(), &[]));
+    let keys = IntoKeys::<&str, i32, 10>::default();
+    assert!(rt; keys.len() == 0);
+    assert!(rt; gives(keys, &[]));
 }

@@ -1,5 +1,8 @@
 //! The keyed calls, `retain` and `update_disjoint`.
-use super::{one, two};
+ghost use Rattle.std.specs.Prelude.{◌≡◌, nat_eq};
+ghost use Rattle.std.specs.Set.{distinct_count};
+
+use super::one;
 use micromap::{Map, Overfull, Text};
 use micromap_testing::Marked;
 use std::alloc::AllocError;
@@ -40,14 +43,18 @@ fn is_empty_check(rt: HostRuntime) {
 }
 
 #[test]
+#[tactic(auto, unfolding(micromap_core::specs::Pairs::put))]
 fn insert_and_gets(rt: HostRuntime) {
-    assert!(rt; two().get_by(&Text("two")) == Some(&16));
+    let mut map: Map<&str, i32, 10> = Map::new();
+    assert!(rt; map.insert("one", 42) == None);
+    assert!(rt; map.insert("two", 16) == None);
+    assert!(rt; map.get_by(&Text("two")) == Some(&16));
 }
 
 #[test]
 fn insert_and_gets_mut(rt: HostRuntime) {
     let mut map: Map<i32, [i32; 3], 10> = Map::new();
-    map.insert(42, [1, 2, 3]);
+    assert!(rt; map.insert(42, [1, 2, 3]) == None);
     if let Some(value) = map.get_mut(&42) {
         value[0] = 500;
     }
@@ -56,24 +63,24 @@ fn insert_and_gets_mut(rt: HostRuntime) {
 
 #[test]
 fn checks_key(rt: HostRuntime) {
-    let map = one();
+    let map = one(&rt);
     assert!(rt; map.contains_key_by(&Text("one")));
     assert!(rt; !map.contains_key_by(&Text("another")));
 }
 
 #[test]
 fn gets_missing_key(rt: HostRuntime) {
-    assert!(rt; one().get_by(&Text("two")).is_none());
+    assert!(rt; one(&rt).get_by(&Text("two")).is_none());
 }
 
 #[test]
 fn mut_gets_missing_key(rt: HostRuntime) {
-    assert!(rt; one().get_mut_by(&Text("two")).is_none());
+    assert!(rt; one(&rt).get_mut_by(&Text("two")).is_none());
 }
 
 #[test]
 fn removes_simple_pair(rt: HostRuntime) {
-    let mut map = one();
+    let mut map = one(&rt);
     assert!(rt; map.remove_by(&Text("one")) == Some(42));
     assert!(rt; map.remove_by(&Text("another")) == None);
     assert!(rt; map.get_by(&Text("one")).is_none());
@@ -88,7 +95,7 @@ struct Triple {
 fn insert_struct(rt: HostRuntime) {
     let mut map: Map<u8, Triple, 8> = Map::new();
     let numbers = [1, 2, 100];
-    map.insert(1, Triple { numbers });
+    assert!(rt; map.insert(1, Triple { numbers }).is_none());
     assert!(rt;
         map.into_iter()
             .next()
@@ -104,7 +111,7 @@ struct Outer {
 #[test]
 fn insert_composite(rt: HostRuntime) {
     let mut map: Map<u8, Outer, 8> = Map::new();
-    map.insert(1, Outer { inner: Map::new() });
+    assert!(rt; map.insert(1, Outer { inner: Map::new() }).is_none());
     assert!(rt;
         map.into_iter()
             .next()
@@ -163,26 +170,26 @@ fn insert_many_and_remove(rt: HostRuntime) {
 
 #[test]
 fn get_key_value(rt: HostRuntime) {
-    let map = one();
+    let map = one(&rt);
     assert!(rt; map.get_key_value(&"one") == Some((&"one", &42)));
     assert!(rt; map.contains_key(&"one"));
 }
 
 #[test]
 fn get_absent_key_value(rt: HostRuntime) {
-    assert!(rt; one().get_key_value_by(&Text("two")).is_none());
+    assert!(rt; one(&rt).get_key_value_by(&Text("two")).is_none());
 }
 
 #[test]
 fn remove_entry_present(rt: HostRuntime) {
-    let mut map = one();
+    let mut map = one(&rt);
     assert!(rt; map.remove_entry(&"one") == Some(("one", 42)));
     assert!(rt; !map.contains_key(&"one"));
 }
 
 #[test]
 fn remove_entry_absent(rt: HostRuntime) {
-    assert!(rt; one().remove_entry_by(&Text("two")).is_none());
+    assert!(rt; one(&rt).remove_entry_by(&Text("two")).is_none());
 }
 
 #[test]
@@ -309,18 +316,39 @@ fn checked_insert_does_not_affect_other_keys(rt: HostRuntime) {
 fn update_disjoint_non_overlapping_keys(rt: HostRuntime) {
     let mut map = Map::from([(1, 10), (2, 20), (3, 30), (4, 40)]);
     let mut as_stored = true;
-    map.update_disjoint(&[3, 1, 2], |position, value: &mut i32| {
+    let found = map.update_disjoint(&[3, 1, 2], |position, value: &mut i32| {
         as_stored &= [30, 10, 20].get(position) == Some(&*value);
         *value = value.wrapping_mul(10);
     });
+    assert!(rt; found == [true; 3]);
     assert!(rt; as_stored);
     assert!(rt; map.values().eq(&[100, 200, 300, 40]));
 }
 
+// Whether each of these keys has the value that stands at its position, or is missing where `None` does.
+fn lends<const J: usize, const N: usize>(
+    map: &mut Map<u8, usize, N>,
+    keys: &[u8; J],
+    values: &[Option<usize>; J],
+) -> bool
+    requires { distinct_count nat_eq keys.now ≡ J }
+{
+    let mut as_stored = true;
+    let found = map.update_disjoint(keys, |position, value| {
+        as_stored &= values.get(position) == Some(&Some(*value));
+    });
+    as_stored
+        && found
+            .iter()
+            .zip(values)
+            .all(|(found, value)| *found == value.is_some())
+}
+
 #[test]
 fn update_disjoint_missing_keys(rt: HostRuntime) {
-    let mut map: Map<u8, i32, 5> = Map::new();
+    let mut map: Map<u8, usize, 5> = Map::new();
     map.insert(2, 20);
+    assert!(rt; lends(&mut map, &[1, 2], &[None, Some(20)]));
     assert!(rt; map.update_disjoint(&[1, 2], |_, value| *value = 7) == [false, true]);
     assert!(rt; map.get(&2) == Some(&7));
 }
@@ -338,12 +366,15 @@ fn update_disjoint_empty_keys(rt: HostRuntime) {
 fn update_disjoint_keys_more_than_capacity(rt: HostRuntime) {
     let mut map: Map<u8, usize, 3> = Map::new();
     assert!(rt; map.is_empty());
-    assert!(rt; map.update_disjoint(&[1], |_, _| {}) == [false]);
-    map.insert(1, 10);
-    assert!(rt; map.update_disjoint(&[1], |_, _| {}) == [true]);
+    assert!(rt; lends(&mut map, &[1], &[None]));
+    map.checked_insert(1, 10);
+    assert!(rt; lends(&mut map, &[1], &[Some(10)]));
     map.checked_insert(2, 20);
     map.checked_insert(3, 30);
-    assert!(rt; map.update_disjoint(&[1, 2, 3], |_, _| {}) == [true; 3]);
+    assert!(rt; !map.is_empty());
+    assert!(rt; lends(&mut map, &[1, 2, 3], &[Some(10), Some(20), Some(30)]));
+    let values = [None, Some(10), Some(20), Some(30), None];
+    assert!(rt; lends(&mut map, &[0, 1, 2, 3, 4], &values));
     let found = map.update_disjoint(&[0, 1, 2, 3, 4], |position, value| *value = position);
     assert!(rt; found == [false, true, true, true, false]);
     assert!(rt; map.values().eq(&[1, 2, 3]));
@@ -362,6 +393,7 @@ fn has(library: &Map<Marked, u32, 5>, key: &Marked, mark: char, number: u32) -> 
 fn insert_will_not_update_the_key(rt: HostRuntime) {
     let mut library: Map<Marked, u32, 5> = Map::new();
     let (old, new) = (Marked::new(1, 'x'), Marked::new(1, 'y'));
+    assert!(rt; old == new && old.mark != new.mark);
     assert!(rt; library.insert(old, 10) == None);
     assert!(rt; has(&library, &old, 'x', 10));
     assert!(rt; library.insert(new, 20) == Some(10));
@@ -373,6 +405,7 @@ fn insert_will_not_update_the_key(rt: HostRuntime) {
 fn insert_key_value_will_update_the_key(rt: HostRuntime) {
     let mut library: Map<Marked, u32, 5> = Map::new();
     let (old, new) = (Marked::new(1, 'x'), Marked::new(1, 'y'));
+    assert!(rt; old == new && old.mark != new.mark);
     assert!(rt; library.insert_key_value(old, 10).is_none());
     assert!(rt; has(&library, &old, 'x', 10));
     let given = library.insert_key_value(new, 20);

@@ -24,7 +24,12 @@ fn iterate_values(rt: HostRuntime) {
 #[test]
 fn update_all_values(rt: HostRuntime) {
     let mut map = two();
-    map.update_all(|_, value| *value = value.wrapping_mul(2));
+    let mut calls = 0u8;
+    map.update_all(|_, value| {
+        calls = calls.wrapping_add(1);
+        *value = value.wrapping_mul(2);
+    });
+    assert!(rt; calls == 2);
     assert!(rt; total(&map) == 116);
 }
 
@@ -43,12 +48,16 @@ fn values_clone(rt: HostRuntime) -> Result<(), AllocError> {
 
 #[test]
 fn values_default(rt: HostRuntime) {
-    assert!(rt; gives(Values::<&str, i32>::default(), &[]));
+    let values = Values::<&str, i32>::default();
+    assert!(rt; values.len() == 0);
+    assert!(rt; gives(values, &[]));
 }
 
 #[test]
 fn into_values_default(rt: HostRuntime) {
-    assert!(rt; gives(IntoValues::<&str, i32, 10>::default(), &[]));
+    let values = IntoValues::<&str, i32, 10>::default();
+    assert!(rt; values.len() == 0);
+    assert!(rt; gives(values, &[]));
 }
 
 #[test]

@@ -3,6 +3,7 @@ use super::{begins, small_sets};
 use micromap::{Overfull, Set};
 use micromap_testing::{debugs, holds};
 use std::alloc::{AllocError, Global};
+use std::test::Fail;
 
 // The words of a sentence.
 fn words(sentence: &str) -> Result<Set<&str, 10>, Overfull> {
@@ -18,10 +19,19 @@ fn first_has<'a, const N: usize, const M: usize>(
     first.difference(second).eq(items)
 }
 
+// The two sentences whose words are compared.
+fn sentences(alloc: Global) -> Result<[String; 2], AllocError> {
+    Ok([
+        String::from_str(alloc, "I love the surf and the sand.")?,
+        String::from_str(alloc, "I hate the hate and the sand.")?,
+    ])
+}
+
 #[test]
-fn difference_ref_lifetime(rt: HostRuntime) -> Result<(), Overfull> {
-    let first = words("I love the surf and the sand.")?;
-    let second = words("I hate the hate and the sand.")?;
+fn difference_ref_lifetime(rt: HostRuntime) -> Result<(), Fail> {
+    let [first, second] = sentences(rt.alloc())?;
+    let first = words(first.as_str())?;
+    let second = words(second.as_str())?;
     assert!(rt; first_has(&first, &second, &["love", "surf"]));
     Ok(())
 }
@@ -55,17 +65,36 @@ fn difference_ref_empty_set(rt: HostRuntime) {
     assert!(rt; first_has(&a, &none, &["apple", "banana", "cherry"]));
 }
 
+// The text with an item and a comma after it.
+fn joined(mut text: String, item: &str) -> Result<String, AllocError> {
+    text.push_str(item)?;
+    text.push(',')?;
+    Ok(text)
+}
+
 #[test]
-fn difference_ref_fold(rt: HostRuntime) {
+fn difference_ref_fold(rt: HostRuntime) -> Result<(), AllocError> {
     let a = Set::from(["apple", "banana", "cherry"]);
     let b = Set::from(["banana", "cherry", "date"]);
-    let last = a.difference(&b).copied().fold("", |_, item| item);
-    assert!(rt; last == "apple");
+    let mut items = a.difference(&b).copied();
+    let text = items.try_fold(String::new(rt.alloc()), joined)?;
+    assert!(rt; text.as_str() == "apple,");
+    Ok(())
+}
+
+// The four fruits whose references are compared.
+fn fruits(alloc: Global) -> Result<[String; 4], AllocError> {
+    Ok([
+        String::from_str(alloc, "apple")?,
+        String::from_str(alloc, "banana")?,
+        String::from_str(alloc, "cherry")?,
+        String::from_str(alloc, "date")?,
+    ])
 }
 
 #[test]
 fn difference_ref_clone(rt: HostRuntime) -> Result<(), AllocError> {
-    let [apple, banana, cherry, date] = &["apple", "banana", "cherry", "date"];
+    let [apple, banana, cherry, date] = &fruits(rt.alloc())?;
     let a = Set::from([apple, banana, cherry]);
     let b = Set::from([banana, cherry, date]);
     let original = a.difference_ref(&b);
@@ -74,11 +103,12 @@ fn difference_ref_clone(rt: HostRuntime) -> Result<(), AllocError> {
 }
 
 #[test]
-fn difference_ref_fmt_debug(rt: HostRuntime) {
-    let [apple, banana, cherry, date] = &["apple", "banana", "cherry", "date"];
+fn difference_ref_fmt_debug(rt: HostRuntime) -> Result<(), AllocError> {
+    let [apple, banana, cherry, date] = &fruits(rt.alloc())?;
     let a = Set::from([apple, banana, cherry]);
     let b = Set::from([banana, cherry, date]);
     assert!(rt; debugs(rt.alloc(), &a.difference_ref(&b), r#"["apple"]"#));
+    Ok(())
 }
 
 // The words of the first sentence alone, which outlive the sets of words.
@@ -88,9 +118,9 @@ fn first_only<'a>(first: &'a str, second: &'a str) -> Result<Set<&'a str, 10>, O
 }
 
 #[test]
-fn difference_lifetime(rt: HostRuntime) -> Result<(), Overfull> {
-    let first = "I love the surf and the sand.";
-    let second = "I hate the hate and the sand.";
+fn difference_lifetime(rt: HostRuntime) -> Result<(), Fail> {
+    let [first, second] = sentences(rt.alloc())?;
+    let (first, second) = (first.as_str(), second.as_str());
     assert!(rt; first_only(first, second)?.eq_with(&Set::from(["love", "surf"])));
     assert!(rt; first_only(second, first)?.eq_with(&Set::from(["hate"])));
     Ok(())

@@ -6,6 +6,9 @@ use micromap_testing::holds;
 fn test_from_iter(rt: HostRuntime) -> Result<(), Overfull> {
     let set: Set<u8, 4> = Set::try_from_iter([1, 2, 3, 4].into_iter())?;
     assert!(rt; holds(&set, &[1, 2, 3, 4]));
+    for item in [1, 2, 3, 4] {
+        assert!(rt; set.contains(&item));
+    }
     assert!(rt; !set.contains(&5));
     Ok(())
 }
@@ -14,5 +17,8 @@ fn test_from_iter(rt: HostRuntime) -> Result<(), Overfull> {
 fn test_from_array(rt: HostRuntime) {
     let set = Set::from([1, 2, 3, 4]);
     assert!(rt; holds(&set, &[1, 2, 3, 4]));
+    for item in [1, 2, 3, 4] {
+        assert!(rt; set.contains(&item));
+    }
     assert!(rt; !set.contains(&5));
 }

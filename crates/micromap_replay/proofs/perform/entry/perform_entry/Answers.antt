@@ -18,6 +18,6 @@ returns-in-AndModifyOrInsert-clause-map g c = rw c.in-AndModifyOrInsert.is (grin
 
 pub returns-in-Vacant-entry-3-clause-answer : goal.returns-in-Vacant-entry-3-clause-answer
 returns-in-Vacant-entry-3-clause-answer g c =
-    let entry = c.in-Vacant-entry-3.ensures in
+    let entry = c.in-Vacant-entry-3.ensures.entry in
     let none = no_pair (same_id c.in-VacantIntoKey.key) c.args.map.now (sym entry.occupied) in
     rw c.in-VacantIntoKey.is (grind (arith, common_steps, none, entry.occupied, entry.key, c.into_key.ensures.answer))
