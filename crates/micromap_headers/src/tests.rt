@@ -1,36 +1,75 @@
-//! What a head must have, and what ends it.
+//! What is written of a head, and the message of each fault.
 use super::*;
 use micromap_testing::displays;
 
-// Whether this is what is written of the head of a request without its header `host`.
-fn writes(alloc: Global, head: &[u8], written: &[u8]) -> Result<bool> {
-    let names = vec![in alloc; String::from_str(alloc, "HOST")?]?;
+// What the program writes for a text, if its first argument is its own name, `host`, and the second is `Cookie`.
+fn written(alloc: Global, text: &[u8]) -> Result<Vec<u8>> {
+    let mut arguments = Vec::new(alloc);
+    for argument in ["host", "Cookie"] {
+        arguments.push(String::from_str(alloc, argument)?)?;
+    }
     let mut output = Vec::new(alloc);
-    filter(alloc, head, &names, &mut output)?;
-    Ok(output.as_slice() == written)
+    run(alloc, &arguments, text, &mut output)?;
+    Ok(output)
 }
 
-// Whether the head is refused with this message.
-fn refuses(alloc: Global, head: &[u8], message: &str) -> bool {
-    writes(alloc, head, b"").is_err_and(|error| displays(alloc, &error, message))
+// Whether a head with these fields is refused with this message.
+fn refuses(alloc: Global, fields: &[u8], message: &str) -> Result<bool> {
+    let mut text = Vec::from_slice(alloc, b"GET / HTTP/1.1\r\n")?;
+    text.extend_from_slice(fields)?;
+    Ok(written(alloc, &text).is_err_and(|error| displays(alloc, &error, message)))
+}
+
+// So many fields with names of their own, and the end of a head.
+fn fields(alloc: Global, count: u8) -> Result<Vec<u8>> {
+    let mut fields = Vec::new(alloc);
+    for number in 0..count {
+        write!(fields, "{number}:\r\n")?;
+    }
+    fields.extend_from_slice(b"\r\n")?;
+    Ok(fields)
 }
 
 #[test]
-fn a_head_ends_at_an_empty_line(rt: HostRuntime) -> Result<()> {
-    let alloc = rt.alloc();
-    assert!(rt; writes(alloc, b"Host: a\r\nB:c\r\n\r\nbody", b"b: c\n")?);
-    assert!(rt; writes(alloc, b"B:c", b"b: c\n")?);
-    assert!(rt; writes(alloc, b"", b"")?);
+fn a_head_is_written_in_order(rt: HostRuntime) -> Result<()> {
+    let text = b"PUT /a HTTP/1.1\nB: c\nHost: x\nb:\td \ncookie: e\nhost:x\nF: \xff\n\nHost: y";
+    assert_eq!(rt;
+        written(rt.alloc(), text)?.as_slice(),
+        b"PUT /a\nb: c, d\nhost: x\nf: \xff\n".as_slice()
+    );
     Ok(())
 }
 
 #[test]
-fn a_refusal_names_the_line(rt: HostRuntime) {
-    let alloc = rt.alloc();
-    assert!(rt; refuses(alloc, b"a:b\nc", "line 2 has no colon"));
-    let mut head = Vec::new(alloc);
-    for number in 1..34u8 {
-        assert!(rt; writeln!(head, "{number}:").is_ok());
+fn each_fault_has_its_message(rt: HostRuntime) -> Result<()> {
+    for (fields, message) in [
+        ("Host: x\n", "the input ends before the head does"),
+        ("Host\n", "the head can't be read: invalid header name"),
+        ("Accept: x\n\n", "there is no host"),
+        ("Host: x\nHOST: y\n\n", "two values of host differ"),
+        (
+            "Content-Length: 1\ncontent-length: 2\n\n",
+            "two values of content-length differ",
+        ),
+    ] {
+        assert!(rt; refuses(rt.alloc(), fields.as_bytes(), message)?);
     }
-    assert!(rt; refuses(alloc, &head, "there is no room for the name in line 33"));
+    Ok(())
+}
+
+#[test]
+fn a_head_has_its_limits(rt: HostRuntime) -> Result<()> {
+    let alloc = rt.alloc();
+    assert!(rt; refuses(alloc, &fields(alloc, 32)?, "there is no host")?);
+    assert!(rt; refuses(alloc, &fields(alloc, 33)?, "there are more than 32 names")?);
+    assert!(rt;
+        refuses(
+            alloc,
+            &fields(alloc, 101)?,
+            "the head can't be read: too many headers"
+        )?
+    );
+    let long = vec![in alloc; b'a'; 9000]?;
+    assert!(rt; refuses(alloc, &long, "the head has more than 8192 bytes")?);
+    Ok(())
 }

@@ -1,4 +1,4 @@
--- What a search of a graph needs: that each node has room, and that it stays where no edge leads out.
+-- What the search of a graph needs: each node has room, and a walk stays among nodes that no edge leaves.
 use Rattle.std.proofs.Common.{◌≡◌, ℕ, nat_eq, ◌<◌, Bool, true, false, List, [], ◌∷◌, subst, rules, refl}
 use Rattle.std.proofs.lemmas.Map.Steps.{length-le_from_distinct_below}
 use Rattle.std.specs.Set.{is_member}

@@ -1,10 +1,19 @@
 -- A graph as the list of each node's neighbours, which are numbers of nodes.
 use Rattle.std.specs.Set.{is_member}
-use Rattle.std.specs.Prelude.{◌≡◌, ℕ, ◌<◌, Bool, true, false, ◌||◌, ◌&&◌, List, [], ◌∷◌, nat_eq, slice_index_or}
+use Rattle.std.specs.Prelude.{◌≡◌, ℕ, ◌<◌, Bool, true, false, ◌||◌, ◌&&◌, List, [], ◌∷◌, nat_eq, slice_index_or, slice_set}
+use Rattle.micromap.specs.Items.{put_item, take_item}
 
 -- none, where there is no such node
 abbrev pub neighbours : List (List ℕ) → ℕ → List ℕ
 neighbours graph a = slice_index_or graph a []
+
+-- the graph with b as a neighbour of a: a new one goes last
+abbrev pub with_neighbour : List (List ℕ) → ℕ → ℕ → List (List ℕ)
+with_neighbour graph a b = slice_set graph a (put_item nat_eq (neighbours graph a) b)
+
+-- the graph without b as a neighbour of a: the others keep their order
+abbrev pub without_neighbour : List (List ℕ) → ℕ → ℕ → List (List ℕ)
+without_neighbour graph a b = slice_set graph a (take_item nat_eq (neighbours graph a) b)
 
 -- whether b is among the neighbours of a
 abbrev pub leads : List (List ℕ) → ℕ → ℕ → Bool

@@ -1,12 +1,12 @@
--- The headers that lines are: names in small letters with their values, as bytes.
-use Rattle.std.specs.Prelude.{ℕ, ◌+◌, ◌==◌, Bool, List, [], ◌∷◌, ◌++◌, codes, if◌then◌else◌, Option, Some, None, Result, Ok, Err}
+-- The headers that the fields of a request make: names in small letters with their values, as bytes.
+use Rattle.std.specs.Prelude.{ℕ, List, [], ◌∷◌, ◌++◌, codes, if◌then◌else◌, Option, Some, None, is_some, map, Result, Ok, Err}
 use Rattle.std.specs.Fmt.{decimal}
-use Rattle.std.specs.List.{after_first, before_first, position}
-use Rattle.std.specs.Option.{option_map, option_map_or}
-use Rattle.std.specs.Str.{str_to_ascii_lowercase, trim, bytes_eq}
-use Rattle.micromap.specs.Pairs.{at, fits, put}
+use Rattle.std.specs.Option.{option_map_or, option_or}
+use Rattle.std.specs.Str.{str_to_ascii_lowercase, bytes_eq}
+use Rattle.micromap.specs.Build.{merge_pair, merged}
+use Rattle.micromap.specs.Pairs.{at, fits, has}
 use Rattle.micromap_uses.specs.declared.headers.HeaderFault.{HeaderFault}
-use Rattle.micromap_uses.specs.declared.headers.HeaderFault.TheVariants.{NoColon, TooMany, Memory}
+use Rattle.micromap_uses.specs.declared.headers.HeaderFault.TheVariants.{TooMany, TwoHosts, TwoLengths, NoHost, Memory}
 
 abbrev pub Text : Type 0
 Text = List ℕ
@@ -15,41 +15,48 @@ Text = List ℕ
 abbrev pub Header : Type 0
 Header = Text × Text
 
-abbrev pub is_colon : ℕ → Bool
-is_colon byte = byte == 58
+-- a name, in small letters, with its field
+abbrev pub Field : Type 0
+Field = Text × Header
 
--- the name before a line's first colon, and the value behind it without the white space around it
-abbrev pub header : Text → Option Header
-header line = option_map (λ _. (str_to_ascii_lowercase (before_first is_colon line), trim (after_first is_colon line))) (position is_colon line)
+abbrev pub field_of : Header → Field
+field_of h = (str_to_ascii_lowercase h.0, (str_to_ascii_lowercase h.0, h.1))
 
--- a value behind the one that is there
-abbrev pub joined : Option Text → Text → Text
-joined None value = value
-joined (Some stored) value = stored ++ codes ", " ++ value
+-- the fault of a second value of a name, if it has one value only
+abbrev pub other_value : Text → Option HeaderFault
+other_value name = if bytes_eq name (codes "host") then Some TwoHosts else (if bytes_eq name (codes "content-length") then Some TwoLengths else None)
 
--- the headers with one more, or with its value behind that of the same name
-abbrev pub added : List Header → Header → List Header
-added headers h = put bytes_eq headers h.0 (joined (at bytes_eq headers h.0) h.1)
+-- the value of a name once a field of it came: behind the one that is there, unless the name has one value only
+abbrev pub joined : Option Text → Header → Text
+joined None h = h.1
+joined (Some stored) h = if is_some (other_value h.0) then h.1 else stored ++ codes ", " ++ h.1
 
--- the headers with that of the line of a number, or the line's fault
-abbrev pub with_line : ℕ → List Header → ℕ → Text → Result (List Header) HeaderFault
-with_line N headers number line = option_map_or (λ h. if fits bytes_eq N headers h.0 then Ok (added headers h) else Err (TooMany number)) (header line) (Err (NoColon number))
+-- the fault of a field whose name has this value, if it has one
+abbrev pub conflict : Option Text → Header → Option HeaderFault
+conflict None h = None
+conflict (Some stored) h = if bytes_eq stored h.1 then None else other_value h.0
 
--- the step after, unless there was a fault
-abbrev pub and_then : {X : Type 0} → Result X HeaderFault → (X → Result X HeaderFault) → Result X HeaderFault
-and_then (Ok x) step = step x
-and_then (Err fault) step = Err fault
+-- why a field can't be added to the headers, if it can't
+abbrev pub refusal : ℕ → List Header → Field → Option HeaderFault
+refusal N headers field = if fits bytes_eq N headers field.0 then conflict (at bytes_eq headers field.0) field.1 else Some (TooMany N)
 
--- the headers with those of lines, of which the first has the number, or the first fault
-abbrev pub headers_from : ℕ → List Header → ℕ → List Text → Result (List Header) HeaderFault
-headers_from N headers number [] = Ok headers
-headers_from N headers number (line ∷ lines) = and_then (with_line N headers number line) (λ more. headers_from N more (number + 1) lines)
+-- the first fault of fields that are added to headers, if there is one
+abbrev pub first_fault : ℕ → List Header → List Field → Option HeaderFault
+first_fault N headers [] = if has bytes_eq headers (codes "host") then None else Some NoHost
+first_fault N headers (field ∷ fields) = option_or (refusal N headers field) (first_fault N (merge_pair bytes_eq joined headers field) fields)
 
-abbrev pub headers_of : ℕ → List Text → Result (List Header) HeaderFault
-headers_of N = headers_from N [] 1
+-- what becomes of headers, of at most N names, to which fields are added: all that they make, or the first fault
+abbrev pub with_fields : ℕ → List Header → List Field → Result (List Header) HeaderFault
+with_fields N headers fields = option_map_or Err (first_fault N headers fields) (Ok (merged bytes_eq joined headers fields))
+
+-- the headers that the fields of a request make, or the first fault
+abbrev pub headers_of : ℕ → List Header → Result (List Header) HeaderFault
+headers_of N fields = with_fields N [] (map field_of fields)
 
 -- what a fault prints
 abbrev pub message : HeaderFault → Text
-message (NoColon number) = codes "line " ++ decimal number ++ codes " has no colon"
-message (TooMany number) = codes "there is no room for the name in line " ++ decimal number
+message (TooMany most) = codes "there are more than " ++ decimal most ++ codes " names"
+message TwoHosts = codes "two values of host differ"
+message TwoLengths = codes "two values of content-length differ"
+message NoHost = codes "there is no host"
 message Memory = codes "a request for memory was refused"

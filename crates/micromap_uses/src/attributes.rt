@@ -16,7 +16,6 @@ use std::alloc::{AllocError, Global};
 pub type Attributes<const N: usize> = Map<String, String, N>;
 
 /// Sets an attribute, at its index or at the end, and returns whether there was room for it.
-#[tactic(auto, using(micromap_core::proofs::TextViews::text_views))]
 pub fn set<const N: usize>(
     alloc: Global,
     list: &mut Attributes<N>,
@@ -33,7 +32,6 @@ pub fn set<const N: usize>(
 }
 
 /// Returns the value of an attribute, or the default.
-#[tactic(auto, using(micromap_core::proofs::TextViews::text_views))]
 pub fn value_or<'a, const N: usize>(
     list: &'a Attributes<N>,
     name: &str,
@@ -49,12 +47,10 @@ pub fn value_or<'a, const N: usize>(
 
 /// Moves the value of one attribute to another name, which stands at its index or at the end, and returns whether there
 /// was such a value.
-#[tactic(auto, using(micromap_core::proofs::TextViews::text_views, micromap_core::proofs::MapLaws::map_laws))]
 pub fn rename<const N: usize>(list: &mut Attributes<N>, from: &str, to: String) -> bool
     ensures answer { result ≡ has bytes_eq (texts list.old) from.now }
     ensures list { texts list.new ≡ option_map_or (put bytes_eq (take_out bytes_eq (texts list.old) from.now) (string_bytes to)) (at bytes_eq (texts list.old) from.now) (texts list.old) }
 {
-    let _content = list.len();
     match list.remove_by(&Text(from)) {
         Some(value) => {
             list.insert(to, value);
@@ -65,7 +61,6 @@ pub fn rename<const N: usize>(list: &mut Attributes<N>, from: &str, to: String) 
 }
 
 /// Removes an attribute, and returns whether it was there.
-#[tactic(auto, using(micromap_core::proofs::TextViews::text_views))]
 pub fn remove<const N: usize>(list: &mut Attributes<N>, name: &str) -> bool
     ensures answer { result ≡ has bytes_eq (texts list.old) name.now }
     ensures list { texts list.new ≡ take_out bytes_eq (texts list.old) name.now }
@@ -74,7 +69,6 @@ pub fn remove<const N: usize>(list: &mut Attributes<N>, name: &str) -> bool
 }
 
 /// Returns the text of the list, as `{name: value, name: value}`.
-#[tactic(auto, using(micromap_core::proofs::TextViews::text_views))]
 pub fn text<const N: usize>(alloc: Global, list: &Attributes<N>) -> Result<String, AllocError>
     ensures { IfOk result (λ text. map_text (λ name. Some name) (λ value. Some value) (texts list.now) ≡ Some (string_bytes text)) }
 {

@@ -20,26 +20,22 @@ pub type Board<const N: usize> = Map<Square, char, N>;
 
 /// Puts a piece on a square, in the place of one that stands there, and returns what stands there now, or `None` if
 /// there is no room for another piece.
-#[tactic(auto, using(micromap_core::proofs::MapLaws::map_laws))]
 pub fn put_piece<const N: usize>(board: &mut Board<N>, to: Square, piece: char) -> Option<char>
     ensures answer { result ≡ (if fits ⟦<Square as PartialEq>⟧.eq N board.old to then Some piece else None) }
     ensures board { board.new ≡ put_if_fits ⟦<Square as PartialEq>⟧.eq N board.old to piece }
 {
-    let _content = board.len();
     board.checked_insert(to, piece)?;
     board.get(&to).copied()
 }
 
 /// Moves the piece on a square to another, where it takes the place of one that stands there, and returns whether there
 /// was a piece to move.
-#[tactic(auto, using(micromap_core::proofs::MapLaws::map_laws))]
 pub fn move_piece<const N: usize>(board: &mut Board<N>, from: Square, to: Square) -> bool
     ensures answer { result ≡ has ⟦<Square as PartialEq>⟧.eq board.old from }
     ensures board { board.new ≡ option_map_or (put ⟦<Square as PartialEq>⟧.eq (take_out ⟦<Square as PartialEq>⟧.eq board.old from) to) (at ⟦<Square as PartialEq>⟧.eq board.old from) board.old }
     ensures arrived { OnTrue result (at ⟦<Square as PartialEq>⟧.eq board.new to ≡ at ⟦<Square as PartialEq>⟧.eq board.old from) }
     ensures left { OnTrue result (IsFalse (⟦<Square as PartialEq>⟧.eq to from) → at ⟦<Square as PartialEq>⟧.eq board.new from ≡ None) }
 {
-    let _content = board.len();
     match board.remove(&from) {
         Some(piece) => {
             board.insert(to, piece);

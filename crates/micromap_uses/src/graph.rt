@@ -5,7 +5,7 @@ ghost use Rattle.std.specs.Prelude.{◌≡◌, ◌≢◌, ◌↔◌, ℕ, ◌<�
 ghost use Rattle.std.specs.Bool.{OnTrue, OnFalse};
 ghost use Rattle.std.specs.Set.{is_member};
 ghost use Rattle.micromap.specs.Items.{item_fits};
-ghost use Rattle.micromap_uses.specs.Graph.{are_ends, leads, neighbours, IsSymmetric, LeadsBelow, Path, Searches};
+ghost use Rattle.micromap_uses.specs.Graph.{are_ends, leads, neighbours, with_neighbour, without_neighbour, IsSymmetric, LeadsBelow, Path, Searches};
 
 use micromap::Set;
 use micromap::set::Iter;
@@ -76,6 +76,7 @@ impl Graph {
         requires a_is_node { a < NODES }
         requires b_is_node { b < NODES }
         ensures answer { result ≡ (item_fits nat_eq DEGREE (neighbours self.old a) b && item_fits nat_eq DEGREE (neighbours self.old b) a) }
+        ensures graph { OnTrue result (self.new ≡ with_neighbour (with_neighbour self.old a b) b a) }
         ensures added { OnTrue result ((x y : ℕ) → leads self.new x y ≡ (leads self.old x y || are_ends a b x y)) }
         ensures refused { OnFalse result (self.new ≡ self.old) }
         ensures symmetric { IsSymmetric self.new }
@@ -93,6 +94,7 @@ impl Graph {
         requires a_is_node { a < NODES }
         requires b_is_node { b < NODES }
         ensures answer { result ≡ leads self.old a b }
+        ensures graph { self.new ≡ without_neighbour (without_neighbour self.old a b) b a }
         ensures removed { (x y : ℕ) → leads self.new x y ≡ (leads self.old x y && not (are_ends a b x y)) }
         ensures symmetric { IsSymmetric self.new }
     {
@@ -125,7 +127,6 @@ impl Graph {
         if met.contains(&node) {
             return;
         }
-        let _content = met.len();
         met.checked_insert(node);
         for next in &self.nodes[usize::from(node)] {
             self.search(*next, met);
@@ -138,6 +139,7 @@ impl Graph {
 fn join(nodes: &mut [Set<u8, DEGREE>; NODES], a: u8, b: u8)
     requires a_is_node { a < NODES }
     requires room { IsTrue (item_fits nat_eq DEGREE (neighbours nodes.old a) b) }
+    ensures nodes { nodes.new ≡ with_neighbour nodes.old a b }
     ensures halves { (x y : ℕ) → leads nodes.new x y ≡ (leads nodes.old x y || (nat_eq a x && nat_eq b y)) }
     ensures others { (x : ℕ) → a ≢ x → neighbours nodes.new x ≡ neighbours nodes.old x }
 {
@@ -149,9 +151,9 @@ fn join(nodes: &mut [Set<u8, DEGREE>; NODES], a: u8, b: u8)
 fn part(nodes: &mut [Set<u8, DEGREE>; NODES], a: u8, b: u8) -> bool
     requires { a < NODES }
     ensures answer { result ≡ leads nodes.old a b }
+    ensures nodes { nodes.new ≡ without_neighbour nodes.old a b }
     ensures halves { (x y : ℕ) → leads nodes.new x y ≡ (leads nodes.old x y && not (nat_eq a x && nat_eq b y)) }
 {
     let node = &mut nodes[usize::from(a)];
-    let _content = node.len();
     node.remove(&b)
 }

@@ -1,24 +1,28 @@
-//! The headers of a message: lines `Name: value`, of which at most `N` names are kept.
+//! The headers of a request: names with their values, in the order in which the names came.
 //!
-//! Names that differ by the case of their ASCII letters are one name. The values of a name that comes again are joined.
-//! A contract sees a name, in small letters, and a value as their bytes.
-ghost use Rattle.std.specs.Prelude.{◌≡◌, ◌⊎◌, [], ◌++◌, codes, if◌then◌else◌, map, IfErr, IfOk, Ok, Err, Some};
+//! Names that differ by the case of their ASCII letters are one name. The values of a name that comes again are joined,
+//! but `host` and `content-length` have one value each. A contract sees a name, in small letters, and a value as their
+//! bytes.
+ghost use Rattle.std.specs.Prelude.{◌≡◌, ◌⊎◌, ◌<◌, ◌++◌, codes, length, map, IfErr, IfOk, OnErr, OnOk, Ok, Err, None, Some};
 ghost use Rattle.std.specs.Option.{option_map};
 ghost use Rattle.std.specs.Str.{str_to_ascii_lowercase, bytes_eq};
-ghost use Rattle.std.specs.Str.Lines.{lines};
 ghost use Rattle.std.specs.Cmp.{partial_equiv_from_equiv};
 ghost use Rattle.std.specs.Cmp.Lexicographic.{nat_list_eq_equiv};
-ghost use Rattle.micromap.specs.Pairs.{at, fits};
-ghost use Rattle.micromap_uses.specs.Headers.{added, headers_of, message, with_line};
+ghost use Rattle.httparse.specs.Borrowed.{header_parts};
+ghost use Rattle.micromap.specs.Build.{merge_pair};
+ghost use Rattle.micromap.specs.Pairs.{at};
+ghost use Rattle.micromap.specs.Probe.{alike, equal};
+ghost use Rattle.micromap_uses.specs.Headers.{field_of, headers_of, joined, message, other_value, refusal};
 ghost use Rattle.micromap_uses.specs.declared.headers.HeaderFault.TheVariants.{Memory};
 
-use micromap::Map;
+use httparse::Header;
+use micromap::{Map, Probe};
 use std::alloc::{AllocError, Global};
 use std::error::Error;
 use std::fmt;
 use std::marker::Model;
 
-/// The headers of one message, in the order in which their names came.
+/// The headers of one request, in the order in which their names came.
 pub type Headers<const N: usize> = Map<Name, Value, N>;
 
 /// The name of a header, in small letters.
@@ -67,54 +71,74 @@ impl Eq for Name {
     ghost laws = { nat_list_eq_equiv };
 }
 
-/// The value of a header.
+/// Matches the name that has this text. It asks for no memory, as `Name::new` does.
+#[derive(Clone, Copy)]
+pub struct Spelled<'a>(pub &'a str);
+
+impl<'a> Probe<Name> for Spelled<'a> {
+    ghost matches = { λ p name. bytes_eq p.0.now name };
+
+    ghost equal_keys_match_alike = { λ p x y. alike nat_list_eq_equiv p.0.now x y };
+
+    ghost matching_keys_are_equal = { λ p x y. equal nat_list_eq_equiv p.0.now x y };
+
+    fn matches(&self, name: &Name) -> bool {
+        self.0 == name.as_str()
+    }
+}
+
+/// The value of a header, which need not be text.
 #[derive(Drop)]
 pub struct Value {
-    text: String,
+    bytes: Vec<u8>,
 }
 
 impl Model for Value {
     ghost use Rattle.std.specs.Prelude.{List, ℕ};
-    ghost use Rattle.std.specs.String.{string_bytes};
 
     ghost Value = { List ℕ };
 
-    ghost view = { λ value. string_bytes value.text };
+    ghost view = { λ value. value.bytes.items };
 }
 
 impl Value {
-    /// Creates the value with this text.
-    pub fn new(alloc: Global, text: &str) -> Result<Value, AllocError>
-        ensures { IfOk result (λ value. value ≡ text.now) }
+    /// Creates the value with these bytes.
+    pub fn new(alloc: Global, bytes: &[u8]) -> Result<Value, AllocError>
+        ensures { IfOk result (λ value. value ≡ bytes.now) }
     {
-        let text = String::from_str(alloc, text)?;
-        Ok(Value { text })
+        let bytes = Vec::from_slice(alloc, bytes)?;
+        Ok(Value { bytes })
     }
 
-    /// Returns the value's text.
-    pub fn as_str(&self) -> &str
+    /// Returns the value's bytes.
+    pub fn as_bytes(&self) -> &[u8]
         ensures { result.now ≡ self.now }
     {
-        self.text.as_str()
+        &self.bytes
     }
 
     // Returns the value with another behind it, after a comma.
-    fn with(&self, alloc: Global, other: &str) -> Result<Value, AllocError>
+    fn with(&self, alloc: Global, other: &[u8]) -> Result<Value, AllocError>
         ensures { IfOk result (λ value. value ≡ self.now ++ codes ", " ++ other.now) }
     {
-        let stored = self.as_str();
-        let text = format!(in alloc; "{stored}, {other}")?;
-        Ok(Value { text })
+        let mut bytes = Vec::from_slice(alloc, &self.bytes)?;
+        bytes.extend_from_slice(b", ")?;
+        bytes.extend_from_slice(other)?;
+        Ok(Value { bytes })
     }
 }
 
-/// Why a text is no list of headers. Lines are counted from 1.
+/// Why fields are no headers.
 #[derive(Debug, Clone, Copy, PartialEq, Eq)]
 pub enum HeaderFault {
-    /// The line of this number has no colon.
-    NoColon(usize),
-    /// The line of this number has a new name, and there is no room for it.
+    /// There are more than this many names.
     TooMany(usize),
+    /// Two values of `host` differ.
+    TwoHosts,
+    /// Two values of `content-length` differ.
+    TwoLengths,
+    /// There is no `host`.
+    NoHost,
     /// A request for memory was refused.
     Memory,
 }
@@ -124,11 +148,10 @@ impl fmt::Display for HeaderFault {
 
     fn fmt<W: fmt::Write>(&self, f: &mut fmt::Formatter<W>) -> fmt::Result {
         match self {
-            HeaderFault::NoColon(number) => write!(f, "line {number} has no colon"),
-            HeaderFault::TooMany(number) => write!(
-                f,
-                "there is no room for the name in line {number}"
-            ),
+            HeaderFault::TooMany(most) => write!(f, "there are more than {most} names"),
+            HeaderFault::TwoHosts => f.write_str("two values of host differ"),
+            HeaderFault::TwoLengths => f.write_str("two values of content-length differ"),
+            HeaderFault::NoHost => f.write_str("there is no host"),
             HeaderFault::Memory => f.write_str("a request for memory was refused"),
         }
     }
@@ -144,82 +167,70 @@ impl From<AllocError> for HeaderFault {
     }
 }
 
-/// Returns the headers in the lines of a text, or the first fault. What was read before a fault is dropped.
+/// Returns the headers that fields make, added one after the other, or the first fault.
 ///
-/// Allocates memory for a list of the lines, and for each name and value.
-pub fn parse<const N: usize>(alloc: Global, text: &str) -> Result<Headers<N>, HeaderFault>
-    ensures headers { IfOk result (λ headers. headers_of N (lines text.now) ≡ Ok headers) }
-    ensures fault { IfErr result (λ fault. (fault ≡ Memory) ⊎ (headers_of N (lines text.now) ≡ Err fault)) }
-{
-    let lines = lines_of(alloc, text)?;
-    parse_lines(alloc, &lines)
-}
-
-// Returns the lines of a text.
-fn lines_of(alloc: Global, text: &str) -> Result<Vec<&str>, AllocError>
-    ensures { IfOk result (λ v. map (λ line. line.now) v.items ≡ lines text.now) }
-{
-    text.lines().collect(alloc)
-}
-
-/// Returns the headers in these lines, as `parse` does.
-pub fn parse_lines<const N: usize>(alloc: Global, lines: &[&str]) -> Result<Headers<N>, HeaderFault>
-    ensures headers { IfOk result (λ headers. headers_of N (map (λ line. line.now) lines.now) ≡ Ok headers) }
-    ensures fault { IfErr result (λ fault. (fault ≡ Memory) ⊎ (headers_of N (map (λ line. line.now) lines.now) ≡ Err fault)) }
+/// Allocates memory for each name and value.
+#[tactic(auto, using(micromap_core::proofs::MergeLaws::merge_laws, std::proofs::lemmas::Grind::common_steps))]
+pub fn collect<const N: usize>(
+    alloc: Global,
+    fields: &[Header<'_>],
+) -> Result<Headers<N>, HeaderFault>
+    ensures headers { IfOk result (λ headers. headers_of N (map header_parts fields.now) ≡ Ok headers) }
+    ensures fault { IfErr result (λ fault. (fault ≡ Memory) ⊎ (headers_of N (map header_parts fields.now) ≡ Err fault)) }
+    ensures memory { IfErr result (λ fault. fault ≡ Memory → 0 < length fields.now) }
 {
     let mut headers = Map::new();
-    let mut number = 1;
-    for line in lines {
-        add_line(alloc, &mut headers, number, line)?;
-        number += 1;
+    for field in fields {
+        add(alloc, &mut headers, field.name, field.value)?;
     }
-    Ok(headers)
-}
-
-// Adds the header in the line of a number.
-fn add_line<const N: usize>(
-    alloc: Global,
-    headers: &mut Headers<N>,
-    number: usize,
-    line: &str,
-) -> Result<(), HeaderFault>
-    ensures headers { IfOk result (λ _. with_line N headers.old number line.now ≡ Ok headers.new) }
-    ensures fault { IfErr result (λ fault. (fault ≡ Memory) ⊎ (with_line N headers.old number line.now ≡ Err fault)) }
-{
-    let Some((name, value)) = line.split_once(':') else {
-        return Err(HeaderFault::NoColon(number));
-    };
-    if add(alloc, headers, name, value.trim())? {
-        Ok(())
+    if headers.contains_key_by(&Spelled("host")) {
+        Ok(headers)
     } else {
-        Err(HeaderFault::TooMany(number))
+        Err(HeaderFault::NoHost)
     }
 }
 
-/// Adds a header, and returns whether there was room for it.
+/// Adds a header. A new name goes last, and the value of a known name behind the one that is there, after a comma.
 ///
-/// A new name goes last. The value of a known name goes behind the one that is there, after a comma.
+/// Returns an error, and adds nothing, if there is no room for the name, or another value of a name that has only one.
 pub fn add<const N: usize>(
     alloc: Global,
     headers: &mut Headers<N>,
     name: &str,
-    value: &str,
-) -> Result<bool, AllocError>
-    ensures answer { IfOk result (λ fit. fit ≡ fits bytes_eq N headers.old (str_to_ascii_lowercase name.now)) }
-    ensures headers { IfOk result (λ fit. headers.new ≡ (if fit then added headers.old (str_to_ascii_lowercase name.now, value.now) else headers.old)) }
-    ensures unchanged { IfErr result (λ _. headers.new ≡ headers.old) }
+    value: &[u8],
+) -> Result<(), HeaderFault>
+    ensures fits { OnOk result (refusal N headers.old (field_of (name.now, value.now)) ≡ None) }
+    ensures headers { OnOk result (headers.new ≡ merge_pair bytes_eq joined headers.old (field_of (name.now, value.now))) }
+    ensures fault { IfErr result (λ fault. (fault ≡ Memory) ⊎ (refusal N headers.old (field_of (name.now, value.now)) ≡ Some fault)) }
+    ensures unchanged { OnErr result (headers.new ≡ headers.old) }
 {
     let name = Name::new(alloc, name)?;
-    let value = match headers.get(&name) {
-        Some(stored) => stored.with(alloc, value)?,
-        None => Value::new(alloc, value)?,
+    if !headers.fits(&name) {
+        return Err(HeaderFault::TooMany(N));
+    }
+    let value = match (headers.get(&name), two_values(name.as_str())) {
+        (Some(stored), None) => stored.with(alloc, value)?,
+        (Some(stored), Some(fault)) if stored.as_bytes() != value => return Err(fault),
+        _ => Value::new(alloc, value)?,
     };
-    Ok(headers.checked_insert(name, value).is_some())
+    headers.insert(name, value);
+    Ok(())
+}
+
+// Returns the fault of a second value of a name, if it may have one value only.
+fn two_values(name: &str) -> Option<HeaderFault>
+    ensures { result ≡ other_value name.now }
+{
+    match name {
+        "host" => Some(HeaderFault::TwoHosts),
+        "content-length" => Some(HeaderFault::TwoLengths),
+        _ => None,
+    }
 }
 
 /// Returns the value of a name.
-pub fn value_of<'a, const N: usize>(headers: &'a Headers<N>, name: &Name) -> Option<&'a str>
+pub fn value_of<'a, const N: usize>(headers: &'a Headers<N>, name: &Name) -> Option<&'a [u8]>
     ensures { option_map (λ value. value.now) result ≡ at bytes_eq headers.now name.now }
 {
-    Some(headers.get(name)?.as_str())
+    Some(headers.get(name)?.as_bytes())
 }

@@ -1,6 +1,6 @@
 //! Small libraries over the map and the set, as their users would write them. Each is proved from the public contracts
 //! and the exported laws alone, and may be copied.
-#![tactic(auto)]
+#![tactic(auto, using(micromap::proofs::Rules::caller))]
 
 pub mod attributes;
 pub mod board;

@@ -1,5 +1,5 @@
 //! Nested scopes: a stack of frames, outermost first. A variable is that of the innermost scope which has it.
-ghost use Rattle.std.specs.Prelude.{◌≡◌, ◌∷◌, ◌++◌, [], IfErr, IfOk, is_some};
+ghost use Rattle.std.specs.Prelude.{◌≡◌, ◌↔◌, ◌∷◌, ◌++◌, [], IfErr, IfOk, IsNone, is_some};
 ghost use Rattle.std.specs.Option.{option_to_list};
 ghost use Rattle.std.specs.Vec.{vec_items};
 ghost use Rattle.micromap_uses.specs.Scopes.{assigned, visible};
@@ -25,7 +25,8 @@ pub fn enter(scopes: &mut Vec<Scope>) -> Result<(), AllocError>
 
 /// Leaves the innermost scope, and returns it, or `None` if there is none.
 pub fn leave(scopes: &mut Vec<Scope>) -> Option<Scope>
-    ensures { vec_items scopes.old ≡ vec_items scopes.new ++ option_to_list result }
+    ensures none { IsNone result ↔ (vec_items scopes.old ≡ []) }
+    ensures left { vec_items scopes.old ≡ vec_items scopes.new ++ option_to_list result }
 {
     scopes.pop()
 }

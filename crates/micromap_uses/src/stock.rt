@@ -50,7 +50,6 @@ impl<const N: usize> Stock<N> {
     }
 
     /// Adds pieces of an article, and returns how many there are then: none, if there is no room for the article.
-    #[tactic(auto, using(micromap_core::proofs::MapLaws::map_laws))]
     pub fn deliver(&mut self, article: u32, pieces: u32) -> u32
         requires { unwrap_or (at nat_eq self.old article) 0 + pieces < 2 ^ 32 }
         ensures answer { result ≡ (if fits nat_eq N self.old article then unwrap_or (at nat_eq self.old article) 0 + pieces else 0) }

@@ -3,6 +3,7 @@ ghost use Rattle.std.specs.Prelude.{◌≡◌, ◌↔◌, ◌<◌, ◌≤◌, []
 ghost use Rattle.std.specs.List.{All, Contains};
 ghost use Rattle.std.specs.Option.{IfSome};
 ghost use Rattle.std.specs.Set.{distinct_count};
+ghost use Rattle.micromap.specs.Build.{counts};
 ghost use Rattle.micromap.specs.Pairs.{at};
 
 use micromap::Map;
@@ -13,6 +14,7 @@ pub type Name = u32;
 /// Returns each name with its number of votes, or `None` if the votes have more than `N` distinct names.
 #[tactic(auto, using(micromap_core::proofs::CountLaws::count_laws, micromap_core::proofs::Equalities::equalities))]
 pub fn tally<const N: usize>(votes: &[Name]) -> Option<Map<Name, usize, N>>
+    ensures tally { IfSome result (λ tally. tally ≡ counts nat_eq votes.now) }
     ensures counts { IfSome result (λ counts. (name : _) → unwrap_or (at nat_eq counts name) 0 ≡ count_by (nat_eq name) votes.now) }
     ensures refused { IsNone result ↔ (N < distinct_count nat_eq votes.now) }
 {

@@ -1,15 +1,20 @@
-//! A module for each subject.
+//! Each subject has a module. One ruleset serves the callers in all of them.
+#![tactic(auto, using(micromap::proofs::Rules::caller))]
 
 mod attributes;
+mod built;
 mod combined;
 mod counts;
+mod entered;
 mod folded;
 mod frame;
 mod generic;
 mod graph;
 mod headers;
 mod laws;
+mod merged;
 mod permissions;
+mod same_texts;
 mod sameness;
 mod scopes;
 mod stock;

@@ -19,7 +19,6 @@ fn merge<const N: usize, const M: usize>(
     ensures unchanged { IfErr result (λ _. first.new ≡ first.old) }
 {
     let mut merged = first.clone().unwrap();
-    let _content = second.len();
     merged.try_extend(second.into_iter())?;
     *first = merged;
     Ok(())

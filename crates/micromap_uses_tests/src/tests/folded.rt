@@ -39,7 +39,6 @@ fn is_folded(text: &[u8], folded: &[u8]) -> bool
 }
 
 // The age of a name that is given in any case.
-#[tactic(auto, using(micromap_core::proofs::TextViews::text_views))]
 fn age_of<const N: usize>(ages: &Map<String, u8, N>, name: &str) -> Option<u8>
     ensures { result ≡ at bytes_eq (key_texts ages.now) (str_to_ascii_lowercase name.now) }
 {

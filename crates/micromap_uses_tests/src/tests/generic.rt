@@ -1,4 +1,5 @@
-//! Callers that are generic in key and value, and of the laws of sums, of the first pair and of a list that is put.
+//! Callers that are generic in key and value, and callers of the laws of sums, of the first pair and of a list that is
+//! put.
 ghost use Rattle.std.specs.Prelude.{◌≡◌, ◌-◌, ◌+◌, ◌<◌, ◌≤◌, ◌^◌, [], ◌∷◌, ◌++◌, IfErr, IfSome, IsFalse, IsTrue, Some, drop, filter, length, nat_eq, not, ◌&&◌, reverse, slice_get, sum, sum_by, if◌then◌else◌};
 ghost use Rattle.std.specs.Bool.{OnTrue};
 ghost use Rattle.std.specs.List.{list_any};
@@ -8,10 +9,10 @@ ghost use Rattle.std.specs.Vec.{vec_items};
 ghost use Rattle.micromap.specs.Build.{put_all};
 ghost use Rattle.micromap.specs.Extend.{put_all_items};
 ghost use Rattle.micromap.specs.Items.{put_item, item_fits};
-ghost use Rattle.micromap.specs.Memory.{IntoIterFits, IntoKeysFits, IntoValuesFits};
+ghost use Rattle.micromap.specs.Memory.{IntoIterFits, IntoKeysFits, IntoValuesFits, MapFits};
 ghost use Rattle.micromap.specs.Pairs.{at, fits, has, put, take_out};
 ghost use Rattle.micromap.specs.Same.{has_value};
-ghost use Rattle.micromap.specs.SetMemory.{SetIntoIterFits};
+ghost use Rattle.micromap.specs.SetMemory.{SetFits, SetIntoIterFits};
 ghost use Rattle.micromap.specs.Texts.{item_texts, key_texts};
 
 use micromap::{Map, Overfull, Set};
@@ -26,21 +27,45 @@ fn add_newest<T: Eq + Drop, const N: usize>(set: &mut Set<T, N>, item: T) -> Opt
         set.insert(item);
         return None;
     }
-    let _content = set.len();
     let first = set.pop_first();
     set.insert(item);
     first
 }
 
 // Takes the first pair out. Its key found its value, and finds none now.
-#[tactic(auto, using(micromap_core::proofs::MapLaws::map_laws))]
 fn take_first<K: Eq + Drop, V: Drop, const N: usize>(map: &mut Map<K, V, N>) -> Option<(K, V)>
     ensures found { IfSome result (λ p. at K.eq map.old p.0 ≡ Some p.1) }
     ensures gone { IfSome result (λ p. IsFalse (has K.eq map.new p.0)) }
     ensures others { IfSome result (λ p. map.new ≡ take_out K.eq map.old p.0) }
 {
-    let _content = map.len();
     map.pop_first()
+}
+
+// How many different keys the pairs have, or `None` if they are more than `N`. The map is a local of any type.
+fn count_keys<K: Eq + Copy, V: Copy, const N: usize>(pairs: &[(K, V)]) -> Option<usize>
+    requires { MapFits K.row V.row N.row K.eq }
+    ensures { IfSome result (λ count. count ≤ N) }
+{
+    let mut seen: Map<K, V, N> = Map::new();
+    for (key, value) in pairs {
+        seen.checked_insert(*key, *value)?;
+    }
+    Some(seen.len())
+}
+
+// The same of the items of a list, in a set.
+fn count_items<T: Eq + Copy, const N: usize>(items: &[T]) -> Option<usize>
+    requires { SetFits T.row N.row T.eq }
+    ensures { IfSome result (λ count. count ≤ N) }
+{
+    let mut seen: Set<T, N> = Set::new();
+    for item in items {
+        if !seen.fits(item) {
+            return None;
+        }
+        seen.insert(*item);
+    }
+    Some(seen.len())
 }
 
 // Returns the first pair, and drops the others.
@@ -81,11 +106,9 @@ fn first_item<T: Eq + Drop, const N: usize>(set: Set<T, N>) -> Option<T>
 }
 
 // Puts a pair last if its key is new and there is room.
-#[tactic(auto, using(micromap_core::proofs::MapLaws::map_laws))]
 fn append<K: Eq + Drop, V: Drop, const N: usize>(map: &mut Map<K, V, N>, key: K, value: V) -> bool
     ensures { map.new ≡ (if result then map.old ++ (key, value) ∷ [] else map.old) }
 {
-    let _content = map.len();
     if map.contains_key(&key) || !map.fits(&key) {
         return false;
     }
@@ -94,7 +117,6 @@ fn append<K: Eq + Drop, V: Drop, const N: usize>(map: &mut Map<K, V, N>, key: K,
 }
 
 // Inserts a pair if it fits. One that doesn't has a new key, and the map is full.
-#[tactic(auto, using(micromap_core::proofs::MapLaws::map_laws))]
 fn put_or_refuse<K: Eq + Drop, V: Drop, const N: usize>(
     map: &mut Map<K, V, N>,
     key: K,
@@ -103,12 +125,10 @@ fn put_or_refuse<K: Eq + Drop, V: Drop, const N: usize>(
     ensures new { IsFalse result → IsFalse (has K.eq map.old key) }
     ensures full { IsFalse result → N ≤ length map.old }
 {
-    let _content = map.len();
     map.checked_insert(key, value).is_some()
 }
 
 // Whether a key is among the keys.
-#[tactic(auto, using(micromap_core::proofs::MapLaws::map_laws))]
 fn is_among_keys<K: Eq, V, const N: usize>(map: &Map<K, V, N>, key: &K) -> bool
     ensures { result ≡ list_any (K.eq key.now) (keys_of map.now) }
 {
@@ -132,7 +152,6 @@ fn put_each<K: Eq + Copy + Drop, const N: usize>(map: &mut Map<K, u8, N>, items:
 }
 
 // Puts pairs and reads a key: of the pairs with it the last stands.
-#[tactic(auto, using(micromap_core::proofs::MapLaws::map_laws))]
 fn put_each_then_read<K: Eq + Copy + Drop, const N: usize>(
     map: &mut Map<K, u8, N>,
     items: &[(K, u8)],
@@ -140,7 +159,6 @@ fn put_each_then_read<K: Eq + Copy + Drop, const N: usize>(
 ) -> Option<Option<u8>>
     ensures { IfSome result (λ found. found ≡ option_or (at K.eq (reverse items.now) key.now) (at K.eq map.old key.now)) }
 {
-    let _content = map.len();
     if !put_each(map, items) {
         return None;
     }
@@ -167,7 +185,6 @@ fn add_each<T: Eq + Copy + Drop, const N: usize>(set: &mut Set<T, N>, items: &[T
 fn put_items<const N: usize>(map: &mut Map<u8, u8, N>, items: Vec<(u8, u8)>) -> Result<(), Overfull>
     ensures { IfErr result (λ _. N < length (put_all nat_eq map.old (vec_items items))) }
 {
-    let _content = map.len();
     map.try_extend(items.into_iter())
 }
 
@@ -175,7 +192,6 @@ fn put_items<const N: usize>(map: &mut Map<u8, u8, N>, items: Vec<(u8, u8)>) -> 
 fn put_set_items<const N: usize>(set: &mut Set<u8, N>, items: Vec<u8>) -> Result<(), Overfull>
     ensures { IfErr result (λ _. N < length (put_all_items nat_eq set.old (vec_items items))) }
 {
-    let _content = set.len();
     set.try_extend(items.into_iter())
 }
 
@@ -206,7 +222,6 @@ struct Stock {
 fn clear_out<K: Eq + Drop, const N: usize>(map: &mut Map<K, Stock, N>, key: &K) -> u64
     ensures { sum_by (λ s. s.count) (values_of map.new) + result ≡ sum_by (λ s. s.count) (values_of map.old) }
 {
-    let _content = map.len();
     match map.remove(key) {
         Some(stock) => stock.count,
         None => 0,
@@ -231,7 +246,6 @@ fn has_no_difference<const N: usize>(one: &Map<u8, u8, N>, other: &Map<u8, u8, N
 }
 
 // No names yet.
-#[tactic(auto, using(micromap_core::proofs::TextViews::text_views))]
 fn no_ages() -> Map<String, u8, 4>
     ensures { key_texts result ≡ [] }
 {
@@ -239,7 +253,6 @@ fn no_ages() -> Map<String, u8, 4>
 }
 
 // No words yet.
-#[tactic(auto, using(micromap::proofs::SetTextViews::set_text_views))]
 fn no_words() -> Set<String, 4>
     ensures { item_texts result ≡ [] }
 {
@@ -272,4 +285,14 @@ fn what_does_not_fit_is_refused(rt: HostRuntime) {
     let mut set: Set<u8, 2> = Set::new();
     assert!(rt; add_each(&mut set, &[1, 2, 1]));
     assert!(rt; !add_each(&mut set, &[3]));
+}
+
+#[test]
+fn what_differs_is_counted_in_any_capacity(rt: HostRuntime) {
+    assert_eq!(rt;
+        count_keys::<u8, char, 2>(&[(1, 'a'), (2, 'b'), (1, 'c')]),
+        Some(2)
+    );
+    assert_eq!(rt; count_keys::<u8, char, 1>(&[(1, 'a'), (2, 'b')]), None);
+    assert_eq!(rt; count_items::<char, 2>(&['a', 'b', 'a']), Some(2));
 }

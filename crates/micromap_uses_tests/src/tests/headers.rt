@@ -1,59 +1,79 @@
-//! Headers from the lines of a text, their names in any case, and the line of each fault.
+//! Headers from the fields of a request: their names in any case, their values, and each fault.
+use httparse::Header;
 use micromap_testing::displays;
-use micromap_uses::headers::{HeaderFault, Headers, Name, parse, value_of};
+use micromap_uses::headers::HeaderFault::{self, Memory, NoHost, TooMany, TwoHosts, TwoLengths};
+use micromap_uses::headers::{Headers, Name, collect, value_of};
 use std::alloc::Global;
 
-const LINES: &str = "Host: example.org\nAccept:text/html\r\nACCEPT : no\naccept:  a:b ";
+const FIELDS: [(&str, &str); 5] = [
+    ("Accept", "text/html"),
+    ("Host", "example.org"),
+    ("ACCEPT", "text/plain"),
+    ("accept", "text/plain"),
+    ("hOST", "example.org"),
+];
 
-// The fault of a text at two headers.
-fn fault(alloc: Global, text: &str) -> Option<HeaderFault> {
-    parse::<2>(alloc, text).err()
+// The headers of fields, which are names with their values.
+fn read<const N: usize>(alloc: Global, fields: &[(&str, &str)]) -> Result<Headers<N>, HeaderFault> {
+    let mut list = Vec::new(alloc);
+    for (name, value) in fields {
+        let (name, value) = (*name, value.as_bytes());
+        list.push(Header { name, value }).map_err(|_| Memory)?;
+    }
+    collect(alloc, &list)
 }
 
 // Whether the header of this name, in any case, has this value.
-fn has(alloc: Global, headers: &Headers<3>, name: &str, value: Option<&str>) -> bool {
+fn has(alloc: Global, headers: &Headers<2>, name: &str, value: Option<&[u8]>) -> bool {
     match Name::new(alloc, name) {
         Ok(name) => value_of(headers, &name) == value,
         Err(_) => false,
     }
 }
 
-// Whether these are the headers of the lines above.
-fn are_right(alloc: Global, headers: &Headers<3>) -> bool {
-    headers.len() == 3
-        && has(alloc, headers, "aCCept", Some("text/html, a:b"))
-        && has(alloc, headers, "HOST", Some("example.org"))
-        && has(alloc, headers, "hos", None)
-}
-
 #[test]
-fn names_have_one_case_and_values_are_joined(rt: HostRuntime) {
+fn names_have_one_case_and_values_are_joined(rt: HostRuntime) -> Result<(), HeaderFault> {
     let alloc = rt.alloc();
-    assert!(rt; parse::<3>(alloc, LINES).is_ok_and(|headers| are_right(alloc, &headers)));
+    let headers = read::<2>(alloc, &FIELDS)?;
+    assert_eq!(rt; headers.len(), 2);
+    let joined = b"text/html, text/plain, text/plain";
+    assert!(rt; has(alloc, &headers, "aCCept", Some(joined.as_slice())));
+    assert!(rt; has(alloc, &headers, "HOST", Some(b"example.org".as_slice())));
+    assert!(rt; has(alloc, &headers, "hos", None));
+    Ok(())
 }
 
 #[test]
-fn a_fault_names_its_line(rt: HostRuntime) {
-    for (text, expected) in [
-        ("", None),
-        (LINES, Some(HeaderFault::TooMany(3))),
-        ("a:1\nb", Some(HeaderFault::NoColon(2))),
-        ("a:1\n\nb:2", Some(HeaderFault::NoColon(2))),
-        ("a:1\nb:2\nA:3\nc:4\nd", Some(HeaderFault::TooMany(4))),
+fn the_first_fault_is_returned(rt: HostRuntime) {
+    let length = |value| ("Content-Length", value);
+    for (fields, fault) in [
+        ([].as_slice(), NoHost),
+        (&FIELDS[2..4], NoHost),
+        (
+            &[("a", ""), ("b", ""), ("c", ""), ("host", "x")],
+            TooMany(2),
+        ),
+        (
+            &[("host", "x"), ("HOST", "y"), ("a", ""), ("b", "")],
+            TwoHosts,
+        ),
+        (
+            &[length("1"), length("1"), length("2"), ("a", "")],
+            TwoLengths,
+        ),
     ] {
-        assert_eq!(rt; fault(rt.alloc(), text), expected);
+        assert!(rt; read::<2>(rt.alloc(), fields).is_err_and(|error| error == fault));
     }
 }
 
 #[test]
 fn a_fault_can_be_read(rt: HostRuntime) {
     for (fault, text) in [
-        (HeaderFault::NoColon(1), "line 1 has no colon"),
-        (
-            HeaderFault::TooMany(20),
-            "there is no room for the name in line 20",
-        ),
-        (HeaderFault::Memory, "a request for memory was refused"),
+        (TooMany(20), "there are more than 20 names"),
+        (TwoHosts, "two values of host differ"),
+        (TwoLengths, "two values of content-length differ"),
+        (NoHost, "there is no host"),
+        (Memory, "a request for memory was refused"),
     ] {
         assert!(rt; displays(rt.alloc(), &fault, text));
     }

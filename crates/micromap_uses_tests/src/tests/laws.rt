@@ -18,7 +18,6 @@ use micromap_testing::Marked;
 use std::alloc::{AllocError, Global};
 
 // Gives a name a value if it has none, and returns whether it has one now.
-#[tactic(auto, using(micromap_core::proofs::MapLaws::map_laws))]
 fn set_default<const N: usize>(
     map: &mut Map<String, String, N>,
     name: String,
@@ -34,7 +33,6 @@ fn set_default<const N: usize>(
 }
 
 // Writes the value of a name that is there.
-#[tactic(auto, using(micromap_core::proofs::MapLaws::map_laws))]
 fn overwrite<const N: usize>(map: &mut Map<String, String, N>, name: &str, value: String) -> bool
     ensures answer { result ≡ is_some (lookup (is_text name.now) map.old) }
     ensures pairs { map.new ≡ set_value (is_text name.now) map.old value }
@@ -49,12 +47,10 @@ fn overwrite<const N: usize>(map: &mut Map<String, String, N>, name: &str, value
 }
 
 // Moves the value of one name to another, which goes to its index or to the end.
-#[tactic(auto, using(micromap_core::proofs::MapLaws::map_laws))]
 fn rename<const N: usize>(map: &mut Map<String, String, N>, from: &str, to: String) -> bool
     ensures answer { result ≡ is_some (lookup (is_text from.now) map.old) }
     ensures pairs { map.new ≡ option_map_or (λ v. put string_eq (remove_entry (is_text from.now) map.old) to v) (lookup (is_text from.now) map.old) map.old }
 {
-    let _content = map.len();
     match map.remove_by(&Text(from)) {
         Some(value) => {
             map.insert(to, value);
@@ -65,7 +61,6 @@ fn rename<const N: usize>(map: &mut Map<String, String, N>, from: &str, to: Stri
 }
 
 // Two puts, and a look-up of the first key.
-#[tactic(auto, using(micromap_core::proofs::MapLaws::map_laws))]
 fn put_two(map: &mut Map<u8, u8, 8>, a: u8, b: u8) -> Option<u8>
     requires { length map.old ≤ 6 }
     ensures { result ≡ (if nat_eq b a then Some 2 else Some 1) }
@@ -76,7 +71,6 @@ fn put_two(map: &mut Map<u8, u8, 8>, a: u8, b: u8) -> Option<u8>
 }
 
 // Puts at one key and reads another.
-#[tactic(auto, using(micromap_core::proofs::MapLaws::map_laws))]
 fn put_then_read(map: &mut Map<String, u8, 8>, a: String, b: &String) -> Option<u8>
     requires { IsTrue (fits string_eq 8 map.old a) }
     ensures order { result ≡ (if string_eq b.now a then Some 1 else at string_eq map.old b.now) }
@@ -87,7 +81,6 @@ fn put_then_read(map: &mut Map<String, u8, 8>, a: String, b: &String) -> Option<
 }
 
 // Puts and reads at keys that are equal by their id.
-#[tactic(auto, using(micromap_core::proofs::MapLaws::map_laws))]
 fn put_marked(map: &mut Map<Marked, u8, 8>, a: Marked, b: &Marked) -> Option<u8>
     requires { IsTrue (fits (on (λ k. k.id) nat_eq) 8 map.old a) }
     ensures { result ≡ (if nat_eq a.id b.now.id then Some 1 else at (on (λ k. k.id) nat_eq) map.old b.now) }
@@ -97,31 +90,26 @@ fn put_marked(map: &mut Map<Marked, u8, 8>, a: Marked, b: &Marked) -> Option<u8>
 }
 
 // Puts and reads at keys of any type.
-#[tactic(auto, using(micromap_core::proofs::MapLaws::map_laws))]
 fn put_any<K: Eq + Drop>(map: &mut Map<K, u8, 8>, a: K, b: &K) -> Option<u8>
     requires { IsTrue (fits K.eq 8 map.old a) }
     ensures order { result ≡ (if K.eq b.now a then Some 1 else at K.eq map.old b.now) }
     ensures turned { result ≡ (if K.eq a b.now then Some 1 else at K.eq map.old b.now) }
 {
-    let _content = map.len();
     map.insert(a, 1);
     map.get(b).copied()
 }
 
 // Inserts and looks for items of any type.
-#[tactic(auto, using(micromap::proofs::SetLaws::set_laws))]
 fn insert_any<T: Eq + Drop>(set: &mut Set<T, 8>, a: T, b: &T) -> bool
     requires { IsTrue (item_fits T.eq 8 set.old a) }
     ensures order { result ≡ (T.eq b.now a || is_member T.eq set.old b.now) }
     ensures turned { result ≡ (T.eq a b.now || is_member T.eq set.old b.now) }
 {
-    let _content = set.len();
     set.insert(a);
     set.contains(b)
 }
 
 // Inserts a word, which is then there.
-#[tactic(auto, using(micromap::proofs::SetLaws::set_laws))]
 fn insert_word(set: &mut Set<String, 8>, word: String)
     requires { IsTrue (item_fits string_eq 8 set.old word) }
     ensures { IsTrue (is_member string_eq set.new word) }
@@ -130,20 +118,16 @@ fn insert_word(set: &mut Set<String, 8>, word: String)
 }
 
 // Takes a word out, which is then not there.
-#[tactic(auto, using(micromap::proofs::SetLaws::set_laws))]
 fn take_word(set: &mut Set<String, 8>, word: &String)
     ensures { IsFalse (is_member string_eq set.new word.now) }
 {
-    let _content = set.len();
     set.take(word);
 }
 
 // Removes a number by its entry, and returns whether it was there. The other keys keep their order.
-#[tactic(auto, using(micromap_core::proofs::MapLaws::map_laws))]
 fn leave_out<const N: usize>(map: &mut Map<u8, u8, N>, number: u8) -> bool
     ensures { keys_of map.new ≡ filter (λ k. not (nat_eq number k)) (keys_of map.old) }
 {
-    let _content = map.len();
     match map.entry(number) {
         Entry::Occupied(entry) => {
             entry.remove();
@@ -154,26 +138,21 @@ fn leave_out<const N: usize>(map: &mut Map<u8, u8, N>, number: u8) -> bool
 }
 
 // Takes a word out. The others keep their order.
-#[tactic(auto, using(micromap::proofs::SetLaws::set_laws))]
 fn strike<const N: usize>(words: &mut Set<String, N>, word: &str)
     ensures { words.new ≡ filter (λ x. not (is_text word.now x)) words.old }
 {
-    let _content = words.len();
     words.take_by(&Text(word));
 }
 
 // Takes a name out, which isn't found any more.
-#[tactic(auto, using(micromap_core::proofs::MapLaws::map_laws))]
 fn take_then_read<const N: usize>(map: &mut Map<String, u8, N>, name: &str) -> Option<u8>
     ensures { result ≡ None }
 {
-    let _content = map.len();
     map.remove_by(&Text(name));
     map.get_by(&Text(name)).copied()
 }
 
 // Sets the value of a name that is given as text, and returns whether there was room for it.
-#[tactic(auto, using(micromap_core::proofs::TextViews::text_views))]
 fn set_named<const N: usize>(
     map: &mut Map<String, u8, N>,
     alloc: Global,
@@ -188,7 +167,6 @@ fn set_named<const N: usize>(
 }
 
 // Puts at one name and reads another, both seen by their bytes.
-#[tactic(auto, using(micromap_core::proofs::TextViews::text_views, micromap_core::proofs::MapLaws::map_laws))]
 fn put_then_read_text(map: &mut Map<String, u8, 8>, a: String, b: &str) -> Option<u8>
     requires { IsTrue (fits string_eq 8 map.old a) }
     ensures order { result ≡ (if bytes_eq b.now (string_bytes a) then Some 1 else at bytes_eq (key_texts map.old) b.now) }
@@ -199,7 +177,6 @@ fn put_then_read_text(map: &mut Map<String, u8, 8>, a: String, b: &str) -> Optio
 }
 
 // Adds a word that is given as text, and returns whether there was room for it.
-#[tactic(auto, using(micromap::proofs::SetTextViews::set_text_views))]
 fn note<const N: usize>(
     words: &mut Set<String, N>,
     alloc: Global,
@@ -217,7 +194,6 @@ fn note<const N: usize>(
 }
 
 // Removes a word, and returns whether it was there.
-#[tactic(auto, using(micromap::proofs::SetTextViews::set_text_views))]
 fn unnote<const N: usize>(words: &mut Set<String, N>, word: &str) -> bool
     ensures answer { result ≡ is_member bytes_eq (item_texts words.old) word.now }
     ensures texts { item_texts words.new ≡ take_item bytes_eq (item_texts words.old) word.now }

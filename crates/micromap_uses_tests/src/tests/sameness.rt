@@ -49,7 +49,6 @@ fn put_both<const N: usize, const M: usize>(
     requires fits_replica { IsTrue (fits nat_eq M replica.old key) }
     ensures { Same nat_eq nat_eq list.new replica.new }
 {
-    let _contents = (list.len(), replica.len());
     list.insert(key, value);
     replica.insert(key, value);
 }
@@ -67,7 +66,6 @@ fn put_key_both<const N: usize, const M: usize>(
     requires fits_replica { IsTrue (fits nat_eq M replica.old key) }
     ensures { Same nat_eq nat_eq list.new replica.new }
 {
-    let _contents = (list.len(), replica.len());
     list.insert_key_value(key, value);
     replica.insert_key_value(key, value);
 }
@@ -82,7 +80,6 @@ fn remove_both<const N: usize, const M: usize>(
     requires { Same nat_eq nat_eq list.old replica.old }
     ensures { Same nat_eq nat_eq list.new replica.new }
 {
-    let _contents = (list.len(), replica.len());
     list.remove(&key);
     replica.remove(&key);
 }
@@ -97,7 +94,6 @@ fn remove_any<K: Eq + Drop, const N: usize, const M: usize>(
     requires { Same K.eq nat_eq list.old replica.old }
     ensures { Same K.eq nat_eq list.new replica.new }
 {
-    let _contents = (list.len(), replica.len());
     list.remove(key);
     replica.remove(key);
 }
@@ -122,7 +118,6 @@ fn clear_square<const N: usize>(board: &mut Board<N>, copy: &mut Board<N>, at: &
     requires { Same ⟦<Square as PartialEq>⟧.eq nat_eq board.old copy.old }
     ensures { Same ⟦<Square as PartialEq>⟧.eq nat_eq board.new copy.new }
 {
-    let _contents = (board.len(), copy.len());
     board.remove(at);
     copy.remove(at);
 }

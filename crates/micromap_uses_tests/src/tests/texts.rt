@@ -10,21 +10,18 @@ ghost use Rattle.micromap.specs.Texts.{item_texts, key_texts};
 
 use micromap::{Map, Set, Text};
 
-#[tactic(auto, using(micromap_core::proofs::TextViews::text_views))]
 fn value<const N: usize>(map: &Map<String, u8, N>, name: &str) -> Option<u8>
     ensures { result ≡ at bytes_eq (key_texts map.now) name.now }
 {
     map.get_by(&Text(name)).copied()
 }
 
-#[tactic(auto, using(micromap_core::proofs::TextViews::text_views))]
 fn has_name<const N: usize>(map: &Map<String, u8, N>, name: &str) -> bool
     ensures { result ≡ has bytes_eq (key_texts map.now) name.now }
 {
     map.contains_key_by(&Text(name))
 }
 
-#[tactic(auto, using(micromap_core::proofs::TextViews::text_views))]
 fn overwrite<const N: usize>(map: &mut Map<String, u8, N>, name: &str, value: u8) -> bool
     ensures answer { result ≡ has bytes_eq (key_texts map.old) name.now }
     ensures texts { key_texts map.new ≡ (if has bytes_eq (key_texts map.old) name.now then put bytes_eq (key_texts map.old) name.now value else key_texts map.old) }
@@ -38,7 +35,6 @@ fn overwrite<const N: usize>(map: &mut Map<String, u8, N>, name: &str, value: u8
     }
 }
 
-#[tactic(auto, using(micromap_core::proofs::TextViews::text_views))]
 fn stored<'a, const N: usize>(
     map: &'a Map<String, u8, N>,
     name: &str,
@@ -48,7 +44,6 @@ fn stored<'a, const N: usize>(
     map.get_key_value_by(&Text(name))
 }
 
-#[tactic(auto, using(micromap_core::proofs::TextViews::text_views))]
 fn known<const N: usize>(map: &Map<String, u8, N>, name: &str) -> u8
     requires { IsTrue (has bytes_eq (key_texts map.now) name.now) }
     ensures { at bytes_eq (key_texts map.now) name.now ≡ Some result }
@@ -56,7 +51,6 @@ fn known<const N: usize>(map: &Map<String, u8, N>, name: &str) -> u8
     *map.index_by(&Text(name))
 }
 
-#[tactic(auto, using(micromap_core::proofs::TextViews::text_views))]
 fn replace_known<const N: usize>(map: &mut Map<String, u8, N>, name: &str, value: u8)
     requires { IsTrue (has bytes_eq (key_texts map.old) name.now) }
     ensures { key_texts map.new ≡ put bytes_eq (key_texts map.old) name.now value }
@@ -64,7 +58,6 @@ fn replace_known<const N: usize>(map: &mut Map<String, u8, N>, name: &str, value
     *map.index_mut_by(&Text(name)) = value;
 }
 
-#[tactic(auto, using(micromap_core::proofs::TextViews::text_views))]
 fn remove<const N: usize>(map: &mut Map<String, u8, N>, name: &str) -> Option<u8>
     ensures answer { result ≡ at bytes_eq (key_texts map.old) name.now }
     ensures texts { key_texts map.new ≡ take_out bytes_eq (key_texts map.old) name.now }
@@ -72,7 +65,6 @@ fn remove<const N: usize>(map: &mut Map<String, u8, N>, name: &str) -> Option<u8
     map.remove_by(&Text(name))
 }
 
-#[tactic(auto, using(micromap_core::proofs::TextViews::text_views))]
 fn remove_stored<const N: usize>(map: &mut Map<String, u8, N>, name: &str) -> Option<(String, u8)>
     ensures answer { option_map (λ p. (string_bytes p.0, p.1)) result ≡ pair bytes_eq (key_texts map.old) name.now }
     ensures texts { key_texts map.new ≡ take_out bytes_eq (key_texts map.old) name.now }
@@ -80,21 +72,18 @@ fn remove_stored<const N: usize>(map: &mut Map<String, u8, N>, name: &str) -> Op
     map.remove_entry_by(&Text(name))
 }
 
-#[tactic(auto, using(micromap::proofs::SetTextViews::set_text_views))]
 fn has_word<const N: usize>(words: &Set<String, N>, word: &str) -> bool
     ensures { result ≡ is_member bytes_eq (item_texts words.now) word.now }
 {
     words.contains_by(&Text(word))
 }
 
-#[tactic(auto, using(micromap::proofs::SetTextViews::set_text_views))]
 fn stored_word<'a, const N: usize>(words: &'a Set<String, N>, word: &str) -> Option<&'a String>
     ensures { option_map (λ x. string_bytes x.now) result ≡ find_item bytes_eq (item_texts words.now) word.now }
 {
     words.get_by(&Text(word))
 }
 
-#[tactic(auto, using(micromap::proofs::SetTextViews::set_text_views))]
 fn take_word<const N: usize>(words: &mut Set<String, N>, word: &str) -> Option<String>
     ensures answer { option_map (λ x. string_bytes x) result ≡ find_item bytes_eq (item_texts words.old) word.now }
     ensures texts { item_texts words.new ≡ take_item bytes_eq (item_texts words.old) word.now }
@@ -102,7 +91,6 @@ fn take_word<const N: usize>(words: &mut Set<String, N>, word: &str) -> Option<S
     words.take_by(&Text(word))
 }
 
-#[tactic(auto, using(micromap::proofs::SetTextViews::set_text_views))]
 fn remove_word<const N: usize>(words: &mut Set<String, N>, word: &str) -> bool
     ensures answer { result ≡ is_member bytes_eq (item_texts words.old) word.now }
     ensures texts { item_texts words.new ≡ take_item bytes_eq (item_texts words.old) word.now }

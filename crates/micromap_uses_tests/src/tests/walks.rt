@@ -10,12 +10,10 @@ use micromap::{Map, Set};
 use micromap_uses::board::{Board, Square};
 
 // A pair whose value is over the limit, if there is one. `get` finds that value at its key.
-#[tactic(auto, using(micromap_core::proofs::MapLaws::map_laws))]
 fn pair_over<const N: usize>(map: &Map<u8, u8, N>, limit: u8) -> Option<(u8, u8)>
     ensures found { IfSome result (λ p. at nat_eq map.now p.0 ≡ Some p.1) }
     ensures over { IfSome result (λ p. limit < p.1) }
 {
-    let _content = map.len();
     for (key, value) in map {
         if *value > limit {
             return Some((*key, *value));
@@ -25,11 +23,9 @@ fn pair_over<const N: usize>(map: &Map<u8, u8, N>, limit: u8) -> Option<(u8, u8)
 }
 
 // A square with this piece, if there is one.
-#[tactic(auto, using(micromap_core::proofs::MapLaws::map_laws))]
 fn square_of<const N: usize>(board: &Board<N>, piece: char) -> Option<Square>
     ensures { IfSome result (λ square. at ⟦<Square as PartialEq>⟧.eq board.now square ≡ Some piece) }
 {
-    let _content = board.len();
     for (square, stored) in board {
         if *stored == piece {
             return Some(*square);
@@ -39,11 +35,9 @@ fn square_of<const N: usize>(board: &Board<N>, piece: char) -> Option<Square>
 }
 
 // A key other than this one, if there is one.
-#[tactic(auto, using(micromap_core::proofs::MapLaws::map_laws))]
 fn key_other<const N: usize>(map: &Map<u8, u8, N>, other: u8) -> Option<u8>
     ensures { IfSome result (λ k. IsTrue (has nat_eq map.now k)) }
 {
-    let _content = map.len();
     for key in map.keys() {
         if *key != other {
             return Some(*key);
@@ -53,7 +47,6 @@ fn key_other<const N: usize>(map: &Map<u8, u8, N>, other: u8) -> Option<u8>
 }
 
 // An item over the limit, if there is one.
-#[tactic(auto, using(micromap::proofs::SetLaws::set_laws))]
 fn item_over<const N: usize>(set: &Set<u8, N>, limit: u8) -> Option<u8>
     ensures stored { IfSome result (λ x. IsTrue (is_member nat_eq set.now x)) }
     ensures over { IfSome result (λ x. limit < x) }
@@ -67,12 +60,10 @@ fn item_over<const N: usize>(set: &Set<u8, N>, limit: u8) -> Option<u8>
 }
 
 // A pair whose value is over the limit, if there is one, for keys of any type.
-#[tactic(auto, using(micromap_core::proofs::MapLaws::map_laws))]
 fn any_over<K: Eq, const N: usize>(map: &Map<K, u8, N>, limit: u8) -> Option<(&K, u8)>
     ensures found { IfSome result (λ p. at K.eq map.now p.0.now ≡ Some p.1) }
     ensures over { IfSome result (λ p. limit < p.1) }
 {
-    let _content = map.len();
     for (key, value) in map {
         if *value > limit {
             return Some((key, *value));
@@ -82,12 +73,10 @@ fn any_over<K: Eq, const N: usize>(map: &Map<K, u8, N>, limit: u8) -> Option<(&K
 }
 
 // An item other than this one, if there is one, for items of any type.
-#[tactic(auto, using(micromap::proofs::SetLaws::set_laws))]
 fn other_than<'a, T: Eq, const N: usize>(set: &'a Set<T, N>, item: &T) -> Option<&'a T>
     ensures stored { IfSome result (λ x. IsTrue (is_member T.eq set.now x.now)) }
     ensures other { IfSome result (λ x. IsFalse (T.eq x.now item.now)) }
 {
-    let _content = set.len();
     for stored in set {
         if stored != item {
             return Some(stored);

@@ -6,4 +6,4 @@ use Rattle.micromap.proofs.SetLaws.{items_remove_key}
 use Rattle.micromap_uses_tests.proofs.tests.laws.strike.Goals as goal
 
 pub returns : goal.returns
-returns g c = c.take_by.ensures.items ∙ items_remove_key (is_text c.args.word.now) string_eq c.args.words.now (probes_text _ _) c.len-content.ensures.content.unique
+returns g c = c.take_by.ensures.items ∙ items_remove_key (is_text c.args.word.now) string_eq c.args.words.now (probes_text _ _) c.take_by.ensures.content.0.unique

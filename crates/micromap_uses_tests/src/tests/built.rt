@@ -1,0 +1,87 @@
+//! Loops over a map or a set that build another collection: a copy, the keys that pass a test, one map or set added to
+//! another.
+ghost use Rattle.std.specs.Prelude.{◌≡◌, ◌<◌, IfOk, IsFalse, filter, length, nat_eq, nat_lt};
+ghost use Rattle.std.specs.Bool.{OnTrue};
+ghost use Rattle.std.specs.Map.{keys_of};
+ghost use Rattle.micromap.specs.Build.{put_all};
+ghost use Rattle.micromap.specs.Operations.{union};
+ghost use Rattle.micromap.specs.Pairs.{has};
+
+use micromap::{Map, Set};
+use std::alloc::AllocError;
+
+// Copies a map of sets, pair by pair. The copy is the very same list.
+#[tactic(auto, using(micromap_core::proofs::MapLaws::map_laws, micromap_core::proofs::LoopLaws::loop_laws))]
+fn copied<const N: usize, const M: usize>(
+    plan: &Map<u8, Set<u8, M>, N>,
+) -> Result<Map<u8, Set<u8, M>, N>, AllocError>
+    ensures { IfOk result (λ copy. copy ≡ plan.now) }
+{
+    let mut copy = Map::new();
+    for (name, courses) in plan {
+        copy.insert(*name, courses.clone()?);
+    }
+    Ok(copy)
+}
+
+// The keys whose value is over the limit, as a set, in their order.
+#[tactic(auto, using(micromap::proofs::SetLaws::set_laws, micromap::proofs::SetLoopLaws::set_loop_laws, micromap_core::proofs::MapLaws::map_laws))]
+fn keys_over<const N: usize>(map: &Map<u8, u8, N>, limit: u8) -> Set<u8, N>
+    ensures { result ≡ keys_of (filter (λ p. nat_lt limit p.1) map.now) }
+{
+    let mut keys = Set::new();
+    for (key, value) in map {
+        if *value > limit {
+            keys.insert(*key);
+        }
+    }
+    keys
+}
+
+// Adds the pairs of another map, up to the first that doesn't fit. If one doesn't, they would be more than `N`.
+#[tactic(auto, using(micromap_core::proofs::MapLaws::map_laws, micromap_core::proofs::LoopLaws::loop_laws))]
+fn add_all<const N: usize, const M: usize>(map: &mut Map<u8, u8, N>, other: &Map<u8, u8, M>) -> bool
+    ensures put { OnTrue result (map.new ≡ put_all nat_eq map.old other.now) }
+    ensures refused { IsFalse result → N < length (put_all nat_eq map.old other.now) }
+{
+    for (key, value) in other {
+        if !map.fits(key) {
+            return false;
+        }
+        map.insert(*key, *value);
+    }
+    true
+}
+
+// Adds the items of another set, up to the first that doesn't fit. If all fit, the set is the union.
+#[tactic(auto, using(micromap::proofs::SetLaws::set_laws, micromap::proofs::SetLoopLaws::set_loop_laws))]
+fn add_all_items<const N: usize, const M: usize>(set: &mut Set<u8, N>, other: &Set<u8, M>) -> bool
+    ensures union { OnTrue result (set.new ≡ union nat_eq other.now set.old) }
+    ensures refused { IsFalse result → N < length (union nat_eq other.now set.old) }
+{
+    for item in other {
+        if !set.fits(item) {
+            return false;
+        }
+        set.insert(*item);
+    }
+    true
+}
+
+// Drops the first pair. A key that was missing still is.
+#[tactic(auto, using(micromap_core::proofs::LoopLaws::loop_laws))]
+fn drop_first<K: Eq + Drop, V: Drop, const N: usize>(map: &mut Map<K, V, N>, missing: &K)
+    requires { IsFalse (has K.eq map.now missing.now) }
+    ensures { IsFalse (has K.eq map.new missing.now) }
+{
+    map.pop_first();
+}
+
+#[test]
+fn loops_build_other_collections(rt: HostRuntime) {
+    let mut map = Map::from([(1, 10), (2, 20), (3, 30)]);
+    assert!(rt; keys_over(&map, 15).iter().eq(&[2, 3]));
+    assert!(rt; add_all(&mut map, &Map::from([(2, 21), (1, 11)])));
+    assert!(rt; !add_all(&mut map, &Map::from([(4, 40)])));
+    assert!(rt; map.drain().eq([(1, 11), (2, 21), (3, 30)]));
+}
