@@ -1,0 +1,184 @@
+"""What the sources of some crates have: public types, calls and clauses, under the names that a user has for them."""
+import collections
+import glob
+import os
+import re
+
+LIBRARY = ["micromap_walk", "micromap_core", "micromap"]
+PROOFS = ("laws", "equal_keys_match_alike", "matching_keys_are_equal")  # ghost members of an impl that state nothing
+TYPES = ("struct", "enum", "type", "trait")
+Function = collections.namedtuple("Function", "name head doc clauses")
+Item = collections.namedtuple(
+    "Item", "kind name trait whom bounds head body doc derives ghosts types functions path imports"
+)
+# The name is that by which an edit names the clause, as `Map::insert: old`.
+Clause = collections.namedtuple("Clause", "call name text item")
+
+
+def read(path):
+    with open(path, encoding="utf-8") as file:
+        return file.read()
+
+
+def doc_of(lines):
+    return "\n".join(line.strip()[3:].removeprefix(" ") for line in lines.split("\n") if line.strip().startswith("///"))
+
+
+def parts(text):
+    return [it.strip() for it in re.split(r",(?![^<(\[]*[>)\]])", text) if it.strip()]
+
+
+def functions_of(text, indent, public):
+    """The functions at an indentation, with their signatures on one line each, and their clauses."""
+    docs = rf"((?:^{indent}(?:///|#\[)[^\n]*\n)*)"
+    begins = rf"^{indent}{public}(?:const |unsafe )*fn (\w+)"
+    ends = rf"(?=\n{indent}\{{\n|(?<! record) \{{\n|;\n(?!{indent} ))"
+    for docs, name, text in re.findall(rf"{docs}{begins}(.*?){ends}", text, re.M | re.S):
+        head, *rest = re.split(r"\n *(?=requires\b|ensures\b|//)", text)
+        head = re.sub(r"\s+", " ", head).replace("( ", "(").replace(", )", ")").rstrip(",")
+        rest = [" ".join(it.split()) for it in rest if not it.startswith("//")]
+        clauses = [re.match(r"(requires|ensures\*?)(?: (\w+))? \{ (.*) \}$", it).groups("") for it in rest]
+        yield Function(name, "fn " + name + re.sub(r"\bmut (?=\w+:)", "", head), doc_of(docs), clauses)
+
+
+def whose(head):
+    """The trait, the type and the type's first word of the head of an impl, and the bounds that are shown."""
+    given, rest = re.match(r"(?:<((?:[^<>]|<[^<>]*>)*)> ?)?(.*)", head).group(1, 2)
+    trait, _, whom = rest.rpartition(" for ")
+    needs = [it for it in parts(given or "") if ": " in it and not it.startswith("const")]
+    needs = [re.sub(r"(?<=^[KRT]: )Eq(?: \+ |$)", "", it) for it in needs]
+    return trait, whom, re.search(r"\w+", re.sub(r"'\w+", "", whom))[0], [it for it in needs if not it.endswith(": ")]
+
+
+def items_of(path):
+    """The public types, traits and functions of a source, and its impls with their public functions."""
+    text, imports = read(path), {}
+    for module, names in re.findall(r"ghost use Rattle\.([\w.]+)\.\{([^}]*)\}", text):
+        imports.update((it.split(" as ")[-1].strip(), module) for it in names.split(","))
+    begins = r"((?:^(?:///|#\[).*\n)*)^(?:pub (struct|enum|type|trait|fn)|(impl))\b"
+    for found in re.finditer(begins, text, re.M):
+        kind, rest = found[2] or found[3], text[found.end() :].replace("fmt::", "")
+        head = re.match(r"[^{]*" if kind in ("impl", "trait") else r"[^{;]*", rest)[0]
+        head = re.sub(r"\s+", " ", head).strip()
+        ends = ";" if kind == "type" or rest[: rest.index("\n")].endswith(";") else "\n}"
+        body = "" if re.match(r"[^{]*\{\}", rest) and kind == "impl" else rest[: rest.index(ends) + 2]
+        trait, whom, name, bounds = whose(head) if kind == "impl" else ("", "", re.match(r"\w*", head)[0], [])
+        public = "" if trait or kind == "trait" else "pub "
+        own = functions_of("fn" + body, "", "") if kind == "fn" else functions_of(body, "    ", public)
+        derives = re.findall(r"\w+", "".join(re.findall(r"#\[derive(\(.*\))\]", found[1])))
+        member = r"((?:^    ///[^\n]*\n)*)^    ghost (?!use\b)(\w+)( =|:) \{ (.*?) \};$"
+        ghosts = [(*it[:3], " ".join(it[3].split())) for it in re.findall(member, body, re.M | re.S)]
+        ghosts = [it for it in ghosts if kind == "trait" or it[1] not in PROOFS]
+        types = re.findall(r"^    (type .*);$", body, re.M)
+        doc = doc_of(found[1])
+        yield Item(kind, name, trait, whom, bounds, head, body, doc, derives, ghosts, types, [*own], path, imports)
+
+
+class Sources:
+    """The items of some crates, by the names that a user has for them."""
+
+    def __init__(self, crates):
+        paths = (sorted(glob.glob(f"crates/{it}/src/**/*.rt", recursive=True)) for it in crates)
+        self.items = [it for found in paths for path in found if "/tests" not in path for it in items_of(path)]
+        self.aliases = {}
+        for it in self.items:  # the aliases are as `Entry<'a, K, V, N>` for `EntryIn<'a, K, Map<K, V, N>>`
+            means = re.match(r"(\w+)<(.*)> = ((\w+In)<.*>)$", it.head.replace("< ", "<").replace(", >", ">"))
+            if it.kind == "type" and means:
+                names = ", ".join(re.sub(r"const (\w+).*", r"\1", part) for part in parts(means[2]))
+                self.aliases[means[4]] = (means[1], f"{means[1]}<{names}>", means[3])
+        self.types = {self.owner(it) for it in self.items if it.kind in TYPES} | {"K"}
+
+    def owner(self, item):
+        return self.aliases.get(item.name, (item.name,))[0]
+
+    def public(self, text):
+        """A text with the public name of each type that has one."""
+        for name, (_, used, means) in self.aliases.items():
+            text = re.sub(rf"\b{name}<[^<>]*>", used, text.replace(means, used))
+        return text
+
+    def call(self, item, function=None):
+        """The name of an impl of a trait, a call or a type. A free call of another crate has its module before it."""
+        if item.trait:
+            return f"{item.trait.partition('<')[0]} for {self.owner(item)}"
+        if function and item.kind != "fn":
+            return f"{self.owner(item)}::{function.name}"
+        crate, module = re.search(r"(\w+)/src/(?:.*/)?(\w+)\.rt$", item.path).groups()
+        is_bare = item.kind != "fn" or crate in LIBRARY or module in ("lib", "main")
+        return ("" if is_bare else f"{module}::") + item.name + " of a set" * item.path.endswith("set/walk.rt")
+
+    def clauses(self):
+        """Each public clause. A ghost member of an impl is a clause of it, and a law of a trait is one of the trait."""
+        for it in self.items:
+            if it.trait == "Model" or (self.owner(it) not in self.types and it.kind != "fn"):
+                continue
+            states = [(self.call(it), name, text) for _, name, _, text in it.ghosts if not name.startswith("can_")]
+            states = states if it.kind != "trait" else [one for one in states if "≡" in one[2]]
+            for function in it.functions:
+                ensured = ((label, text) for kind, label, text in function.clauses if kind != "requires")
+                named = ((label or function.name * bool(it.trait), text) for label, text in ensured)
+                states += [(self.call(it, function), *one) for one in named]
+            yield from (Clause(call, f"{call}: {name}".removesuffix(": "), text, it) for call, name, text in states)
+
+
+class Paths:
+    """The paths by which a crate's public items are imported, by the file and the name of each, the shortest first."""
+
+    def __init__(self, crate):
+        self.found = collections.defaultdict(list)
+        self.walk(f"crates/{crate}/src/lib.rt", crate)
+        for paths in self.found.values():
+            paths.sort(key=lambda it: (it.count("::"), it))
+
+    def walk(self, module, path):
+        text = read(module)
+        names = re.findall(r"^pub mod (\w+);", text, re.M) + [name for _, name in self.uses(text)]
+        names += re.findall(rf"^pub (?:{'|'.join(TYPES)}|fn) (\w+)", text, re.M)
+        for name in names:
+            target = self.target(module, name)
+            if isinstance(target, str):
+                self.walk(target, f"{path}::{name}")
+            else:
+                self.found[target].append(f"{path}::{name}")
+
+    @staticmethod
+    def uses(text):
+        """The path and the name of each item that a module re-exports."""
+        for path, names, name in re.findall(r"^pub use ([\w:]+)::(?:\{([^}]*)\}|(\w+));", text, re.M):
+            yield from ((path, it) for it in parts(names or name))
+
+    def target(self, module, name):
+        """The file of a module of this name in a module, or the file and the name of what else has the name there."""
+        text = read(module)
+        if re.search(rf"^(?:pub(?:\(crate\))? )?mod {name};", text, re.M):
+            is_root = os.path.basename(module) == "lib.rt"
+            return f"{os.path.dirname(module) if is_root else module.removesuffix('.rt')}/{name}.rt"
+        path = next((path for path, it in self.uses(text) if it == name), None)
+        return self.target(self.module(module, path), name) if path else (module, name)
+
+    def module(self, module, path):
+        """The file of the module that a path in a module names."""
+        first, *rest = path.split("::")
+        crate = module.split("/")[1] if first == "crate" else first
+        root = f"crates/{crate}/src/lib.rt"
+        file = root if os.path.exists(root) else self.target(module, first)
+        for name in rest:
+            file = self.target(file, name)
+        return file
+
+
+def spec_of(module):
+    """The file of a module of definitions, or nothing where it isn't of these crates."""
+    crate, _, rest = module.partition(".specs.")
+    paths = [f"crates/{it}/specs/{rest.replace('.', '/')}.antt" for it in (crate, "micromap_core")]
+    return next((it for it in paths if crate.startswith("micromap") and os.path.exists(it)), "")
+
+
+def anchor(heading):
+    """The anchor of a heading, as GitHub forms it."""
+    return re.sub(r"[^\w\- ]", "", re.sub(r"\[(.*?)\]\(.*?\)", r"\1", heading).strip().lower()).replace(" ", "-")
+
+
+def link(path, document, name=""):
+    named = name or os.path.basename(path).removesuffix(".antt")
+    return f"[`{named}`]({os.path.relpath(path, os.path.dirname(document))})"

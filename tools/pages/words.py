@@ -1,0 +1,93 @@
+"""What the words of the standard library that contracts name mean, as the user of a map meets them."""
+
+# A line has a word as it is written in a clause, and its meaning. A dot begins a member of a trait.
+MEANINGS = """
+All P xs | `P` holds of each element
+AllZip R xs ys | the lists have the same length, and `R` holds of the elements at each index
+array values | the JSON array of these values
+object members | the JSON object of these members
+at_most n | `n`, as the bound of a number of items
+Bor T | a `&T`, and `it.now` is what it points to
+CallableOnEachPair T Q f pairs | `Q` holds at each pair, of the closure as calls `T` on the pairs before it leave `f`
+CalledAt F.FnMut f x r f' | a call of `f` at a reference to `x` can return `r`, and leave the closure as `f'`
+ClonesAreEqual eq C | each clone is equal to its original
+codes "text" | the bytes of this ASCII text
+compact_text value | the JSON text of the value, with no space, as bytes
+decimal n | the decimal digits of the number, as bytes
+deref r | what the reference points to
+deref_pair p | what the two references of the pair point to
+distinct_count eq xs | how many elements there are, if equal ones count once
+drop n xs | the list without its first `n` elements
+find test xs | the first element that passes the test, if any
+GivesInOrder T | the calls of `next` return the items left, in their order
+IfErr r P | `P` holds of the error, if `r` is one
+IfOk r P | `P` holds of the value, if `r` is `Ok`
+IfSome o P | `P` holds of the value, if there is one
+int_eq x y | `==` of signed numbers
+is_member eq xs x | whether some element equals `x`
+is_some o | whether there is a value
+IsDistinct eq xs | no two elements are equal
+IsErr r | `r` is an error
+IsFalse b | `b` is `false`
+IsFiltered T f xs ys | `f` was called on each element in turn, and `ys` has those at which it returned `true`
+IsNone o | there is no value
+IsOk r | `r` is `Ok`
+IsTrue b | `b` is `true`
+IsWithinCount n c | `n` is at most the bound `c`, if there is a bound
+item_count rest s | the length of the list `rest s`, as the bound of a number of items
+keys_of pairs | the keys, in the order of the pairs
+list_all test xs | whether each element passes the test
+list_any test xs | whether some element passes the test
+lookup test pairs | the value of the first pair whose key passes the test, if any
+lookup_entry test pairs | the first pair whose key passes the test, if any
+map f xs | the list of `f` of each element
+MatchResult r P Q | `P` holds of the value of an `Ok`, or `Q` of the error
+ModifiesValue F.FnOnce f old new | a call of `f` can leave the value `new` for `old`, or both are `None`
+MutBor T | a `&mut T`, and `it.now` is what it points to
+object members | the JSON object of these members
+on f R | the relation of `x` and `y` that is `R (f x) (f y)`
+OnErr r P | `P` holds, if `r` is an error
+OnOk r P | `P` holds, if `r` is `Ok`
+OnTrue b P | `P` holds, if `b` is `true`
+option_copied o | the value that the reference points to, if there is a reference
+option_copied_mut o | the same of a `&mut`
+option_map f o | `f` of the value, if there is one
+option_map_or f o d | `f` of the value, or `d` if there is none
+read bytes | the JSON value whose text the bytes are, nested at most 127 deep, if there is one
+remove_entry test pairs | the pairs without the first whose key passes the test
+remove_key test xs | the list without the first element that passes the test
+RetainsPairs T f pairs kept | `f` was called on each pair in turn, and `kept` has those that it kept, as it left them
+sem 𝓛 (..) | a statement about memory and borrows
+set_key test pairs k | the pairs with `k` as the first key that passes the test
+set_value test pairs v | the pairs with the value `v` at the first key that passes the test
+ShowsInOrder shows | the calls of `next` return the items left, as `shows` reads what they return, in their order
+slice_get xs i | the element at the index `i`, if any
+string_bytes s | the bytes of the text
+string_eq s t | `==` of `String`: the texts have the same bytes
+swap_key test xs x | the list with `x` in the place of the first element that passes the test
+TakesFirst shows s r t | `r` shows the first of the items `s`, and `t` are the others; it is `None` if there are none
+unwrap_or o d | the value, or `d` if there is none
+UnwrapsOrElse o P r | `r` is the value, or one of which `P` holds if there is none
+UpTo c n | the number of items has the bound `c`, which is at most `n`
+values_of pairs | the values, in the order of the pairs
+YieldsInOrder steps rest | the calls of `next`, each as `steps` says, return the items that `rest` lists, in their order
+zip xs ys | the pairs of the elements at the same index
+.can_next i | `next` may be called on the iterator `i`
+.eq x y | `==` of the type
+.FnMut, .FnOnce | the calls of a closure of the type `F`
+.is_clone x y | `y` is what `clone` of `x` may return
+.is_default x | `x` is what `default` may return
+.is_infallible x | `clone` of `x` returns `Ok`
+.next_gives i r j | a call of `next` on `i` may return `r` and leave `j`
+.output x | the bytes that `x` prints with `{}`, if its type promises them
+.post f x r | the call of `f` at `x` may return `r`
+.pre f x | `f` may be called at `x`
+.remaining i | the bound of the number of items that `i` has left, if it has one
+.row | the type, where a statement about memory names it
+.styled_output x spec | the bytes that `x` prints with these flags, if its type promises them
+"""
+# Words that mean what their names say: types, values and functions of Rust, and the variants of types of the library.
+PLAIN = """AllocError Bool length List Memory None not Occupied Ok Option Some true Vacant ℕ
+.Error .faults .last_fault .left .matches .taken""".split()
+FORMS = dict(line.split(" | ") for line in MEANINGS.strip().split("\n"))
+FORM_OF = {it.split()[0]: form for form in FORMS for it in form.split(", ")}
