@@ -159,6 +159,7 @@ fn put_each_then_read<K: Eq + Copy + Drop, const N: usize>(
 ) -> Option<Option<u8>>
     ensures { IfSome result (λ found. found ≡ option_or (at K.eq (reverse items.now) key.now) (at K.eq map.old key.now)) }
 {
+    let _content = map.len();
     if !put_each(map, items) {
         return None;
     }
