@@ -35,13 +35,14 @@ OTHERS = {
 }
 HEAD = """# The calls of `micromap`
 
-Made by `tools/documents` from the sources. Each call has its documentation, its signature, its preconditions \
-(`requires`) and its contract (`ensures`). `K`, `V`, `T` and `N` are the parameters of `Map<K, V, N>` and `Set<T, N>`; \
+Made by `tools/documents` from the sources. Each call has its documentation, its signature and its contract: \
+what it requires and what it ensures. `K`, `V`, `T` and `N` are the parameters of `Map<K, V, N>` and `Set<T, N>`; \
 the bounds `K: Eq` and `T: Eq` are left out.
 
 In a clause `result` is what the call returns. `self.now` is what `&self` points to. `self.old` and `self.new` are \
-what `&mut self` points to at the call and at the return. `self.entry` and `self.exit` are a `self` that the call \
-takes, before and after it. `K.eq` is `==` of the keys. The [words](#words) of this library and those of the [standard \
+what `&mut self` points to at the call and at the return. `self`, also written `self.entry`, is a `self` that the call \
+takes, as it was passed, and `self.exit` is what is left of it. Of `&mut self`, `self.entry` is the reference itself. \
+Other parameters are named in the same way, as `key.now`. `K.eq` is `==` of the keys. The [words](#words) of this library and those of the [standard \
 library](#words-of-the-standard-library) are explained at the end.
 """
 LENT = """## Written through a reference
@@ -54,7 +55,7 @@ once the borrow ends: at the key, the value that was written last.
 OWN_WORDS = """## Words
 
 Each word of this library has the module that it is imported from, as `ghost use \
-Rattle.micromap.specs.Pairs.{put};`, and the comment at its definition.
+Rattle.micromap.specs.Pairs.{put};`, and the comment at its definition. Signs: `≡` is equality, `→` "if, then" or a function, `↔` "exactly if", `×` "and", `λ x. ..` a function of `x`. `[]` is the empty list, `x ∷ xs` the list `xs` with `x` before it, `++` joins two lists, `⊤` always holds, `ℕ` are the natural numbers.
 
 | Word | Module | Meaning |
 |---|---|---|"""
@@ -237,7 +238,7 @@ class Api:
 
     def meaning(self, path, word):
         """The last comment above the definition of a word: its own, or that of the words that it stands among."""
-        above = re.search(rf"\A((?:.*\n)*?) *(?:\w+ )*{re.escape(word)}\b", read(path), re.M)
+        above = re.search(rf"\A((?:.*\n)*?) *(?:\w+ )*pub (?:\w+ )*{re.escape(word)}(?= )", read(path), re.M)
         blocks = re.findall(r"((?:^ *-- .*\n)+)", above[1], re.M) if above else []
         said = " ".join(re.findall(r"-- (.*)", blocks[-1])) if blocks else ""
         self.wrong += [] if said else [f"{path}: no comment says what {word} means"]

@@ -14,6 +14,7 @@ PROGRAMS = {
     "micromap_bench": "The worked rows",
     "micromap_replay": "Recorded calls",
     "micromap_uses": "Example libraries",
+    "micromap_headers": "An example program",
 }
 HEAD = """# Claims
 
@@ -126,8 +127,8 @@ class Claims:
         named = {it for edit in self.edits for _, names in edit.claims for it in names}
         calls = collections.defaultdict(dict)
         for name, clause in reversed(self.clauses.items()):
-            if name not in named and clause.item.path.split("/")[1] in LIBRARY:
-                calls[clause.call][f"`{name[len(clause.call) + 2 :]}`" if name != clause.call else ""] = clause
+            if name not in named and clause.item.path.split("/")[1] in LIBRARY and not clause.item.path.endswith("/slot.rt"):
+                calls[clause.call][f"`{name[len(clause.call) + 2 :]}`" if name != clause.call else "its only clause"] = clause
         for call, found in calls.items():
             clause = next(iter(found.values()))
             names = ", ".join(it for it in found if it)

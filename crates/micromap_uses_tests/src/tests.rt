@@ -11,6 +11,7 @@ mod frame;
 mod generic;
 mod graph;
 mod headers;
+mod keys;
 mod laws;
 mod merged;
 mod permissions;

@@ -1,5 +1,7 @@
 //! Loops over a map or a set that build another collection: a copy, the keys that pass a test, one map or set added to
 //! another.
+#![tactic(auto, using(micromap::proofs::Rules::caller, micromap_core::proofs::LoopLaws::loop_laws, micromap::proofs::SetLoopLaws::set_loop_laws))]
+
 ghost use Rattle.std.specs.Prelude.{◌≡◌, ◌<◌, IfOk, IsFalse, filter, length, nat_eq, nat_lt};
 ghost use Rattle.std.specs.Bool.{OnTrue};
 ghost use Rattle.std.specs.Map.{keys_of};
@@ -11,7 +13,6 @@ use micromap::{Map, Set};
 use std::alloc::AllocError;
 
 // Copies a map of sets, pair by pair. The copy is the very same list.
-#[tactic(auto, using(micromap_core::proofs::MapLaws::map_laws, micromap_core::proofs::LoopLaws::loop_laws))]
 fn copied<const N: usize, const M: usize>(
     plan: &Map<u8, Set<u8, M>, N>,
 ) -> Result<Map<u8, Set<u8, M>, N>, AllocError>
@@ -25,7 +26,6 @@ fn copied<const N: usize, const M: usize>(
 }
 
 // The keys whose value is over the limit, as a set, in their order.
-#[tactic(auto, using(micromap::proofs::SetLaws::set_laws, micromap::proofs::SetLoopLaws::set_loop_laws, micromap_core::proofs::MapLaws::map_laws))]
 fn keys_over<const N: usize>(map: &Map<u8, u8, N>, limit: u8) -> Set<u8, N>
     ensures { result ≡ keys_of (filter (λ p. nat_lt limit p.1) map.now) }
 {
@@ -39,7 +39,6 @@ fn keys_over<const N: usize>(map: &Map<u8, u8, N>, limit: u8) -> Set<u8, N>
 }
 
 // Adds the pairs of another map, up to the first that doesn't fit. If one doesn't, they would be more than `N`.
-#[tactic(auto, using(micromap_core::proofs::MapLaws::map_laws, micromap_core::proofs::LoopLaws::loop_laws))]
 fn add_all<const N: usize, const M: usize>(map: &mut Map<u8, u8, N>, other: &Map<u8, u8, M>) -> bool
     ensures put { OnTrue result (map.new ≡ put_all nat_eq map.old other.now) }
     ensures refused { IsFalse result → N < length (put_all nat_eq map.old other.now) }
@@ -54,7 +53,6 @@ fn add_all<const N: usize, const M: usize>(map: &mut Map<u8, u8, N>, other: &Map
 }
 
 // Adds the items of another set, up to the first that doesn't fit. If all fit, the set is the union.
-#[tactic(auto, using(micromap::proofs::SetLaws::set_laws, micromap::proofs::SetLoopLaws::set_loop_laws))]
 fn add_all_items<const N: usize, const M: usize>(set: &mut Set<u8, N>, other: &Set<u8, M>) -> bool
     ensures union { OnTrue result (set.new ≡ union nat_eq other.now set.old) }
     ensures refused { IsFalse result → N < length (union nat_eq other.now set.old) }
@@ -69,7 +67,6 @@ fn add_all_items<const N: usize, const M: usize>(set: &mut Set<u8, N>, other: &S
 }
 
 // Drops the first pair. A key that was missing still is.
-#[tactic(auto, using(micromap_core::proofs::LoopLaws::loop_laws))]
 fn drop_first<K: Eq + Drop, V: Drop, const N: usize>(map: &mut Map<K, V, N>, missing: &K)
     requires { IsFalse (has K.eq map.now missing.now) }
     ensures { IsFalse (has K.eq map.new missing.now) }

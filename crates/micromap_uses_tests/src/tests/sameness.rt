@@ -1,4 +1,6 @@
 //! Callers of what a comparison of two maps promises, and of the laws about lists with unequal keys or items.
+#![tactic(auto, using(micromap::proofs::Rules::caller, micromap_core::proofs::FairLemmas::same_laws))]
+
 ghost use Rattle.std.specs.Prelude.{◌≡◌, ◌↔◌, ◌≤◌, List, length, nat_eq, true, false, IsTrue, IsFalse, IsNone};
 ghost use Rattle.std.specs.Bool.{OnTrue};
 ghost use Rattle.std.specs.List.{list_all};
@@ -37,7 +39,6 @@ fn is_replica<const N: usize, const M: usize>(
 }
 
 // Puts one pair into a list and its replica. Where they are the same, they stay the same.
-#[tactic(auto, using(micromap_core::proofs::FairLemmas::same_laws))]
 fn put_both<const N: usize, const M: usize>(
     list: &mut Map<u8, u8, N>,
     replica: &mut Map<u8, u8, M>,
@@ -54,7 +55,6 @@ fn put_both<const N: usize, const M: usize>(
 }
 
 // Puts one pair with its own key into a list and its replica.
-#[tactic(auto, using(micromap_core::proofs::FairLemmas::same_laws))]
 fn put_key_both<const N: usize, const M: usize>(
     list: &mut Map<u8, u8, N>,
     replica: &mut Map<u8, u8, M>,
@@ -71,7 +71,6 @@ fn put_key_both<const N: usize, const M: usize>(
 }
 
 // Removes one key from a list and its replica. Where they are the same, they stay the same.
-#[tactic(auto, using(micromap_core::proofs::FairLemmas::same_laws))]
 fn remove_both<const N: usize, const M: usize>(
     list: &mut Map<u8, u8, N>,
     replica: &mut Map<u8, u8, M>,
@@ -85,7 +84,6 @@ fn remove_both<const N: usize, const M: usize>(
 }
 
 // Removes one key of any type from a list and its replica.
-#[tactic(auto, using(micromap_core::proofs::FairLemmas::same_laws))]
 fn remove_any<K: Eq + Drop, const N: usize, const M: usize>(
     list: &mut Map<K, u8, N>,
     replica: &mut Map<K, u8, M>,
@@ -113,7 +111,6 @@ fn remove_name<const N: usize, const M: usize>(
 }
 
 // Takes a piece off two boards that are the same.
-#[tactic(auto, using(micromap_core::proofs::FairLemmas::same_laws))]
 fn clear_square<const N: usize>(board: &mut Board<N>, copy: &mut Board<N>, at: &Square)
     requires { Same ⟦<Square as PartialEq>⟧.eq nat_eq board.old copy.old }
     ensures { Same ⟦<Square as PartialEq>⟧.eq nat_eq board.new copy.new }
