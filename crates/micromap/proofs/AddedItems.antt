@@ -1,6 +1,6 @@
 -- A list of pairwise unequal items, or the list of their clones, is put into a set item by item. Each item is new, and
 -- goes last.
-use Rattle.std.proofs.Common.{◌≡◌, ℕ, ◌<◌, ◌≤◌, Bool, true, false, ◌||◌, List, [], ◌∷◌, ◌++◌, length, get_or, IsTrue, refl, ap, sym, subst, ◌∙◌, append_assoc, arith}
+use Rattle.std.proofs.Common.{◌≡◌, ℕ, All, ◌<◌, ◌≤◌, Bool, true, false, ◌||◌, List, [], ◌∷◌, ◌++◌, length, get_or, IsTrue, refl, ap, sym, subst, ◌∙◌, append_assoc, arith}
 use Rattle.std.specs.Cmp.{IsEquivalence}
 use Rattle.std.specs.List.{AllZip, IsDistinct}
 use Rattle.std.specs.Set.{is_member, ClonesAreEqual}
@@ -49,23 +49,23 @@ pub record ClonesTo {T : Type 0} (C : T → T → Type 0) (members left set : Li
 pub clones_end : {T : Type 0} {C : T → T → Type 0} {members left set : List T} → ClonesTo C members left set → left ≡ [] → AllZip C members set
 clones_end {C = C} {set = set} c none = subst (λ l. AllZip C l set) (sym (append-nil c.given) ∙ ap (λ l. c.given ++ l) (sym none) ∙ c.split) c.clones
 
-module _ {T : Type 0} {eq : T → T → Bool} (laws : IsEquivalence eq) {C : T → T → Type 0} (equal : ClonesAreEqual eq C) {members left set : List T} (c : ClonesTo C members left set) (x : T) (rest : List T) (first : left ≡ x ∷ rest) where
+module _ {T : Type 0} {eq : T → T → Bool} (laws : IsEquivalence eq) {C : T → T → Type 0} (equal : ClonesAreEqual eq C) {members left set : List T} (c : ClonesTo C members left set) {x : T} {rest : List T} (first : left ≡ x ∷ rest) where
   whole : c.given ++ x ∷ rest ≡ members
   whole = ap (λ l. c.given ++ l) (sym first) ∙ c.split
 
-  -- the next member is the one behind those before it
-  pub next_member : (d : T) → (length c.given < length members) × (get_or members (length c.given) d ≡ x)
-  next_member d = (
-    omega (arith, ap length whole, length-append c.given (x ∷ rest)),
-    ap (λ l. get_or l (length c.given) d) (sym whole) ∙ get_or-append_seam c.given x rest d,
-  )
+  within : length c.given < length members
+  within = omega (arith, ap length whole, length-append c.given (x ∷ rest))
+
+  -- what holds of each member holds of the next
+  pub next_holds : (P : T → Type 0) → All P members → P x
+  next_holds P all = subst P (ap (λ l. get_or l (length c.given) x) (sym whole) ∙ get_or-append_seam c.given x rest x) (all (length c.given) x within)
 
   -- there is room for its clone, which is new and goes last
   pub clone_fits : (N : ℕ) (y : T) → length members ≤ N → IsTrue (item_fits eq N set y)
-  clone_fits N y bounded = fits_room eq N set y (omega (arith, bounded, (next_member x).0, length_all_zip C c.given set c.clones))
+  clone_fits N y bounded = fits_room eq N set y (omega (arith, bounded, within, length_all_zip C c.given set c.clones))
 
-  pub clones_next : (y : T) (new : List T) → IsDistinct eq members → C x y → new ≡ put_item eq set y → ClonesTo C members rest new
-  clones_next y new distinct clone added =
+  pub clones_next : {y : T} {new : List T} → IsDistinct eq members → C x y → new ≡ put_item eq set y → ClonesTo C members rest new
+  clones_next {y} distinct clone added =
       let missing : is_member eq set y ≡ false = clones_alike laws equal c.given set x y c.clones (equal x y clone) ∙ new_behind laws c.given x rest (subst (IsDistinct eq) (sym whole) distinct) in
       record {
         given = c.given ++ x ∷ [];

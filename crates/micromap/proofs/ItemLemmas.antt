@@ -1,17 +1,17 @@
 -- A set's items are the keys of its map. Each lemma says what a word on the map's pairs does to the keys.
-use Rattle.std.proofs.Common.{◌≡◌, ℕ, ◌||◌, nat_lt, Bool, true, List, [], ◌∷◌, length, is_some, if◌then◌else◌, refl, ap, ◌∙◌, arith}
+use Rattle.std.proofs.Common.{◌≡◌, ℕ, nat_lt, Bool, true, List, [], ◌∷◌, length, is_some, if◌then◌else◌, refl, ap, ◌∙◌, arith}
 use Rattle.std.specs.List.{AllZip, IsDistinct, find, list_any}
 use Rattle.std.specs.Map.{keys_of, lookup, lookup_entry, remove_entry, set_value, set_key}
 use Rattle.std.specs.Option.{option_map}
 use Rattle.std.specs.Set.{is_member, remove_key, swap_key}
-use Rattle.std.proofs.lemmas.List.{map_push, length-map}
+use Rattle.std.proofs.lemmas.List.{map_push}
 use Rattle.std.proofs.lemmas.Map.{keys-set_value}
 use Rattle.std.proofs.lemmas.Map.Entries.{length-keys_of}
 use Rattle.micromap_core.specs.Build.{put_all}
 use Rattle.micromap_core.specs.Clones.{IsPairClone}
 use Rattle.micromap_core.specs.Equalities.{Lawful}
-use Rattle.micromap_core.specs.Pairs.{IsContent, fits, has, put, put_key, take_out}
-use Rattle.micromap_core.proofs.PairsLemmas.{keys_of-put_stored, keys_of-put_new}
+use Rattle.micromap_core.specs.Pairs.{IsContent, fits, put, put_key, take_out}
+use Rattle.micromap_core.proofs.MapLemmas.{keys_of-put_stored, keys_of-put_new}
 use Rattle.micromap.specs.Extend.{put_all_items}
 use Rattle.micromap.specs.Items.{IsItems, put_item, replace_item, item_fits, take_item}
 
@@ -42,7 +42,7 @@ module _ {T V : Type 0} where
   take_item-keys eq pairs k = take-keys (eq k) pairs
 
   pub fits-keys : (eq : T → T → Bool) (N : ℕ) (pairs : List (T × V)) (k : T) → item_fits eq N (keys_of pairs) k ≡ fits eq N pairs k
-  fits-keys eq N pairs k = ap (λ b. b || nat_lt (length (keys_of pairs)) N) (any-keys (eq k) pairs) ∙ ap (λ n. has eq pairs k || nat_lt n N) (length-map pairs (λ (e : T × V). e.0))
+  fits-keys eq N pairs k = grind (arith, any-keys (eq k) pairs, length-keys_of pairs)
 
   module _ (eq : T → T → Bool) (k : T) (v : V) where
     pub replace_item-keys : (pairs : List (T × V)) → replace_item eq (keys_of pairs) k ≡ keys_of (put_key eq pairs k v)
@@ -70,13 +70,12 @@ put_item-stored eq N items x stored = grind (arith, stored)
 pub put_item-room : {T : Type 0} (eq : T → T → Bool) (N : ℕ) (items : List T) (x : T) → nat_lt (length items) N ≡ true → (if item_fits eq N items x then put_item eq items x else items) ≡ put_item eq items x
 put_item-room eq N items x room = grind (arith, room)
 
-module _ {T V : Type 0} where
-  -- what is cloned pair by pair is cloned key by key
-  pub zip-keys : (C : T → T → Type 0) (D : V → V → Type 0) (ps qs : List (T × V)) → AllZip (IsPairClone C D) ps qs → AllZip C (keys_of ps) (keys_of qs)
-  zip-keys C D [] [] zip = tt
-  zip-keys C D [] (q ∷ qs) zip = absurd zip
-  zip-keys C D (p ∷ ps) [] zip = absurd zip
-  zip-keys C D (p ∷ ps) (q ∷ qs) zip = (zip.0.0, zip-keys C D ps qs zip.1)
+-- what is cloned pair by pair is cloned key by key
+pub zip-keys : {T V : Type 0} (C : T → T → Type 0) (D : V → V → Type 0) (ps qs : List (T × V)) → AllZip (IsPairClone C D) ps qs → AllZip C (keys_of ps) (keys_of qs)
+zip-keys C D [] [] zip = tt
+zip-keys C D [] (q ∷ qs) zip = absurd zip
+zip-keys C D (p ∷ ps) [] zip = absurd zip
+zip-keys C D (p ∷ ps) (q ∷ qs) zip = (zip.0.0, zip-keys C D ps qs zip.1)
 
 -- what a map may hold is, as its keys, what a set may hold
 pub content_items : {T V : Type 0} {eq : T → T → Bool} {N : ℕ} {pairs : List (T × V)} {items : List T} → keys_of pairs ≡ items → IsContent eq N pairs → IsItems eq N items

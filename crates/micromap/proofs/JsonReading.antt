@@ -7,7 +7,7 @@ use Rattle.std.specs.Map.{keys_of}
 use Rattle.std.specs.String.{string_eq}
 use Rattle.std.proofs.lemmas.Bool.{true≢false, lt-ltb, le-ltb, ltb-false}
 use Rattle.std.proofs.lemmas.Iterator.Adapters.{option_map_id}
-use Rattle.std.proofs.lemmas.List.{append_assoc, append-nil, length-map}
+use Rattle.std.proofs.lemmas.List.{append_assoc, append-nil}
 use Rattle.std.proofs.lemmas.List.Sums.{fold_push}
 use Rattle.std.proofs.lemmas.Map.Keys.{IsDistinct-from_sorted}
 use Rattle.std.proofs.lemmas.Map.Text.{is_eq-slice_cmp}
@@ -17,17 +17,17 @@ use Rattle.serde_json.specs.View.{view, members_view}
 use Rattle.serde_json.specs.declared.value.Value.{Value}
 use Rattle.serde_json.proofs.Views.{Entry}
 use Rattle.micromap.specs.Items.{put_item, put_item_if_fits, item_fits}
-use Rattle.micromap.specs.Json.{Bytes, Pairs, all_texts, and_then, in_bytes, texts_of, whole_number, whole_members, items_for}
+use Rattle.micromap.specs.Json.{Bytes, Pairs, all_texts, and_then, whole_number, whole_members, items_for}
 use Rattle.micromap.proofs.SetLaws.{length_put_item, not_fits}
-use Rattle.micromap.proofs.SetTextViews.{item_texts_put_item, unique_item_texts}
+use Rattle.micromap.proofs.SetTextViews.{item_texts_put_item, length_item_texts, unique_item_texts}
 use Rattle.micromap.specs.declared.json.JsonFault.{JsonFault}
 use Rattle.micromap.specs.declared.json.JsonFault.TheVariants.{NotWhole, TooMany}
 use Rattle.micromap_core.specs.Build.{build, put_pair}
 use Rattle.micromap_core.specs.Pairs.{fits, put, put_if_fits}
-use Rattle.micromap_core.specs.Texts.{item_texts, texts_by}
+use Rattle.micromap_core.specs.Texts.{item_texts, key_texts}
 use Rattle.micromap_core.proofs.MapLaws.{length_put}
 use Rattle.micromap_core.proofs.StreamLemmas.{built_in_turn}
-use Rattle.micromap_core.proofs.TextViews.{texts_put}
+use Rattle.micromap_core.proofs.TextViews.{length_texts, texts_put}
 
 pub few : {X : Type 0} (N : ℕ) (xs : List X) → length xs ≤ N → items_for N xs ≡ Ok xs
 few N xs short = ap (λ b. if b then Err TooMany else Ok xs) (le-ltb N (length xs) short)
@@ -72,43 +72,30 @@ module _ {B : Type 0} {put : List B → B → List B} {N : ℕ} {all rest : Opti
   read_beyond over = rw (has.split, end, append-nil has.parts) (ap (λ b. if b then Err TooMany else Ok (fold put [] has.parts)) (lt-ltb N (length (fold put [] has.parts)) (has.misfit over)))
 
 -- an element that is a text, in a set
-module _ {N : ℕ} {all : Option (List Bytes)} {rest later : Items} {d : Data} (items : List (String Global)) {all_fit : Bool} (has : HasRead (put_item bytes_eq) N all (all_texts rest) (texts_of items) all_fit) (first : rest ≡ item d later) (x : String Global) (is : as_str d ≡ Some (string_bytes x)) where
-  longer : (texts : List Bytes) → length texts ≤ length (put_item bytes_eq texts (string_bytes x))
-  longer texts = grind (arith, length_put_item bytes_eq texts (string_bytes x))
-
-  pub text_put : {new : List (String Global)} {fit : Bool} → fit ≡ item_fits string_eq N items x → new ≡ put_item_if_fits string_eq N items x → HasRead (put_item bytes_eq) N all (all_texts later) (texts_of new) (all_fit && fit)
-  unfolding item_texts
+module _ {N : ℕ} {all : Option (List Bytes)} {rest later : Items} {d : Data} (items : List (String Global)) {all_fit : Bool} (has : HasRead (put_item bytes_eq) N all (all_texts rest) (item_texts items) all_fit) (first : rest ≡ item d later) (x : String Global) (is : as_str d ≡ Some (string_bytes x)) where
+  pub text_put : {new : List (String Global)} {fit : Bool} → fit ≡ item_fits string_eq N items x → new ≡ put_item_if_fits string_eq N items x → HasRead (put_item bytes_eq) N all (all_texts later) (item_texts new) (all_fit && fit)
   text_put {fit = fit} answer made =
-      read_one has (λ t. t) (all_texts later) (as_str d) (ap all_texts first) (string_bytes x) is longer fit (item_texts_put_item items x) (λ fits. grind (arith, answer, made, fits))
-      (λ misfit. grind (arith, not_fits string_eq items x N (sym answer ∙ misfit), length_put_item string_eq items x, length-map (put_item string_eq items x) (λ s. string_bytes s)))
+      read_one has (λ t. t) (all_texts later) (as_str d) (ap all_texts first) (string_bytes x) is (λ texts. grind (arith, length_put_item bytes_eq texts (string_bytes x))) fit (item_texts_put_item items x) (λ fits. grind (arith, answer, made, fits))
+      (λ misfit. grind (arith, not_fits string_eq items x N (sym answer ∙ misfit), length_put_item string_eq items x, length_item_texts (put_item string_eq items x)))
 
 -- a member whose value is whole, in a map
-module _ {N : ℕ} {all : Option (List (Bytes × ℤ))} {rest later : List Entry} {k : String Global} {value : Value} (pairs : Pairs) {all_fit : Bool} (has : HasRead (put_pair bytes_eq) N all (whole_members (members_view rest)) (in_bytes pairs) all_fit) (first : rest ≡ (k, value) ∷ later) (n : ℤ) (is : whole_number (view value) ≡ Some n) where
-  wider : (ps : List (Bytes × ℤ)) → length ps ≤ length (put bytes_eq ps (string_bytes k) n)
-  wider ps = grind (arith, length_put bytes_eq ps (string_bytes k) n)
-
-  pub member_put : {new : Pairs} {fit : Bool} → fit ≡ fits string_eq N pairs k → new ≡ put_if_fits string_eq N pairs k n → HasRead (put_pair bytes_eq) N all (whole_members (members_view later)) (in_bytes new) (all_fit && fit)
-  unfolding texts_by
+module _ {N : ℕ} {all : Option (List (Bytes × ℤ))} {rest later : List Entry} {k : String Global} {value : Value} (pairs : Pairs) {all_fit : Bool} (has : HasRead (put_pair bytes_eq) N all (whole_members (members_view rest)) (key_texts pairs) all_fit) (first : rest ≡ (k, value) ∷ later) (n : ℤ) (is : whole_number (view value) ≡ Some n) where
+  pub member_put : {new : Pairs} {fit : Bool} → fit ≡ fits string_eq N pairs k → new ≡ put_if_fits string_eq N pairs k n → HasRead (put_pair bytes_eq) N all (whole_members (members_view later)) (key_texts new) (all_fit && fit)
   member_put {fit = fit} answer made =
-      read_one has (λ i. (string_bytes k, i)) (whole_members (members_view later)) (whole_number (view value)) (ap (λ es. whole_members (members_view es)) first) n is wider fit (texts_put (λ v. v) k pairs n) (λ fits. grind (arith, answer, made, fits))
-      (λ misfit. grind (arith, answer, misfit, ltb-false (length pairs) N, length_put string_eq pairs k n, length-map {B = Bytes × ℤ} (put string_eq pairs k n) (λ p. (string_bytes p.0, p.1))))
+      read_one has (λ i. (string_bytes k, i)) (whole_members (members_view later)) (whole_number (view value)) (ap (λ es. whole_members (members_view es)) first) n is (λ ps. grind (arith, length_put bytes_eq ps (string_bytes k) n)) fit (texts_put (λ v. v) k pairs n) (λ fits. grind (arith, answer, made, fits))
+      (λ misfit. grind (arith, answer, misfit, ltb-false (length pairs) N, length_put string_eq pairs k n, length_texts (λ v. v) (put string_eq pairs k n)))
 
 -- the names of an object's whole members
-names_kept : (es : List Entry) (ps : List (Bytes × ℤ)) → whole_members (members_view es) ≡ Some ps → keys_of ps ≡ texts_of (keys_of es)
+names_kept : (es : List Entry) (ps : List (Bytes × ℤ)) → whole_members (members_view es) ≡ Some ps → keys_of ps ≡ item_texts (keys_of es)
+unfolding item_texts
 names_kept [] ps is = grind (arith, is)
-names_kept ((k, v) ∷ es) ps is = by (whole_number (view v)) (whole_members (members_view es)) (names_kept es) is
-  where
-    by : (n : Option ℤ) (o : Option (List (Bytes × ℤ))) → ((qs : List (Bytes × ℤ)) → o ≡ Some qs → keys_of qs ≡ texts_of (keys_of es)) → option_and_then (λ n. option_map (λ qs. (string_bytes k, n) ∷ qs) o) n ≡ Some ps → keys_of ps ≡ string_bytes k ∷ texts_of (keys_of es)
-    by None o kept is = cc
-    by (Some n) None kept is = cc
-    by (Some n) (Some qs) kept is = grind (arith, is, kept qs refl)
+names_kept ((k, v) ∷ es) ps is = grind (arith, is, names_kept es)
 
 -- which are distinct, so that the members are put as they are
 pub members_built : (N : ℕ) (es : List Entry) → IsStrictlySortedBy string_cmp (keys_of es) → and_then (ok_or (whole_members (members_view es)) NotWhole) (λ ps. items_for N (build bytes_eq ps)) ≡ and_then (ok_or (whole_members (members_view es)) NotWhole) (items_for N)
-unfolding item_texts
 members_built N es sorted = by (whole_members (members_view es)) refl
   where
-    names : IsDistinct bytes_eq (texts_of (keys_of es))
+    names : IsDistinct bytes_eq (item_texts (keys_of es))
     names = unique_item_texts (keys_of es) (subst (λ eq. IsDistinct eq (keys_of es)) (λ i x y. is_eq-slice_cmp (string_bytes x) (string_bytes y) i) (IsDistinct-from_sorted string_cmp (keys_of es) sorted))
 
     by : (o : Option (List (Bytes × ℤ))) → whole_members (members_view es) ≡ o → and_then (ok_or o NotWhole) (λ ps. items_for N (build bytes_eq ps)) ≡ and_then (ok_or o NotWhole) (items_for N)

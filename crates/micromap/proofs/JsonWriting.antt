@@ -1,15 +1,15 @@
 -- A loop that writes a map's pairs as the members of an object, or a set's items as the elements of an array.
-use Rattle.std.proofs.Common.{◌≡◌, ℕ, suc, ◌≤◌, Bool, true, false, ◌||◌, List, [], ◌∷◌, ◌++◌, length, map, Option, Some, option_map, option_and_then, Ok, Ordering, nat_cmp, String, Global, string_bytes, bytes_eq, ℤ, pos, negsuc, refl, ap, sym, subst, ◌∙◌, arith}
+use Rattle.std.proofs.Common.{◌≡◌, ℕ, suc, ◌≤◌, Bool, true, false, ◌||◌, List, [], ◌∷◌, ◌++◌, length, map, Some, option_map, Ok, nat_cmp, String, Global, string_bytes, bytes_eq, ℤ, pos, negsuc, refl, ap, sym, subst, ◌∙◌, arith}
 use Rattle.std.specs.BTreeMap.{insert_entry}
 use Rattle.std.specs.Cmp.{first_so}
 use Rattle.std.specs.Cmp.Derive.{both_true}
 use Rattle.std.specs.Cmp.Lexicographic.{nat_list_eq_equiv, slice_cmp}
 use Rattle.std.specs.List.{IsDistinct, list_all, list_any}
 use Rattle.std.specs.Map.{keys_of}
-use Rattle.std.specs.Ordering.{int_eq, match_ordering}
+use Rattle.std.specs.Ordering.{int_eq}
 use Rattle.std.specs.Set.{is_member}
 use Rattle.std.specs.String.{string_eq, string_eq_equiv}
-use Rattle.std.proofs.lemmas.List.{append_assoc, append-nil, length-map, length_push, map-append, map_push}
+use Rattle.std.proofs.lemmas.List.{append_assoc, append-nil, length_push, map-append, map_push}
 use Rattle.std.proofs.lemmas.List.Folds.{list_any-append}
 use Rattle.std.proofs.lemmas.List.Sums.{fold_push}
 use Rattle.std.proofs.lemmas.Map.Text.{is_eq-slice_cmp}
@@ -20,13 +20,13 @@ use Rattle.serde_json.specs.View.{view, items_of, items_view}
 use Rattle.serde_json.specs.Written.{compact_text, has_float, items_have_float, members_have_float}
 use Rattle.serde_json.specs.declared.value.Value.{Value}
 use Rattle.micromap.specs.Extend.{distinct}
-use Rattle.micromap.specs.Json.{Bytes, HasPairs, Pairs, all_texts, elements, in_bytes, members, put_member, texts_for, texts_of, whole_number, whole_members}
+use Rattle.micromap.specs.Json.{Bytes, HasPairs, Pairs, all_texts, elements, members, texts_for, whole_number, whole_members}
 use Rattle.micromap_core.specs.Same.{Same, pair_eq}
-use Rattle.micromap_core.specs.Texts.{item_texts}
+use Rattle.micromap_core.specs.Texts.{item_texts, key_texts, texts_by}
 use Rattle.micromap_core.proofs.DistinctLemmas.{new_behind}
 use Rattle.micromap.proofs.AddedItems.{added_all}
-use Rattle.micromap.proofs.JsonPairs.{in_bytes_equiv}
-use Rattle.micromap.proofs.SetTextViews.{unique_item_texts}
+use Rattle.micromap.proofs.JsonPairs.{bytes_equiv}
+use Rattle.micromap.proofs.SetTextViews.{length_item_texts, unique_item_texts}
 use Rattle.micromap.proofs.JsonReading.{few}
 
 abbrev insert : List (Bytes × ℤ) → Bytes → ℤ → List (Bytes × ℤ)
@@ -35,10 +35,7 @@ insert = insert_entry (slice_cmp nat_cmp)
 module _ (k : Bytes) (d : Data) (n : ℤ) (is : whole_number d ≡ Some n) where
   whole-put : (ms : Members) (ps : List (Bytes × ℤ)) → whole_members ms ≡ Some ps → whole_members (put k d ms) ≡ Some (insert ps k n)
   whole-put no_members ps whole = grind (arith, whole, is)
-  whole-put (member l e ms) ps whole = by (whole_number e) (whole_members ms) (whole-put ms) whole (slice_cmp nat_cmp k l) refl
-    where
-      by : (i : Option ℤ) (o : Option (List (Bytes × ℤ))) → ((qs : List (Bytes × ℤ)) → o ≡ Some qs → whole_members (put k d ms) ≡ Some (insert qs k n)) → option_and_then (λ i. option_map (λ qs. (l, i) ∷ qs) o) i ≡ Some ps → (c : Ordering) → slice_cmp nat_cmp k l ≡ c → whole_members (match_ordering c (member k d (member l e ms)) (member l d ms) (member l e (put k d ms))) ≡ Some (insert ps k n)
-      by i o later all c cmp = grind (arith, later, all, cmp, is)
+  whole-put (member l e ms) ps whole = grind (arith, whole, is, whole-put ms)
 
 depth-put : (k : Bytes) (d : Data) (ms : Members) → depth d ≡ 0 → members_depth ms ≡ 0 → members_depth (put k d ms) ≡ 0
 depth-put k d no_members flat all = grind (arith, flat)
@@ -64,7 +61,8 @@ length-insert : (ps : List (Bytes × ℤ)) (k : Bytes) (n : ℤ) → Lacks ps k 
 length-insert [] k n new = refl
 length-insert (p ∷ ps) k n new = grind (arith, new, length-insert ps k n, is_eq-slice_cmp k p.0)
 
-any-names : (k : String Global) (pairs : Pairs) → list_any (λ p. bytes_eq (string_bytes k) p.0) (in_bytes pairs) ≡ is_member string_eq (keys_of pairs) k
+any-names : (k : String Global) (pairs : Pairs) → list_any (λ p. bytes_eq (string_bytes k) p.0) (key_texts pairs) ≡ is_member string_eq (keys_of pairs) k
+unfolding texts_by
 any-names k [] = refl
 any-names k (p ∷ pairs) = ap (λ b. bytes_eq (string_bytes k) (string_bytes p.0) || b) (any-names k pairs)
 
@@ -77,14 +75,16 @@ pub record HasWritten (ms : Members) (rest all : Pairs) : Type 0 where
   pub flat : members_depth ms ≡ 0
   pub none_is_float : members_have_float ms ≡ false
   pub made : ms ≡ members given
-  pub alike : (test : Bytes × ℤ → Bool) → list_any test pairs ≡ list_any test (in_bytes given)
+  pub alike : (test : Bytes × ℤ → Bool) → list_any test pairs ≡ list_any test (key_texts given)
   pub count : length pairs ≡ length given
 
 pub none_written : (all : Pairs) → HasWritten no_members all all
+unfolding texts_by
 none_written all = record { given = []; split = refl; pairs = []; whole = refl; flat = refl; none_is_float = refl; made = refl; alike = λ test. refl; count = refl }
 
 -- one more
 pub writes_one : {ms after : Members} {rest later all : Pairs} {k : String Global} {n : ℤ} (d : Data) → HasWritten ms rest all → IsDistinct string_eq (keys_of all) → rest ≡ (k, n) ∷ later → d ≡ number (of_integer n) → whole_number d ≡ Some n → depth d ≡ 0 → after ≡ put (string_bytes k) d ms → HasWritten after later all
+unfolding texts_by
 writes_one {ms} {after} {rest} {later} {all} {k} {n} d has distinct first seen is flat made =
     let seam : keys_of all ≡ keys_of has.given ++ k ∷ keys_of later = sym (ap keys_of has.split) ∙ ap (λ r. keys_of (has.given ++ r)) first ∙ map-append (λ p. p.0) has.given ((k, n) ∷ later) in
     let new : Lacks has.pairs (string_bytes k) = has.alike _ ∙ any-names k has.given ∙ new_behind string_eq_equiv (keys_of has.given) k (keys_of later) (subst (IsDistinct string_eq) seam distinct) in
@@ -96,16 +96,16 @@ writes_one {ms} {after} {rest} {later} {all} {k} {n} d has distinct first seen i
       whole = ap whole_members made ∙ whole-put (string_bytes k) d n is ms has.pairs has.whole;
       flat = ap members_depth made ∙ depth-put (string_bytes k) d ms flat has.flat;
       none_is_float = ap members_have_float put_is ∙ float-put (string_bytes k) n ms has.none_is_float;
-      made = put_is ∙ ap (put (string_bytes k) (number (of_integer n))) has.made ∙ sym (fold_push put_member no_members has.given (k, n));
-      alike = λ test. any-insert test has.pairs (string_bytes k) n new ∙ grind (arith, has.alike test, map_push {Y = Bytes × ℤ} (λ p. (string_bytes p.0, p.1)) has.given (k, n), list_any-append test (in_bytes has.given) ((string_bytes k, n) ∷ []));
+      made = put_is ∙ ap (put (string_bytes k) (number (of_integer n))) has.made ∙ sym (fold_push _ no_members has.given (k, n));
+      alike = λ test. any-insert test has.pairs (string_bytes k) n new ∙ grind (arith, has.alike test, map_push {Y = Bytes × ℤ} (λ p. (string_bytes p.0, p.1)) has.given (k, n), list_any-append test (key_texts has.given) ((string_bytes k, n) ∷ []));
       count = omega (arith, has.count, length-insert has.pairs (string_bytes k) n new, length_push has.given (k, n));
     }
 
 -- lists that have the same items by any test
 same_items : (first second : List (Bytes × ℤ)) → ((test : Bytes × ℤ → Bool) → list_any test second ≡ list_any test first) → Same bytes_eq int_eq first second
 same_items first second same =
-    let one : list_all (λ x. list_any (pair_eq bytes_eq int_eq x) second) first ≡ true = ap (λ found. list_all found first) (λ i x. same (pair_eq bytes_eq int_eq x) i) ∙ first_so _ _ (in_bytes_equiv.refl first) in
-    let other : list_all (λ y. list_any (pair_eq bytes_eq int_eq y) first) second ≡ true = sym (ap (λ found. list_all found second) (λ i x. same (pair_eq bytes_eq int_eq x) i)) ∙ first_so _ _ (in_bytes_equiv.refl second) in
+    let one : list_all (λ x. list_any (pair_eq bytes_eq int_eq x) second) first ≡ true = ap (λ found. list_all found first) (λ i x. same (pair_eq bytes_eq int_eq x) i) ∙ first_so _ _ (bytes_equiv.refl first) in
+    let other : list_all (λ y. list_any (pair_eq bytes_eq int_eq y) first) second ≡ true = sym (ap (λ found. list_all found second) (λ i x. same (pair_eq bytes_eq int_eq x) i)) ∙ first_so _ _ (bytes_equiv.refl second) in
     both_true one other
 
 -- the text of these members has the pairs, for any capacity that holds them
@@ -113,7 +113,7 @@ pub written : {ms : Members} {rest all : Pairs} (text : Bytes) → HasWritten ms
 written {ms} {all = all} text has none reads_back M short =
     let whole : has.given ≡ all = sym (append-nil has.given) ∙ ap (λ r. has.given ++ r) (sym none) ∙ has.split in
     let is = reads_back (rw has.flat (omega arith)) in
-    (has.pairs, rw (is, has.whole) (few M has.pairs (omega (arith, has.count, ap length whole, short))), same_items has.pairs (in_bytes all) (λ test. sym (has.alike test ∙ ap (λ l. list_any test (in_bytes l)) whole)))
+    (has.pairs, rw (is, has.whole) (few M has.pairs (omega (arith, has.count, ap length whole, short))), same_items has.pairs (key_texts all) (λ test. sym (has.alike test ∙ ap (λ l. list_any test (key_texts l)) whole)))
 
 -- and is that of all pairs' members
 pub written_text : {ms : Members} {rest all : Pairs} (text : Bytes) → HasWritten ms rest all → rest ≡ [] → (has_float (object ms) ≡ false → text ≡ compact_text (object ms)) → text ≡ compact_text (object (members all))
@@ -131,7 +131,8 @@ pushes_one vs new v x rest later all has first is made =
     ap (λ ws. map view ws ++ as_data later) made ∙ ap (λ ds. ds ++ as_data later) (map_push view vs v) ∙ append_assoc (map view vs) (view v ∷ []) (as_data later)
     ∙ (λ i. map view vs ++ is i ∷ as_data later) ∙ sym (ap (λ r. map view vs ++ as_data r) first) ∙ has
 
-texts-elements : (items : List (String Global)) → all_texts (elements items) ≡ Some (texts_of items)
+texts-elements : (items : List (String Global)) → all_texts (elements items) ≡ Some (item_texts items)
+unfolding item_texts
 texts-elements [] = refl
 texts-elements (x ∷ items) = ap (option_map (λ texts. string_bytes x ∷ texts)) (texts-elements items)
 
@@ -159,6 +160,5 @@ module _ (vs : List Value) (items : List (String Global)) (text : Bytes) (all : 
         reads_back (rw flat (omega arith)) ∙ ap (λ ds. Some (array ds)) elements_are
 
     -- and is read as the same items in any capacity that holds them
-    pub elements_again : IsDistinct string_eq items → (M : ℕ) → length items ≤ M → texts_for M text ≡ Ok (texts_of items)
-    unfolding item_texts
-    elements_again distinct_items M short = rw (elements_read, texts-elements items, added_all nat_list_eq_equiv (texts_of items) (unique_item_texts items distinct_items)) (few M (texts_of items) (omega (arith, short, length-map items (λ s. string_bytes s))))
+    pub elements_again : IsDistinct string_eq items → (M : ℕ) → length items ≤ M → texts_for M text ≡ Ok (item_texts items)
+    elements_again distinct_items M short = rw (elements_read, texts-elements items, added_all nat_list_eq_equiv (item_texts items) (unique_item_texts items distinct_items)) (few M (item_texts items) (omega (arith, short, length_item_texts items)))

@@ -1,4 +1,3 @@
-pub mod Sizes
 pub mod AddedItems
 pub mod EntryItems
 pub mod ExtendLemmas

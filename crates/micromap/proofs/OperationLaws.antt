@@ -8,6 +8,7 @@ use Rattle.std.proofs.Math.Bool.{not-not, or-true}
 use Rattle.std.proofs.lemmas.Bool.{false≢true}
 use Rattle.std.proofs.lemmas.List.{length-append}
 use Rattle.std.proofs.lemmas.List.Folds.{list_any-append}
+use Rattle.std.proofs.lemmas.List.Sums.{list_all-from_AllPass}
 use Rattle.std.proofs.lemmas.Map.Made.{is_member-filter}
 use Rattle.std.proofs.lemmas.Map.Steps.{list_any_congr}
 use Rattle.std.specs.Set.{is_member}
@@ -16,49 +17,46 @@ use Rattle.micromap_core.proofs.DistinctLemmas.{IsDistinct-append}
 use Rattle.micromap.specs.Operations.{difference, intersection, symmetric_difference, union, Commutes, HaveEquals}
 use Rattle.micromap.proofs.OperationSteps.{length-parts}
 
-module _ {T : Type 0} {eq : T → T → Bool} (laws : IsEquivalence eq) (xs ys : List T) where
+module _ {T : Type 0} {eq : T → T → Bool} (laws : IsEquivalence eq) where
   -- which items have an equal one among the members
-  pub is_member-difference : (q : T) → is_member eq (difference eq xs ys) q ≡ (is_member eq xs q && not (is_member eq ys q))
-  is_member-difference q = is_member-filter laws (λ x. not (is_member eq ys x)) q (λ x same. ap not (list_any_congr laws q x ys same)) xs
+  pub is_member-difference : (xs ys : List T) (q : T) → is_member eq (difference eq xs ys) q ≡ (is_member eq xs q && not (is_member eq ys q))
+  is_member-difference xs ys q = is_member-filter laws (λ x. not (is_member eq ys x)) q (λ x same. ap not (list_any_congr laws q x ys same)) xs
 
-  pub is_member-intersection : (q : T) → is_member eq (intersection eq xs ys) q ≡ (is_member eq xs q && is_member eq ys q)
-  is_member-intersection q = is_member-filter laws (is_member eq ys) q (λ x same. list_any_congr laws q x ys same) xs
+  pub is_member-intersection : (xs ys : List T) (q : T) → is_member eq (intersection eq xs ys) q ≡ (is_member eq xs q && is_member eq ys q)
+  is_member-intersection xs ys q = is_member-filter laws (is_member eq ys) q (λ x same. list_any_congr laws q x ys same) xs
 
-  pub is_member-union : (q : T) → is_member eq (union eq xs ys) q ≡ (is_member eq xs q || is_member eq ys q)
+  pub is_member-union : (xs ys : List T) (q : T) → is_member eq (union eq xs ys) q ≡ (is_member eq xs q || is_member eq ys q)
   unfolding union
-  is_member-union q = grind (arith, list_any-append (eq q) ys (difference eq xs ys), is_member-difference q)
+  is_member-union xs ys q = grind (arith, list_any-append (eq q) ys (difference eq xs ys), is_member-difference xs ys q)
 
-module _ {T : Type 0} {eq : T → T → Bool} (laws : IsEquivalence eq) (xs ys : List T) where
-  pub is_member-symmetric_difference : (q : T) → is_member eq (symmetric_difference eq xs ys) q ≡ (if is_member eq xs q then not (is_member eq ys q) else is_member eq ys q)
+  pub is_member-symmetric_difference : (xs ys : List T) (q : T) → is_member eq (symmetric_difference eq xs ys) q ≡ (if is_member eq xs q then not (is_member eq ys q) else is_member eq ys q)
   unfolding symmetric_difference
-  is_member-symmetric_difference q = grind (arith, list_any-append (eq q) (difference eq xs ys) (difference eq ys xs), is_member-difference laws xs ys q, is_member-difference laws ys xs q)
+  is_member-symmetric_difference xs ys q = grind (arith, list_any-append (eq q) (difference eq xs ys) (difference eq ys xs), is_member-difference xs ys q, is_member-difference ys xs q)
 
-module _ {T : Type 0} {eq : T → T → Bool} (laws : IsEquivalence eq) (xs ys : List T) where
   -- turned round, the operations have equal members
-  pub intersection_turned : Commutes eq (intersection eq) xs ys
-  intersection_turned q = grind (arith, is_member-intersection laws xs ys q, is_member-intersection laws ys xs q)
+  pub intersection_turned : (xs ys : List T) → Commutes eq (intersection eq) xs ys
+  intersection_turned xs ys q = grind (arith, is_member-intersection xs ys q, is_member-intersection ys xs q)
 
-  pub union_turned : Commutes eq (union eq) xs ys
-  union_turned q = grind (arith, is_member-union laws xs ys q, is_member-union laws ys xs q)
+  pub union_turned : (xs ys : List T) → Commutes eq (union eq) xs ys
+  union_turned xs ys q = grind (arith, is_member-union xs ys q, is_member-union ys xs q)
 
-  pub symmetric_difference_turned : Commutes eq (symmetric_difference eq) xs ys
-  symmetric_difference_turned q = grind (arith, is_member-symmetric_difference laws xs ys q, is_member-symmetric_difference laws ys xs q)
+  pub symmetric_difference_turned : (xs ys : List T) → Commutes eq (symmetric_difference eq) xs ys
+  symmetric_difference_turned xs ys q = grind (arith, is_member-symmetric_difference xs ys q, is_member-symmetric_difference ys xs q)
 
   -- the members of both parts are pairwise unequal
-  pub IsDistinct-union : IsDistinct eq ys → IsDistinct eq (difference eq xs ys) → IsDistinct eq (union eq xs ys)
+  pub IsDistinct-union : (xs ys : List T) → IsDistinct eq ys → IsDistinct eq (difference eq xs ys) → IsDistinct eq (union eq xs ys)
   unfolding union
-  IsDistinct-union others beyond = IsDistinct-append laws ys (difference eq xs ys) others beyond (λ q found. grind (arith, found, is_member-difference laws xs ys q))
+  IsDistinct-union xs ys others beyond = IsDistinct-append laws ys (difference eq xs ys) others beyond (λ q found. grind (arith, found, is_member-difference xs ys q))
 
-  pub IsDistinct-symmetric_difference : IsDistinct eq (difference eq xs ys) → IsDistinct eq (difference eq ys xs) → IsDistinct eq (symmetric_difference eq xs ys)
+  pub IsDistinct-symmetric_difference : (xs ys : List T) → IsDistinct eq (difference eq xs ys) → IsDistinct eq (difference eq ys xs) → IsDistinct eq (symmetric_difference eq xs ys)
   unfolding symmetric_difference
-  IsDistinct-symmetric_difference first second =
-      IsDistinct-append laws (difference eq xs ys) (difference eq ys xs) first second (λ q found. grind (arith, found, is_member-difference laws xs ys q, is_member-difference laws ys xs q))
+  IsDistinct-symmetric_difference xs ys first second =
+      IsDistinct-append laws (difference eq xs ys) (difference eq ys xs) first second (λ q found. grind (arith, found, is_member-difference xs ys q, is_member-difference ys xs q))
 
-module _ {T : Type 0} (eq : T → T → Bool) where
-  -- what is counted twice in the two lists is counted once in the intersection
-  pub length-union : (xs ys : List T) → length (union eq xs ys) + length (intersection eq xs ys) ≡ length xs + length ys
-  unfolding union
-  length-union xs ys = omega (arith, length-append ys (difference eq xs ys), length-parts eq xs ys)
+-- what is counted twice in the two lists is counted once in the intersection
+pub length-union : {T : Type 0} (eq : T → T → Bool) (xs ys : List T) → length (union eq xs ys) + length (intersection eq xs ys) ≡ length xs + length ys
+unfolding union
+length-union eq xs ys = omega (arith, length-append ys (difference eq xs ys), length-parts eq xs ys)
 
 -- no item passes the test, exactly where each passes the opposite one
 module _ {T : Type 0} (test opposite : T → Bool) (turns : (x : T) → opposite x ≡ not (test x)) where
@@ -81,12 +79,8 @@ module _ {T : Type 0} {eq : T → T → Bool} (laws : IsEquivalence eq) where
   none_equal x p [] = refl
   none_equal x p (y ∷ ys) = grind (arith, laws.symm y x, none_equal x p ys)
 
-  all_apart : (ys : List T) → list_all (λ y. true) ys ≡ true
-  all_apart [] = refl
-  all_apart (y ∷ ys) = all_apart ys
-
   pub disjoint_turned : (xs ys : List T) → list_all (λ x. not (is_member eq ys x)) xs ≡ list_all (λ y. not (is_member eq xs y)) ys
-  disjoint_turned [] ys = sym (all_apart ys)
+  disjoint_turned [] ys = sym (list_all-from_AllPass (λ y. true) ys (λ i d within. refl))
   disjoint_turned (x ∷ xs) ys = ap (λ b. not (is_member eq ys x) && b) (disjoint_turned xs ys) ∙ sym (none_equal x (is_member eq xs) ys)
 
 -- each item of either set has an equal one in the other exactly where both have the same members

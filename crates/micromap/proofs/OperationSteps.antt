@@ -1,5 +1,5 @@
 -- What an iterator over an operation has left after a call of `next`, and that its hint bounds the members left.
-use Rattle.std.proofs.Common.{◌≡◌, ℕ, suc, ◌+◌, ◌-◌, ◌^◌, ◌≤◌, min, Bool, true, false, not, nat_lt, List, [], ◌∷◌, ◌++◌, length, drop, filter, Option, Some, None, if◌then◌else◌, IfSome, refl, ap, sym, subst, ◌∙◌, arith}
+use Rattle.std.proofs.Common.{◌≡◌, ℕ, suc, ◌+◌, ◌-◌, ◌^◌, ◌≤◌, min, Bool, true, false, not, List, [], ◌∷◌, ◌++◌, length, drop, filter, Option, Some, None, if◌then◌else◌, IfSome, refl, ap, sym, subst, ◌∙◌, arith}
 use Rattle.std.specs.Borrow.{Bor}
 use Rattle.std.specs.Cmp.{IsEquivalence}
 use Rattle.std.specs.Iterator.{MakesProgress, UpTo, YieldsFirstBy, at_most, item_count}
@@ -49,23 +49,21 @@ module _ {T : Type 0} (eq : T → T → Bool) (test : List T → T → Bool) whe
       meets_none fails =
           let further : (1 + position_or_len (test now.other) next) + 1 ≡ suc (position_or_len (test now.other) next + 1) = omega arith in
           record {
-            members = sym (ap (filter (test now.other)) first ∙ ap (λ b. if b then x ∷ filter (test now.other) next else filter (test now.other) next) fails) ∙ walk.members;
+            members = grind (arith, walk.members, first, fails);
             after = sym (ap (λ xs. record now { rest = after_first (test now.other) xs }) first ∙ ap (λ b. record now { rest = drop ((if not b then 1 + position_or_len (test now.other) next else 0) + 1) (x ∷ next) }) fails ∙ ap (λ n. record now { rest = drop n (x ∷ next) }) further) ∙ walk.after;
             distinct = distinct_behind;
           }
 
     -- it gives the member that it meets, or nothing at the end
     pub walk_gives : {x : Bor T} {next : List T} → now.rest ≡ x.now ∷ next → test now.other x.now ≡ true → GivesNext deref left on start (Some x) (record now { rest = next })
-    walk_gives {x} {next} first passes = record {
-      member = sym walk.members ∙ ap (filter (test now.other)) first ∙ ap (λ b. if b then x.now ∷ filter (test now.other) next else filter (test now.other) next) passes;
-      led = sym (ap (λ xs. record now { rest = after_first (test now.other) xs }) first ∙ ap (λ b. record now { rest = drop ((if not b then 1 + position_or_len (test now.other) next else 0) + 1) (x.now ∷ next) }) passes) ∙ walk.after;
-    }
+    walk_gives {next = next} first passes =
+        let passed : next ≡ after_first (test now.other) now.rest = grind (arith, first, passes) in
+        record { member = grind (arith, walk.members, first, passes); led = ap (λ xs. record now { rest = xs }) passed ∙ walk.after }
 
     pub walk_ends : {next : List T} → now.rest ≡ [] → next ≡ [] → GivesNext deref left on start None (record now { rest = next })
-    walk_ends none end = record {
-      member = (sym walk.members ∙ ap (filter (test now.other)) none, ap (filter (test now.other)) end);
-      led = ap (λ xs. record now { rest = xs }) end ∙ sym (ap (λ xs. record now { rest = after_first (test now.other) xs }) none) ∙ walk.after;
-    }
+    walk_ends {next} none end =
+        let over : next ≡ after_first (test now.other) now.rest = grind (arith, none, end) in
+        record { member = (grind (arith, walk.members, none), grind (arith, end)); led = ap (λ xs. record now { rest = xs }) over ∙ walk.after }
 
 -- once the first of two walks has ended, a call at the second is a call at both
 pub second_gives : {T : Type 0} (eq : T → T → Bool) (s t : TwoWalks T (List T) (List T)) (r : Option (Bor T)) → GivesNext deref (difference_left eq) (difference_on eq) s.first None t.first → GivesNext deref (difference_left eq) (difference_on eq) s.second r t.second → GivesNext deref (symmetric_left eq) (symmetric_on eq) s r t
@@ -93,13 +91,11 @@ module _ {T : Type 0} where
     length-intersection = omega (arith, length-parts eq xs ys, length-filter_members laws xs ys distinct)
 
 -- the sum of two lower bounds is one of what both bound together
-pub lower_sum : (a b m n l : ℕ) → m ≤ a → n ≤ b → l ≡ a + b → min (m + n) (2 ^ 64 - 1) ≤ l
-lower_sum a b m n l first second both = omega (arith, first, second, both)
+pub lower_sum : {a b m n l : ℕ} → m ≤ a → n ≤ b → l ≡ a + b → min (m + n) (2 ^ 64 - 1) ≤ l
+lower_sum first second both = omega (arith, first, second, both)
 
--- the sum of two upper bounds is one of what both bound together
-pub upper_sum : (a b m n l : ℕ) → a ≤ m → b ≤ n → l ≡ a + b → IfSome (sum_of (Some m) (Some n)) (UpTo (at_most l))
-upper_sum a b m n l first second both = by (nat_lt (m + n) (2 ^ 64))
-  where
-    by : (t : Bool) → IfSome (if t then Some (m + n) else None) (UpTo (at_most l))
-    by true = (tt, omega (arith, first, second, both))
-    by false = tt
+-- the sum of two upper bounds, where there are both, is one of what both bound together
+pub upper_sum : (a b l : ℕ) (m n : Option ℕ) → IfSome m (UpTo (at_most a)) → IfSome n (UpTo (at_most b)) → l ≡ a + b → IfSome (sum_of m n) (UpTo (at_most l))
+upper_sum a b l None n first second both = tt
+upper_sum a b l (Some m) None first second both = tt
+upper_sum a b l (Some m) (Some n) first second both = grind (arith, first, second, both)

@@ -17,14 +17,14 @@ module _ {T : Type 0} (eq : T → T → Bool) where
   abbrev pub all_items_fit : ℕ → List T → Bool
   all_items_fit N = each_fits (item_fits eq N) (put_item eq) []
 
-  -- `MisfitIn` of a set: the first of the items that doesn't fit stands at the position
+  -- the first of the items that doesn't fit a set of capacity N with these stands at the position
   abbrev pub ItemMisfitIn : ℕ → List T → List T → ℕ → Type 0
   ItemMisfitIn N = StopsAt (item_fits eq N) (put_item eq)
 
-  -- `PutsAll` of a set: each of the items fits with the old ones there, and the new ones are `put_all_items` of them
+  -- each of the items fits a set of capacity N with the old ones, and the new ones are the set's once they are put
   abbrev pub PutsAllItems : ℕ → List T → List T → List T → Type 0
   PutsAllItems N = PutsEach (item_fits eq N) (put_item eq)
 
-  -- `PutsBefore` of a set: the first that doesn't fit stands at the position, and those before it are put
+  -- the first that doesn't fit stands at the position, and the new ones are the set's once those before it are put
   abbrev pub PutsItemsBefore : ℕ → List T → List T → List T → ℕ → Type 0
   PutsItemsBefore N = PutsUpTo (item_fits eq N) (put_item eq)

@@ -35,15 +35,15 @@ module _ {T : Type 0} (eq : T → T → Bool) where
   unfoldable pub put_item : List T → T → List T
   put_item items x = if is_member eq items x then items else items ++ x ∷ []
 
-  -- `put_item` of an item that fits, else no change
+  -- the items once x is put, or the same items if x doesn't fit
   abbrev pub put_item_if_fits : ℕ → List T → T → List T
   put_item_if_fits N items x = if item_fits N items x then put_item items x else items
 
-  -- `swap_key` of a stored item, and a new one goes last
+  -- x takes the place of the item that equals it, or goes last
   unfoldable pub replace_item : List T → T → List T
   replace_item items x = if is_member eq items x then swap_key (eq x) items x else items ++ x ∷ []
 
-  -- `remove_key` of the item that equals x; the others keep their order
+  -- the item that equals x goes; the others keep their order
   unfoldable pub take_item : List T → T → List T
   take_item items x = remove_key (eq x) items
 

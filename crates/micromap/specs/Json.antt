@@ -1,5 +1,4 @@
--- What `serde_json` reads in a text: the pairs of an object for a map, the texts of an array for a set, or the first
--- fault.
+-- What `serde_json` reads in a text: an object's pairs for a map, an array's texts for a set, or the first fault.
 use Rattle.std.specs.Prelude.{◌≡◌, ◌⊎◌, codes, ℕ, ℤ, List, [], ◌∷◌, length, map, nat_lt, if◌then◌else◌, Option, Some, option_map, option_and_then, ok_or, Result, Ok, Err, String, string_bytes, bytes_eq}
 use Rattle.std.specs.List.{fold}
 use Rattle.std.specs.Ordering.{int_eq}
@@ -12,6 +11,7 @@ use Rattle.micromap.specs.Extend.{distinct}
 use Rattle.micromap.specs.declared.json.JsonFault.{JsonFault}
 use Rattle.micromap.specs.declared.json.JsonFault.TheVariants.{BadText, NotObject, NotArray, NotWhole, NotText, TooMany, Memory}
 use Rattle.micromap_core.specs.Same.{Same}
+use Rattle.micromap_core.specs.Texts.{key_texts}
 
 -- a fault's number
 abbrev pub code : JsonFault → ℕ
@@ -84,25 +84,14 @@ texts_for N text = and_then (ok_or (read text) BadText) (λ value. and_then (ok_
 abbrev pub IsFault : {X : Type 0} → Result X JsonFault → JsonFault → Type 0
 IsFault reading fault = (fault ≡ Memory) ⊎ (reading ≡ Err fault)
 
--- a map's pairs, with their keys as bytes
-abbrev pub in_bytes : Pairs → List (Bytes × ℤ)
-in_bytes pairs = map (λ p. (string_bytes p.0, p.1)) pairs
-
--- a set's items as bytes
-abbrev pub texts_of : List (String Global) → List Bytes
-texts_of items = map (λ s. string_bytes s) items
-
 -- the text's object has just these pairs
 abbrev pub HasPairs : ℕ → Bytes → Pairs → Type 0
-HasPairs N text pairs = (members : List (Bytes × ℤ)) × (pairs_for N text ≡ Ok members) × Same bytes_eq int_eq members (in_bytes pairs)
+HasPairs N text pairs = (members : List (Bytes × ℤ)) × (pairs_for N text ≡ Ok members) × Same bytes_eq int_eq members (key_texts pairs)
 
 -- the array of the texts, in their order
 abbrev pub elements : List (String Global) → Items
 elements items = items_of (map (λ s. string (string_bytes s)) items)
 
 -- the members of the pairs, each a name with its number, in the order of an object
-abbrev pub put_member : Members → String Global × ℤ → Members
-put_member ms p = put (string_bytes p.0) (number (of_integer p.1)) ms
-
 abbrev pub members : Pairs → Members
-members pairs = fold put_member no_members pairs
+members = fold (λ ms p. put (string_bytes p.0) (number (of_integer p.1)) ms) no_members

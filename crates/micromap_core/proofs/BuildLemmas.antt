@@ -6,7 +6,7 @@ use Rattle.std.specs.Cmp.{first_so, second_so, IsEquivalence}
 use Rattle.std.specs.Cmp.Derive.{both_true}
 use Rattle.std.specs.Iterator.{Drains, YieldsThen}
 use Rattle.std.specs.Iterator.Runs.{SomeRun, WholeRun}
-use Rattle.std.specs.List.{fold, IsDistinct}
+use Rattle.std.specs.List.{AllByRecursion, fold, IsDistinct, list_any}
 use Rattle.std.proofs.Math.Bool.{and-true, and_assoc, or-false, or_assoc}
 use Rattle.std.proofs.iter.runs.Consumers.{total_runs}
 use Rattle.std.proofs.iter.runs.Made.{run_of_turn}
@@ -19,12 +19,12 @@ use Rattle.std.specs.Set.{distinct_count, is_member}
 use Rattle.std.proofs.lemmas.Bool.Decides.{leb_tells}
 use Rattle.std.proofs.lemmas.List.Folds.{list_any-append}
 use Rattle.std.proofs.lemmas.Map.Entries.{length-keys_of}
-use Rattle.std.proofs.lemmas.Map.Keys.{IsDistinct-push}
+use Rattle.std.proofs.lemmas.Map.Keys.{IsDistinct-cons, IsDistinct-push}
 use Rattle.std.proofs.lemmas.Map.Steps.{list_any_congr}
 use Rattle.std.proofs.lemmas.Map.Made.{is_some-lookup, distinct_count-le, length-from_keys, length-le_from_is_member}
-use Rattle.micromap_core.specs.Pairs.{at, fits, has, has_room}
+use Rattle.micromap_core.specs.Pairs.{at, fits, has, has_room, IsUnique}
 use Rattle.micromap_core.proofs.Lists.{is_some-if}
-use Rattle.micromap_core.proofs.PairsLemmas.{keys_of-put_stored, keys_of-put_new}
+use Rattle.micromap_core.proofs.MapLemmas.{keys_of-put_stored, keys_of-put_new}
 
 -- what has no room for one more, and has at most as many as there is room for, is full
 pub full_is : (stored : Bool) (n N : ℕ) → (stored || nat_lt n N) ≡ false → n ≤ N → n ≡ N
@@ -86,7 +86,7 @@ module _ {C X : Type 0} (fits : C → X → Bool) (put : C → X → C) where
     pub put_at : (new : C) → new ≡ put now (get_or items index d) → new ≡ fold put old (take (index + 1) items)
     put_at new next = next ∙ ap (λ c. put c (get_or items index d)) made ∙ sym (ap (fold put old) (take_more items index d within) ∙ fold_push put old (take index items) (get_or items index d))
 
-IsDistinct-nil : {K : Type 0} (eq : K → K → Bool) → IsDistinct eq []
+pub IsDistinct-nil : {K : Type 0} (eq : K → K → Bool) → IsDistinct eq []
 unfolding IsDistinct
 IsDistinct-nil eq = tt
 
@@ -177,3 +177,12 @@ pairs_keyed {K} {V} eq N = record {
   none = refl;
   counts = λ items. refl;
 }
+
+-- pairs of which none has an equal key are apart from that key
+row_apart : {K V : Type 0} (eq : K → K → Bool) (k : K) (pairs : List (K × V)) → list_any (λ q. eq k q.0) pairs ≡ false → AllByRecursion (λ y. eq k y ≡ false) (keys_of pairs)
+row_apart eq k [] none = tt
+row_apart eq k (q ∷ pairs) none = (grind (arith, none), row_apart eq k pairs (grind (arith, none)))
+
+-- one more pair before those with unequal keys, whose key equals none of theirs
+pub unique_before : {K V : Type 0} (eq : K → K → Bool) (p : K × V) (pairs : List (K × V)) → list_any (λ q. eq p.0 q.0) pairs ≡ false → IsUnique eq pairs → IsUnique eq (p ∷ pairs)
+unique_before eq p pairs none unique = IsDistinct-cons eq p.0 (keys_of pairs) (row_apart eq p.0 pairs none) unique

@@ -17,7 +17,7 @@ use Rattle.std.proofs.lemmas.Fn.{FoldsTo-push, chained_keeps}
 use Rattle.std.proofs.lemmas.List.FromFn.{length-enumerate_from, get_or-enumerate_from}
 use Rattle.std.proofs.lemmas.Map.Made.{is_some-lookup}
 use Rattle.micromap_core.specs.Pairs.{at, has, put}
-use Rattle.micromap_core.proofs.PairsLemmas.{keys_of-put_stored}
+use Rattle.micromap_core.proofs.MapLemmas.{keys_of-put_stored}
 use Rattle.std.specs.List.Retain.{IsFiltered}
 use Rattle.std.proofs.lemmas.List.Sums.{fold-append}
 

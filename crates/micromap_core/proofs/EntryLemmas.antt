@@ -11,7 +11,7 @@ use Rattle.micromap_core.specs.declared.entry.EntryIn.{EntryIn}
 use Rattle.micromap_core.specs.declared.entry.OccupiedIn.{OccupiedIn}
 use Rattle.micromap_core.specs.declared.entry.VacantIn.{VacantIn}
 use Rattle.micromap_core.proofs.Lists.{slice_get-set_same, slice_get_seam, remove-set, remove_seam}
-use Rattle.micromap_core.proofs.PairsLemmas.{with_value_at-put, push-put}
+use Rattle.micromap_core.proofs.MapLemmas.{with_value_at-put, push-put}
 
 module _ {K V : Type 0} (eq : K → K → Bool) (map : MutBor (List (K × V))) (k : K) where
   -- the key is stored at the index

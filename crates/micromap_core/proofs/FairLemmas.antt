@@ -18,7 +18,7 @@ use Rattle.micromap_core.specs.Pairs.{at, pair, has, has_room, fits, put, put_ke
 use Rattle.micromap_core.specs.Same.{has_value, pair_eq, is_same, Same}
 use Rattle.micromap_core.proofs.Equalities.{equalities, lawful, of_lawful}
 use Rattle.micromap_core.proofs.SameLemmas.{answered_long, answered_short, FindAlike, alike_from_same, same_from_alike, differs_where_unlike}
-use Rattle.micromap_core.proofs.PairsLemmas.{lookup-entry}
+use Rattle.micromap_core.proofs.MapLemmas.{lookup-entry}
 use Rattle.micromap_core.proofs.MapLaws.{at_put, at_put_key, at_take_out, unique_put, unique_put_key, unique_take_out}
 
 -- the insertion of a key that fits both lists, or neither, is fair

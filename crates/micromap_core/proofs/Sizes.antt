@@ -2,7 +2,6 @@
 use Rattle.std.proofs.Common.{ℕ, Bool, arith}
 use Rattle.std.specs.Borrow.{RattleType}
 use Rattle.micromap_core.specs.contracts.map.Map as map
-use Rattle.micromap_core.specs.contracts.slots.Slots as slots
 use Rattle.micromap_core.specs.contracts.slots.columns.Columns as columns
 use Rattle.micromap_core.specs.Memory.{FitsInMemory}
 use denote.Param.{number, param}
@@ -11,11 +10,3 @@ module _ (K V : RattleType) (N : ℕ) where
   -- the columns of a map
   pub columns_fit : (eq : K.Denot → K.Denot → Bool) → FitsInMemory (map.the_row (param 0 K) (param 1 V) (param 2 (number N)) (record { eq = eq })) → FitsInMemory (columns.the_row (param 0 K) (param 1 V) (param 2 (number N)))
   columns_fit eq fits = omega arith
-
-  -- the slots of the keys
-  pub keys_fit : FitsInMemory (columns.the_row (param 0 K) (param 1 V) (param 2 (number N))) → FitsInMemory (slots.the_row (param 0 K) (param 2 (number N)))
-  keys_fit fits = omega arith
-
-  -- the slots of the values
-  pub values_fit : FitsInMemory (columns.the_row (param 0 K) (param 1 V) (param 2 (number N))) → FitsInMemory (slots.the_row (param 1 V) (param 2 (number N)))
-  values_fit fits = omega arith

@@ -1,9 +1,11 @@
--- Facts about filled slots and the items in them, and about two columns of equal length and their pairs.
+-- Facts about filled slots and the items in them, and about two columns of equal length and their pairs. The rulesets at
+-- the end are for `using` at the calls of both.
 use Rattle.std.proofs.Common.{◌≡◌, ℕ, ◌<◌, List, [], ◌∷◌, ◌++◌, length, get_or, set, take, map, Option, Some, None, is_some, slice_get, ap, sym, ◌∙◌, zero, suc, slice_set, refl, arith}
 use Rattle.std.specs.List.{remove, swap, zip}
 use Rattle.std.proofs.lemmas.Bool.{false≢true}
 use Rattle.std.proofs.lemmas.Option.{slice_get-get_or}
 use Rattle.std.proofs.lemmas.List.{get_or-map, map-set, map-append, take-map}
+use Rattle.std.proofs.lemmas.List.Edits.{length-swap}
 use Rattle.micromap_core.proofs.Lists.{map-remove, map-swap}
 use Rattle.micromap_walk.specs.Filled.{items_of, AreFilled}
 pub use Rattle.micromap_walk.proofs.FilledLemmas.{items_of-map, AreFilled-from, length_filled, some_at}
@@ -108,3 +110,7 @@ module _ {K V : Type 0} where
 
   pub equal_push : (ks : List K) (vs : List V) (k : K) (v : V) → length ks ≡ length vs → length (ks ++ k ∷ []) ≡ length (vs ++ v ∷ [])
   equal_push ks vs k v same = grind (arith, common_steps, same)
+
+pub ruleset opened_slots = (items_of-map, AreFilled-from, length_filled, some_at, item_at, set_filled, remove_filled, swap_filled, take_filled, push_filled)
+
+pub ruleset opened_columns = (keys_zip, values_zip, length-swap, equal_slots, as_long, equal_remove, equal_push)

@@ -25,29 +25,29 @@ module _ {S E : Type 0} {faults : S → ℕ} {last_fault : S → Option E} {old 
 
 -- of the entries these are left, and those before them were appended to old
 pub record Writing {X : Type 0} (old entries left now : List X) : Type 0 where
-  pub part : List X
-  pub split : entries ≡ part ++ left
-  pub taken : now ≡ old ++ part
+  pub before : List X
+  pub split : entries ≡ before ++ left
+  pub taken : now ≡ old ++ before
 
 pub writing_begins : {X : Type 0} (old entries : List X) → Writing old entries entries old
-writing_begins old entries = record { part = []; split = refl; taken = sym (append-nil old) }
+writing_begins old entries = record { before = []; split = refl; taken = sym (append-nil old) }
 
 module _ {X : Type 0} {old entries left now : List X} (writing : Writing old entries left now) where
   pub writing_ends : left ≡ [] → now ≡ old ++ entries
-  writing_ends none = writing.taken ∙ ap (λ l. old ++ l) (sym (writing.split ∙ ap (λ l. writing.part ++ l) none ∙ append-nil writing.part))
+  writing_ends none = writing.taken ∙ ap (λ l. old ++ l) (sym (writing.split ∙ ap (λ l. writing.before ++ l) none ∙ append-nil writing.before))
 
   module _ {x : X} {rest : List X} (next : left ≡ x ∷ rest) where
     pub writing_more : {new : List X} → new ≡ now ++ x ∷ [] → Writing old entries rest new
     writing_more took = record {
-      part = writing.part ++ x ∷ [];
-      split = writing.split ∙ ap (λ l. writing.part ++ l) next ∙ sym (append_assoc writing.part (x ∷ []) rest);
-      taken = took ∙ ap (λ l. l ++ x ∷ []) writing.taken ∙ append_assoc old writing.part (x ∷ []);
+      before = writing.before ++ x ∷ [];
+      split = writing.split ∙ ap (λ l. writing.before ++ l) next ∙ sym (append_assoc writing.before (x ∷ []) rest);
+      taken = took ∙ ap (λ l. l ++ x ∷ []) writing.taken ∙ append_assoc old writing.before (x ∷ []);
     }
 
     pub writing_fails : {new : List X} → new ≡ now → TakesBeginning old entries new
     writing_fails kept =
-        let split = writing.split ∙ ap (λ l. writing.part ++ l) next in
-        (length writing.part, rw split (omega (arith, length-append writing.part (x ∷ rest))), kept ∙ writing.taken ∙ ap (λ l. old ++ l) (sym (ap (take (length writing.part)) split ∙ take_at writing.part (x ∷ rest) (length writing.part) refl)))
+        let split = writing.split ∙ ap (λ l. writing.before ++ l) next in
+        (length writing.before, rw split (omega (arith, length-append writing.before (x ∷ rest))), kept ∙ writing.taken ∙ ap (λ l. old ++ l) (sym (ap (take (length writing.before)) split ∙ take_at writing.before (x ∷ rest) (length writing.before) refl)))
 
 -- pairs with pairwise unequal keys are built as they are
 pub built_in_turn : {K V : Type 0} {eq : K → K → Bool} (laws : IsEquivalence eq) (built pairs : List (K × V)) → IsUnique eq (built ++ pairs) → fold (put_pair eq) built pairs ≡ built ++ pairs

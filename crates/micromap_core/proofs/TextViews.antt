@@ -14,7 +14,7 @@ use Rattle.micromap_core.specs.Probe.{is_text}
 use Rattle.micromap_core.specs.Same.{is_same, pair_eq, same_at}
 use Rattle.micromap_core.specs.Texts.{key_texts, texts, texts_by}
 use Rattle.micromap_core.proofs.Equalities.{probes_text}
-use Rattle.micromap_core.proofs.MapLawLemmas.{by_test}
+use Rattle.micromap_core.proofs.MapLemmas.{by_test}
 use Rattle.micromap_core.proofs.MapLaws.{matched_test}
 use Rattle.micromap_core.proofs.TextLemmas.{map_text_known}
 

@@ -62,18 +62,18 @@ module _ {K V : Type 0} where
     abbrev pub fits : ℕ → List (K × V) → K → Bool
     fits N pairs k = has pairs k || has_room N pairs
 
-    -- `set_value` at a stored key; a new pair goes last
+    -- v is the value of k: a stored key stays where it is, and a new pair goes last
     unfoldable pub put : List (K × V) → K → V → List (K × V)
     put pairs k v = if has pairs k then set_value (eq k) pairs v else pairs ++ (k, v) ∷ []
 
-    -- `put` at a key that fits, else no change
+    -- `put` if the key fits, else no change
     abbrev pub put_if_fits : ℕ → List (K × V) → K → V → List (K × V)
     put_if_fits N pairs k v = if fits N pairs k then put pairs k v else pairs
 
-    -- `put`, and `set_key`: k takes the stored key's place
+    -- `put`, but k takes the place of the stored key that is equal to it
     unfoldable pub put_key : List (K × V) → K → V → List (K × V)
     put_key pairs k v = if has pairs k then set_key (eq k) (set_value (eq k) pairs v) k else pairs ++ (k, v) ∷ []
 
-    -- `remove_entry` of the pair whose key equals k; the others keep their order
+    -- without the pair whose key equals k; the others keep their order
     unfoldable pub take_out : List (K × V) → K → List (K × V)
     take_out pairs k = remove_entry (eq k) pairs

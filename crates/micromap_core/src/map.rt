@@ -101,6 +101,7 @@ impl<K: Eq + Drop, V: Drop, const N: usize> Map<K, V, N> {
     {
         let _content = self.len();
         self.pairs.clear();
+        let _after = self.len();
     }
 }
 

@@ -1,5 +1,7 @@
 //! The slots in which a map keeps its keys, and those in which it keeps its values. A slot is an `Option`, and each is
 //! filled. Only this module, `columns`, `map::walk` and `micromap_walk` know that.
+#![tactic(auto, using(crate::proofs::SlotsLemmas::opened_slots))]
+
 ghost use Rattle.std.specs.Prelude.{◌≡◌, ◌-◌, ◌<◌, ◌≤◌, [], ◌∷◌, ◌++◌, length, take, Some, slice_get, slice_index_or};
 ghost use Rattle.std.specs.Borrow.{sem};
 ghost use Rattle.std.specs.List.{remove, swap};
@@ -10,7 +12,7 @@ mod columns;
 
 use arrayvec::ArrayVec;
 pub(crate) use columns::Columns;
-use micromap_walk::slot::{into_item, item_of, item_of_mut};
+use micromap_walk::slot::{hint_below, into_item, item_of, item_of_mut};
 use std::marker::Model;
 use std::mem;
 
@@ -133,6 +135,7 @@ impl<T: Drop, const N: usize> Slots<T, N> {
         requires { length self.old < N }
         ensures { self.new ≡ self.old ++ item ∷ [] }
     {
+        hint_below(self.slots.len(), N);
         self.slots.push(Some(item));
     }
 

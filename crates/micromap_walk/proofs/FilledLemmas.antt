@@ -1,5 +1,5 @@
 -- Facts about filled slots and the items in them.
-use Rattle.std.proofs.Common.{◌≡◌, ℕ, zero, suc, ◌+◌, ◌-◌, ◌<◌, List, [], ◌∷◌, length, get_or, set, drop, map, Option, Some, None, is_some, true, refl, ap, sym, subst, ◌∙◌, arith}
+use Rattle.std.proofs.Common.{◌≡◌, ℕ, zero, suc, ◌+◌, ◌<◌, List, [], ◌∷◌, length, get_or, set, drop, map, Option, Some, None, is_some, true, refl, ap, sym, subst, ◌∙◌, arith}
 use Rattle.std.proofs.lemmas.List.{drop_more, drop-set-lt, length-drop, length-map}
 use Rattle.std.specs.List.{refill}
 use Rattle.std.proofs.lemmas.Grind.{common_steps}
@@ -65,14 +65,6 @@ module _ {X : Type 0} (slots : List (Option X)) (i : ℕ) (filled : AreFilled (d
     pub taken_filled : AreFilled (drop (i + 1) (set slots i None))
     taken_filled = subst AreFilled (sym emptied) (rest_filled (drop i slots) filled slot (drop (i + 1) slots) parts x some)
 
--- as many items in as many slots
-pub equal_items : {X Y : Type 0} (xs : List (Option X)) (ys : List (Option Y)) → AreFilled xs → AreFilled ys → length xs ≡ length ys → length (items_of xs) ≡ length (items_of ys)
-equal_items xs ys xs_filled ys_filled equal = length_filled xs xs_filled ∙ equal ∙ sym (length_filled ys ys_filled)
-
--- as many slots are left of both columns, and as many items
-pub rest_equal : {X Y : Type 0} (given : ℕ) (xs : List X) (ys : List Y) → length xs ≡ length ys → length (drop given xs) ≡ length (drop given ys)
-rest_equal given xs ys equal = length-drop given xs ∙ ap (λ n. n - given) equal ∙ sym (length-drop given ys)
-
+-- as many items are left of both columns
 pub left_equal : {X Y : Type 0} (given : ℕ) (xs : List (Option X)) (ys : List (Option Y)) → AreLeft given xs ys → length (items_of (drop given xs)) ≡ length (items_of (drop given ys))
-left_equal given xs ys left =
-    equal_items (drop given xs) (drop given ys) left.keys left.values (rest_equal given xs ys left.equal)
+left_equal given xs ys left = omega (arith, length_filled _ left.keys, length_filled _ left.values, length-drop given xs, length-drop given ys, left.equal)

@@ -1,3 +1,4 @@
 pub mod FilledLemmas
 pub mod Runs
 pub mod ZipLemmas
+pub mod Opened

@@ -1,26 +1,20 @@
 -- Facts about two lists of one length side by side.
-use Rattle.std.proofs.Common.{◌≡◌, List, [], ◌∷◌, ◌++◌, length, suc, refl, ap, arith}
+use Rattle.std.proofs.Common.{◌≡◌, List, [], ◌∷◌, ◌++◌, length, refl, ap, sym, arith}
 use Rattle.std.specs.List.{zip}
+use Rattle.std.proofs.lemmas.Slice.Zip.{firsts-zip, length-zip, seconds-zip}
 use Rattle.std.specs.Map.{keys_of, values_of}
 
 module _ {K V : Type 0} where
   -- as many pairs as keys
   pub length_zip : (ks : List K) (vs : List V) → length ks ≡ length vs → length (zip ks vs) ≡ length ks
-  length_zip [] vs same = refl
-  length_zip (k ∷ ks) [] same = absurd (omega (arith, same))
-  length_zip (k ∷ ks) (v ∷ vs) same = ap suc (length_zip ks vs (omega (arith, same)))
+  length_zip ks vs same = omega (arith, same, length-zip ks vs)
 
   -- their keys and values are the columns
   pub keys_zip : (ks : List K) (vs : List V) → length ks ≡ length vs → keys_of (zip ks vs) ≡ ks
-  keys_zip [] vs same = refl
-  keys_zip (k ∷ ks) [] same = absurd (omega (arith, same))
-  keys_zip (k ∷ ks) (v ∷ vs) same = ap (λ l. k ∷ l) (keys_zip ks vs (omega (arith, same)))
+  keys_zip ks vs same = firsts-zip ks vs (sym same)
 
   pub values_zip : (ks : List K) (vs : List V) → length ks ≡ length vs → values_of (zip ks vs) ≡ vs
-  values_zip [] [] same = refl
-  values_zip [] (v ∷ vs) same = absurd (omega (arith, same))
-  values_zip (k ∷ ks) [] same = absurd (omega (arith, same))
-  values_zip (k ∷ ks) (v ∷ vs) same = ap (λ l. v ∷ l) (values_zip ks vs (omega (arith, same)))
+  values_zip ks vs same = seconds-zip ks vs (sym same)
 
   -- the parts of both
   pub zip_append : (ks ls : List K) (vs ws : List V) → length ks ≡ length vs → zip (ks ++ ls) (vs ++ ws) ≡ zip ks vs ++ zip ls ws

@@ -1,4 +1,6 @@
 //! The iterators that borrow pairs, keys or values, from the front.
+#![tactic(auto, using(crate::proofs::Opened::opened))]
+
 ghost use Rattle.std.specs.Prelude.{◌≡◌, ⊤, IfSome, Some, [], length};
 ghost use Rattle.std.specs.Iterator.{UpTo, at_most};
 ghost use Rattle.std.specs.Iterator.SizeHint.{IsWithinCount};
@@ -131,7 +133,7 @@ impl<'a, K, V> Iter<'a, K, V> {
         }
     }
 
-    // Creates an iterator over the pairs left.
+    /// Creates an iterator over the pairs left.
     #[inline]
     pub(crate) fn left(&self) -> Iter<'_, K, V>
         ensures { result ≡ self.now }

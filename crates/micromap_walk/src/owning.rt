@@ -1,4 +1,6 @@
 //! The iterators that yield pairs, keys or values by value, from the front.
+#![tactic(auto, using(crate::proofs::Opened::opened))]
+
 ghost use Rattle.std.specs.Prelude.{◌≡◌, ◌<◌, ◌+◌, [], ◌∷◌, IfSome, Some, drop, length};
 ghost use Rattle.std.specs.Iterator.{UpTo, at_most};
 ghost use Rattle.std.specs.Iterator.SizeHint.{IsWithinCount};
@@ -55,7 +57,7 @@ impl<K, V, const N: usize> IntoIter<K, V, N> {
         }
     }
 
-    // Creates an iterator over references to the pairs left.
+    /// Creates an iterator over references to the pairs left.
     #[inline]
     pub(crate) fn left(&self) -> Iter<'_, K, V>
         ensures { result ≡ self.now }

@@ -1,4 +1,6 @@
 //! `Debug` of each iterator, as the list of the items left.
+#![tactic(auto, using(crate::proofs::Opened::opened))]
+
 use crate::{IntoIter, IntoKeys, IntoValues, Iter, Keys, Values};
 use std::fmt;
 

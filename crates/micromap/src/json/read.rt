@@ -6,10 +6,11 @@ ghost use Rattle.std.specs.String.{string_eq};
 ghost use Rattle.serde_json.specs.Find.{as_str};
 ghost use Rattle.serde_json.specs.Read.{read as value_of};
 ghost use Rattle.serde_json.specs.View.{view, items_view, members_view};
-ghost use Rattle.micromap.specs.Json.{pairs_for, pairs_in, texts_for, texts_in, whole_number, in_bytes, texts_of, Pairs, HasPairs, IsFault};
+ghost use Rattle.micromap.specs.Json.{pairs_for, pairs_in, texts_for, texts_in, whole_number, Pairs, HasPairs, IsFault};
 ghost use Rattle.micromap.specs.Items.{IsItems};
 ghost use Rattle.micromap.specs.Pairs.{IsContent, fits, put_if_fits};
 ghost use Rattle.micromap.specs.Same.{Same};
+ghost use Rattle.micromap.specs.Texts.{item_texts, key_texts};
 ghost use Rattle.micromap.specs.declared.json.JsonFault.TheVariants.{BadText, Memory};
 
 use super::JsonFault;
@@ -43,7 +44,7 @@ pub fn map_from_json<const N: usize>(
 /// Each distinct text is stored as it first came, in that order. Allocates memory for the values that are read, and
 /// never returns `Memory` for an empty text. Makes one scan for each text.
 pub fn set_from_json<const N: usize>(alloc: Global, text: &str) -> Result<Set<String, N>, JsonFault>
-    ensures texts { IfOk result (λ set. texts_for N text.now ≡ Ok (texts_of set)) }
+    ensures texts { IfOk result (λ set. texts_for N text.now ≡ Ok (item_texts set)) }
     ensures fault { IfErr result (IsFault (texts_for N text.now)) }
     ensures memory { IfErr result (λ fault. fault ≡ Memory → 0 < length text.now) }
     ensures content { IfOk result (IsItems string_eq N) }
@@ -70,7 +71,7 @@ fn read(alloc: Global, text: &str) -> Result<Value, JsonFault>
 fn map_of_members<const N: usize>(
     members: serde_json::Map<String, Value>,
 ) -> Result<Map<String, i64, N>, JsonFault>
-    ensures answer { result_map_both in_bytes (λ fault. fault) result
+    ensures answer { result_map_both key_texts (λ fault. fault) result
         ≡ pairs_in N (members_view members.entries) }
     ensures no_memory { IfErr result (λ fault. fault ≢ Memory) }
     ensures content { IfOk result (IsContent string_eq N) }
@@ -107,7 +108,7 @@ fn put<const N: usize>(map: &mut Map<String, i64, N>, name: String, whole: i64) 
 
 // Creates the set of these elements. All are looked at before any is inserted.
 fn set_of_elements<const N: usize>(elements: Vec<Value>) -> Result<Set<String, N>, JsonFault>
-    ensures texts { IfOk result (λ set. texts_in N (items_view elements.items) ≡ Ok (texts_of set)) }
+    ensures texts { IfOk result (λ set. texts_in N (items_view elements.items) ≡ Ok (item_texts set)) }
     ensures fault { IfErr result (λ fault. texts_in N (items_view elements.items) ≡ Err fault) }
     ensures no_memory { IfErr result (λ fault. fault ≢ Memory) }
     ensures content { IfOk result (IsItems string_eq N) }

@@ -5,7 +5,8 @@ ghost use Rattle.serde_json.specs.Find.{of_integer};
 ghost use Rattle.serde_json.specs.Read.{read};
 ghost use Rattle.serde_json.specs.View.{view};
 ghost use Rattle.serde_json.specs.Written.{compact_text};
-ghost use Rattle.micromap.specs.Json.{HasPairs, elements, members, texts_for, texts_of, whole_number};
+ghost use Rattle.micromap.specs.Json.{HasPairs, elements, members, texts_for, whole_number};
+ghost use Rattle.micromap.specs.Texts.{item_texts};
 ghost use Rattle.micromap.specs.declared.json.JsonFault.TheVariants.{Memory};
 
 use super::JsonFault;
@@ -40,7 +41,7 @@ pub fn map_to_json<const N: usize>(
 pub fn set_to_json<const N: usize>(alloc: Global, set: &Set<String, N>) -> Result<String, JsonFault>
     ensures array { IfOk result (λ text. read (string_bytes text) ≡ Some (array (elements set.now))) }
     ensures again { IfOk result (λ text. (M : ℕ) → length set.now ≤ M
-        → texts_for M (string_bytes text) ≡ Ok (texts_of set.now)) }
+        → texts_for M (string_bytes text) ≡ Ok (item_texts set.now)) }
     ensures text { IfOk result (λ text. string_bytes text ≡ compact_text (array (elements set.now))) }
     ensures fault { IfErr result (λ fault. fault ≡ Memory) }
 {

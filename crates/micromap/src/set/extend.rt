@@ -10,7 +10,7 @@ use super::Set;
 use crate::Overfull;
 
 impl<T: Eq + Drop, const N: usize> Set<T, N> {
-    // Inserts the item if it fits, by one scan, and returns whether it did.
+    /// Inserts the item if it fits, by one scan, and returns whether it did.
     #[inline]
     pub(crate) fn put(&mut self, item: T) -> bool
         ensures answer { result ≡ item_fits T.eq N self.old item }

@@ -24,6 +24,7 @@ impl<'a, K: Eq, V, const N: usize> OccupiedIn<'a, Map<K, V, N>> {
     }
 
     /// Returns a mutable reference to the value, which borrows the entry.
+    #[tactic(auto, unfolding(crate::specs::Entry::entry_put))]
     pub fn get_mut(&mut self) -> &mut V
         requires { IsSound K.eq (Occupied self.old) }
         ensures* writes_back { sem 𝓛 (occupied_lends K.row V.row N.row K.eq self.entry result) }
@@ -34,6 +35,7 @@ impl<'a, K: Eq, V, const N: usize> OccupiedIn<'a, Map<K, V, N>> {
     }
 
     /// Converts the entry into a mutable reference to the value, which lives as long as the map's borrow.
+    #[tactic(auto, unfolding(crate::specs::Entry::entry_put))]
     pub fn into_mut(self) -> &'a mut V
         requires { IsSound K.eq (Occupied self) }
         ensures* writes_back { sem 𝓛 (entry_lends K.row V.row N.row K.eq (Occupied self.entry) result) }
@@ -50,7 +52,7 @@ impl<'a, K: Eq, V, const N: usize> OccupiedIn<'a, Map<K, V, N>> {
         ensures written { IsWritten K.eq (Occupied self.old) value (Occupied self.new) }
     {
         let index = self.index;
-        self.map.replace_at(index, value)
+        self.map.replace_value_at(index, value)
     }
 }
 

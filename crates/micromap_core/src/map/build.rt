@@ -3,9 +3,10 @@
 ghost use Rattle.std.specs.Prelude.{◌≡◌, ◌≤◌, [], length, IsTrue, IfOk, OnOk, IfErr, OnErr};
 ghost use Rattle.std.specs.Iterator.{UpTo};
 ghost use Rattle.micromap_core.specs.Build.{all_fit, build, most_items, AllItems, ItemsUpTo, MisfitIn, PutsAll, PutsBefore};
-ghost use Rattle.micromap_core.specs.Pairs.{AreContents, IsContent};
+ghost use Rattle.micromap_core.specs.Pairs.{AreContents, IsContent, IsUnique};
 
 use super::Map;
+use crate::slots::Columns;
 use std::error::Error;
 use std::fmt;
 
@@ -35,15 +36,52 @@ impl<K: Eq + Copy, V: Copy, const N: usize> From<[(K, V); N]> for Map<K, V, N> {
 
     /// Creates a map of the items of an array: each distinct key as it first came, with the value of its last item.
     ///
-    /// Every item fits. Makes one scan for each item.
+    /// Every item fits. Compares any two keys at most once. If some are equal, makes one scan for each item as well.
     fn from(items: [(K, V); N]) -> Self {
-        let mut map = Map::new();
+        if !are_distinct(&items) {
+            return from_repeated(items);
+        }
+        let mut pairs = Columns::new();
         for index in 0..N {
             let item = items[index];
-            map.insert(item.0, item.1);
+            pairs.push(item.0, item.1);
         }
-        map
+        Map { pairs }
     }
+}
+
+// Returns `true` if no two items have equal keys. A row of comparisons has no early exit, so that the compiler can make
+// several at once.
+#[inline]
+fn are_distinct<K: Eq, V, const N: usize>(items: &[(K, V); N]) -> bool
+    ensures { IsTrue result → IsUnique K.eq items.now }
+{
+    let mut rest = items.as_slice().iter();
+    while let Some(item) = rest.next() {
+        let mut repeated = false;
+        for later in rest.as_slice() {
+            repeated |= item.0 == later.0;
+        }
+        if repeated {
+            return false;
+        }
+    }
+    true
+}
+
+// Inserts the items of an array one after the other. It stands apart, so that no branch of `from` writes to the map that
+// is made without a scan: such a map is built in registers or in its place.
+#[inline(never)]
+fn from_repeated<K: Eq + Copy, V: Copy, const N: usize>(items: [(K, V); N]) -> Map<K, V, N>
+    ensures made { result ≡ build K.eq items }
+    ensures fit { IsTrue (all_fit K.eq N items) }
+{
+    let mut map = Map::new();
+    for index in 0..N {
+        let item = items[index];
+        map.insert(item.0, item.1);
+    }
+    map
 }
 
 impl<K: Eq + Drop, V: Drop, const N: usize> Map<K, V, N> {

@@ -1,5 +1,5 @@
 //! Cloning a map.
-ghost use Rattle.std.specs.Prelude.{◌≡◌, All, IsOk, IfOk};
+ghost use Rattle.std.specs.Prelude.{◌≡◌, ◌≤◌, All, IsOk, IfOk};
 ghost use Rattle.std.specs.List.{AllZip};
 ghost use Rattle.std.specs.Set.{ClonesAreEqual};
 ghost use Rattle.micromap_core.specs.Clones.{AreIdentical, IsPairClone};
@@ -24,7 +24,7 @@ impl<K: Eq + Clone + Drop, V: Clone + Drop, const N: usize> Map<K, V, N> {
     {
         let len = self.len();
         let mut map = Map::new();
-        for index in 0..N {
+        for index in 0..clone_turns::<N>(len) {
             if index < len {
                 let (key, value) = self.pair_at(index);
                 let key = key.clone()?;
@@ -48,7 +48,7 @@ impl<K: Eq + Copy, V: Clone, const N: usize> Clone for Map<K, V, N> {
     fn clone(&self) -> Result<Self, AllocError> {
         let len = self.len();
         let mut copy = Map::new();
-        for index in 0..N {
+        for index in 0..clone_turns::<N>(len) {
             if index < len {
                 let (key, value) = self.pair_at(index);
                 let value = value.clone()?;
@@ -58,4 +58,15 @@ impl<K: Eq + Copy, V: Clone, const N: usize> Clone for Map<K, V, N> {
         }
         Ok(copy)
     }
+}
+
+// The number of turns in which `len` pairs are cloned. With at most 16 slots it is `N`, and each turn tests the length, so
+// that the loop is unrolled. With more it is the length.
+#[inline]
+fn clone_turns<const N: usize>(len: usize) -> usize
+    requires { len ≤ N }
+    ensures all { len ≤ result }
+    ensures bounded { result ≤ N }
+{
+    if N > 16 { len } else { N }
 }

@@ -77,6 +77,7 @@ impl<K: Eq, V, const N: usize> Map<K, V, N> {
                 None => false,
             };
         }
+        let _after = self.len();
         found
     }
 }

@@ -78,6 +78,7 @@ impl<K: Eq, V: Eq, const N: usize> Map<K, V, N> {
     }
 
     // Returns `true` if there is an equal value at the key, by one look-up.
+    #[tactic(auto, using(crate::proofs::SameLemmas::found_value))]
     fn has_value_counted(&self, key: &K, value: &V, steps: &mut Steps) -> bool
         requires { steps.old + length self.now < 2 ^ 128 }
         ensures answer { result ≡ has_value K.eq V.eq self.now (key.now, value.now) }

@@ -16,8 +16,8 @@ use crate::probe::Probe;
 use std::mem;
 
 impl<K: Eq, V, const N: usize> Map<K, V, N> {
-    // Returns the index of the first pair whose key the probe matches, and ensures what follows from it. This is the
-    // scan of every call by a key but the counted ones, and of every call that changes a map.
+    /// Returns the index of the first pair whose key the probe matches, and ensures what follows from it. This is the
+    /// scan of every call by a key but the counted ones, and of every call that changes a map.
     #[inline]
     pub(crate) fn index_of<P: Probe<K>>(&self, probe: &P) -> Option<usize>
         ensures answer { result ≡ first_index (P.matches probe.now) self.now }
@@ -37,8 +37,8 @@ impl<K: Eq, V, const N: usize> Map<K, V, N> {
         None
     }
 
-    // Returns the first pair whose key the probe matches. This is the scan of every call by probe that only reads. It
-    // has no count on the way, which costs less for keys that are texts: the number of keys left gives the index.
+    /// Returns the first pair whose key the probe matches. This is the scan of every call by probe that only reads. It
+    /// has no count on the way, which costs less for keys that are texts: the number of keys left gives the index.
     #[inline]
     pub(crate) fn find<P: Probe<K>>(&self, probe: &P) -> Option<(&K, &V)>
         ensures pair { option_map deref_pair result ≡ lookup_entry (P.matches probe.now) self.now }
@@ -54,7 +54,7 @@ impl<K: Eq, V, const N: usize> Map<K, V, N> {
         None
     }
 
-    // Returns `true` if there is room for one more pair.
+    /// Returns `true` if there is room for one more pair.
     #[inline]
     pub(crate) fn has_room(&self) -> bool
         ensures { result ≡ has_room N self.now }
@@ -62,7 +62,7 @@ impl<K: Eq, V, const N: usize> Map<K, V, N> {
         self.pairs.len() < N
     }
 
-    // Returns the pair at `index`.
+    /// Returns the pair at `index`.
     #[inline]
     pub(crate) fn pair_at(&self, index: usize) -> (&K, &V)
         requires { index < length self.now }
@@ -71,7 +71,7 @@ impl<K: Eq, V, const N: usize> Map<K, V, N> {
         self.pairs.pair_at(index)
     }
 
-    // Returns a mutable reference to the value at `index`.
+    /// Returns a mutable reference to the value at `index`.
     #[inline]
     pub(crate) fn value_at(&mut self, index: usize) -> &mut V
         requires { index < length self.old }
@@ -81,7 +81,7 @@ impl<K: Eq, V, const N: usize> Map<K, V, N> {
         self.pairs.value_at(index)
     }
 
-    // Calls `visit` on the pair at `index`.
+    /// Calls `visit` on the pair at `index`.
     #[inline]
     pub(crate) fn visit_at<R, F: FnMut(&K, &mut V) -> R>(
         &mut self,
@@ -95,9 +95,9 @@ impl<K: Eq, V, const N: usize> Map<K, V, N> {
         self.pairs.visit_at(index, visit)
     }
 
-    // Sets the value at `index`, and returns the old value.
+    /// Sets the value at `index`, and returns the old value.
     #[inline]
-    pub(crate) fn replace_at(&mut self, index: usize, value: V) -> V
+    pub(crate) fn replace_value_at(&mut self, index: usize, value: V) -> V
         requires { index < length self.old }
         ensures old { option_map (λ p. p.1) (slice_get self.old index) ≡ Some result }
         ensures pairs { self.new ≡ with_value_at self.old index value }
@@ -105,29 +105,35 @@ impl<K: Eq, V, const N: usize> Map<K, V, N> {
         mem::replace(self.value_at(index), value)
     }
 
-    // Sets the value of the key stored at `index`, and returns the old value.
+    /// Sets the value of the key stored at `index`, and returns the old value.
     #[inline]
     pub(crate) fn put_at(&mut self, index: usize, key: &K, value: V) -> V
         requires { index_of K.eq self.old key.now ≡ Some index }
         ensures old { at K.eq self.old key.now ≡ Some result }
         ensures pairs { self.new ≡ put K.eq self.old key.now value }
+        ensures content { IsContent K.eq N self.new }
     {
-        self.replace_at(index, value)
+        let old = self.replace_value_at(index, value);
+        let _content = self.len();
+        old
     }
 
-    // Replaces the key at `index` and its value, and returns the old pair.
+    /// Replaces the key at `index` and its value, and returns the old pair.
     #[inline]
     pub(crate) fn put_key_at(&mut self, index: usize, key: K, value: V) -> (K, V)
         requires { index_of K.eq self.old key ≡ Some index }
         ensures old { pair K.eq self.old key ≡ Some result }
         ensures pairs { self.new ≡ put_key K.eq self.old key value }
+        ensures content { IsContent K.eq N self.new }
     {
-        self.pairs.replace_at(index, key, value)
+        let old = self.pairs.replace_at(index, key, value);
+        let _content = self.len();
+        old
     }
 }
 
 impl<K: Eq + Drop, V: Drop, const N: usize> Map<K, V, N> {
-    // Inserts a pair with a new key last.
+    /// Inserts a pair with a new key last.
     #[inline]
     pub(crate) fn push_pair(&mut self, key: K, value: V)
         requires new { index_of K.eq self.old key ≡ None }
@@ -135,11 +141,13 @@ impl<K: Eq + Drop, V: Drop, const N: usize> Map<K, V, N> {
         ensures pairs { self.new ≡ self.old ++ (key, value) ∷ [] }
         ensures put { self.new ≡ put K.eq self.old key value }
         ensures put_key { self.new ≡ put_key K.eq self.old key value }
+        ensures content { IsContent K.eq N self.new }
     {
         self.pairs.push(key, value);
+        let _content = self.len();
     }
 
-    // Removes and returns the first pair whose key the probe matches. Those behind it move up by one.
+    /// Removes and returns the first pair whose key the probe matches. Those behind it move up by one.
     #[inline]
     pub(crate) fn take<P: Probe<K>>(&mut self, probe: &P) -> Option<(K, V)>
         ensures pair { result ≡ lookup_entry (P.matches probe.now) self.old }
@@ -151,13 +159,16 @@ impl<K: Eq + Drop, V: Drop, const N: usize> Map<K, V, N> {
         Some(self.take_at(index))
     }
 
-    // Removes and returns the pair at `index`. Those behind it move up by one.
+    /// Removes and returns the pair at `index`. Those behind it move up by one.
     #[inline]
     pub(crate) fn take_at(&mut self, index: usize) -> (K, V)
         requires { index < length self.old }
         ensures answer { slice_get self.old index ≡ Some result }
         ensures pairs { self.new ≡ without_at self.old index }
+        ensures content { IsContent K.eq N self.new }
     {
-        self.pairs.remove(index)
+        let pair = self.pairs.remove(index);
+        let _content = self.len();
+        pair
     }
 }

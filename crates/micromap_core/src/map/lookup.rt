@@ -91,10 +91,7 @@ impl<K: Eq, V, const N: usize> Map<K, V, N> {
         ensures answer { at K.eq self.old key.now ≡ Some result.now }
         ensures content { IsContent K.eq N self.old }
     {
-        match self.index_of(key) {
-            Some(index) => self.value_at(index),
-            None => unreachable!(),
-        }
+        self.index_mut_by(key)
     }
 }
 

@@ -82,7 +82,9 @@ impl<K: Eq + Drop, V: Drop, const N: usize> Map<K, V, N> {
         ensures content { AreContents K.eq N self.old self.new }
     {
         let _content = self.len();
-        mem::take(self).into_iter()
+        let taken = mem::take(self);
+        let _after = self.len();
+        taken.into_iter()
     }
 }
 

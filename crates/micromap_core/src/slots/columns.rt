@@ -1,4 +1,6 @@
 //! The keys and the values of a map, each in slots of their own. A pair is a key and the value at the same index.
+#![tactic(auto, using(crate::proofs::SlotsLemmas::opened_columns))]
+
 ghost use Rattle.std.specs.Prelude.{◌≡◌, ◌-◌, ◌<◌, ◌≤◌, [], ◌∷◌, ◌++◌, length, take, Some, slice_get, slice_set};
 ghost use Rattle.std.specs.Borrow.{sem};
 ghost use Rattle.std.specs.List.{remove, swap, zip};
@@ -14,6 +16,9 @@ use arrayvec::ArrayVec;
 use micromap_walk::slot::{hint_at_most, hint_below, hint_equal};
 use std::marker::Model;
 use std::mem;
+
+// The most bytes of a column of keys whose scan is faster if it is unrolled: 2 slots of `u64`, or 16 of `u8`.
+const MOST_UNROLLED: usize = 40;
 
 /// A list of at most `N` pairs. A contract sees it as that list, from front to end.
 #[derive(Drop)]
@@ -63,8 +68,7 @@ impl<K, V, const N: usize> Columns<K, V, N> {
         ensures filled { AreFilled result.now }
         ensures items { items_of result.now ≡ keys_of self.now }
     {
-        // At most 40 bytes, as of 2 slots of `u64` or 16 of `u8`: a scan of so few is faster if it is unrolled.
-        if mem::size_of_val(&self.keys) <= 40 {
+        if mem::size_of_val(&self.keys) <= MOST_UNROLLED {
             hint_at_most(self.keys.len(), N);
         }
         self.keys.as_slice()

@@ -1,15 +1,16 @@
-use Rattle.std.proofs.Common.{ok_or, sym, ap, ◌∙◌, string_bytes, bytes_eq, arith, rules}
-use Rattle.std.proofs.lemmas.List.{length-map, nil_from_length}
+use Rattle.std.proofs.Common.{ok_or, sym, ap, ◌∙◌, bytes_eq, arith, rules}
+use Rattle.std.proofs.lemmas.List.{nil_from_length}
 use Rattle.serde_json.specs.View.{items_view}
 use Rattle.micromap.specs.Extend.{distinct}
 use Rattle.micromap.specs.Items.{put_item}
 use Rattle.micromap.specs.Json.{all_texts, and_then, items_for}
 use Rattle.micromap.specs.declared.json.JsonFault.TheVariants.{NotText}
 use Rattle.micromap.proofs.JsonReading.{none_read, not_read, read_beyond, read_whole, text_put}
+use Rattle.micromap.proofs.SetTextViews.{item_texts_empty, length_item_texts}
 use Rattle.micromap.proofs.json.read.set_of_elements.Goals as goal
 
 pub loop-element-init : goal.loop-element-init
-loop-element-init g c = rw (c.into_iter-element-iterator.ensures.into_iter_gives.0, c.new-set.ensures) (none_read (put_item bytes_eq) g.row.N (all_texts (items_view c.args.elements.items)))
+loop-element-init g c = rw (c.into_iter-element-iterator.ensures.into_iter_gives.0, c.new-set.ensures, item_texts_empty) (none_read (put_item bytes_eq) g.row.N (all_texts (items_view c.args.elements.items)))
 
 pub returns-in_default-clause-fault : goal.returns-in_default-clause-fault
 returns-in_default-clause-fault g c =
@@ -21,7 +22,7 @@ loop-element-preserved g c = text_put _ c.loop-element.invariant (ap items_view 
 pub returns-then-all_fit-clause-texts : goal.returns-then-all_fit-clause-texts
 returns-then-all_fit-clause-texts g c =
     read_whole c.loop-element.invariant (ap (λ vs. all_texts (items_view vs)) (nil_from_length c.loop-element.element-iterator.rest.items (sym c.loop-element.element-iterator.rest.ok.0 ∙ c.in-None.ensures.steps.0))) NotText c.if-all_fit.true
-    (omega (arith, c.len-content.ensures.content.bounded, length-map c.loop-element.set (λ s. string_bytes s)))
+    (omega (arith, c.len-content.ensures.content.bounded, length_item_texts c.loop-element.set))
 
 pub returns-else-all_fit-clause-fault : goal.returns-else-all_fit-clause-fault
 returns-else-all_fit-clause-fault g c = read_beyond c.loop-element.invariant (ap (λ vs. all_texts (items_view vs)) (nil_from_length c.loop-element.element-iterator.rest.items (sym c.loop-element.element-iterator.rest.ok.0 ∙ c.in-None.ensures.steps.0))) NotText c.if-all_fit.false

@@ -1,5 +1,5 @@
-use Rattle.std.proofs.Common.{◌≡◌, ◌≤◌, ◌++◌, [], ◌∷◌, Some, map, false, string_bytes, ap, ◌∙◌, subst, rules}
-use Rattle.serde_json.specs.Data.{depth, string}
+use Rattle.std.proofs.Common.{◌≡◌, ◌≤◌, ◌++◌, Some, map, false, string_bytes, ap, ◌∙◌, subst, rules}
+use Rattle.serde_json.specs.Data.{depth}
 use Rattle.serde_json.specs.Read.{max_depth, read}
 use Rattle.serde_json.specs.View.{view}
 use Rattle.serde_json.specs.Written.{compact_text, has_float}
@@ -11,10 +11,7 @@ pub loop-text-init : goal.loop-text-init
 loop-text-init g c = ap (λ vs. map view vs ++ as_data c.into_iter-text-iterator.result) c.new-elements.ensures.items ∙ ap as_data c.into_iter-text-iterator.ensures.into_iter_gives.0
 
 pub loop-text-preserved : goal.loop-text-preserved
-loop-text-preserved g c =
-    let is : view c.in_ok-try_from_str.field-0 ≡ string (string_bytes c.in-Some.text.now) = search rules in
-    let made : c.push.new.list.items ≡ c.loop-text.elements.items ++ c.in_ok-try_from_str.field-0 ∷ [] = search rules in
-    pushes_one c.loop-text.elements.items c.push.new.list.items c.in_ok-try_from_str.field-0 c.in-Some.text.now c.loop-text.text-iterator c.next.new.self c.args.set.now c.loop-text.invariant c.in-Some.ensures.steps is made
+loop-text-preserved g c = pushes_one c.loop-text.elements.items c.push.new.list.items c.in_ok-try_from_str.field-0 c.in-Some.text.now c.loop-text.text-iterator c.next.new.self c.args.set.now c.loop-text.invariant c.in-Some.ensures.steps (search rules) (search rules)
 
 pub returns : goal.returns
 returns g c =

@@ -43,11 +43,5 @@ returns-then-len g c =
 pub returns-then-contains-clause-items : goal.returns-then-contains-clause-items
 returns-then-contains-clause-items g c = sym (put_item-stored g.T.PartialEq.eq g.row.N c.args.self.now c.args.item (sym c.if-contains.ensures))
 
-pub contains-requires : goal.contains-requires
-contains-requires g c = assumption
-
-pub len-requires : goal.len-requires
-len-requires g c = assumption
-
 pub replace-requires : goal.replace-requires
 replace-requires g c = (assumption, fits_room g.T.PartialEq.eq g.row.N c.args.self.now c.args.item (rw c.len.ensures.answer at c.if-len.true))

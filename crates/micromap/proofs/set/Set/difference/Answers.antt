@@ -11,20 +11,12 @@ pub returns : goal.returns
 unfolding difference_left
 returns g c =
     let eq = g.T.PartialEq.eq in
-    let xs = c.args.self.now in
-    let ys = c.args.other.now in
-    let unique = IsDistinct-filter eq (λ x. not (is_member eq ys x)) xs c.len-content.ensures.content.unique in
+    let unique = IsDistinct-filter eq (λ x. not (is_member eq c.args.other.now x)) c.args.self.now c.len-content.ensures.content.unique in
     record {
-      walk = λ i. record { rest = c.iter.ensures.answer i; other = ys };
-      items = ap (λ l. difference eq l ys) c.iter.ensures.answer;
-      bounded = omega (arith, c.len-content.ensures.content.bounded, ap length c.iter.ensures.answer, length-parts eq c.iter.result ys);
+      walk = λ i. record { rest = c.iter.ensures.answer i; other = c.args.other.now };
+      items = ap (λ l. difference eq l c.args.other.now) c.iter.ensures.answer;
+      bounded = omega (arith, c.len-content.ensures.content.bounded, ap length c.iter.ensures.answer, length-parts eq c.iter.result c.args.other.now);
       unique = unique;
-      builds = added_all g.met.T.Eq.laws (difference eq xs ys) unique;
+      builds = added_all g.met.T.Eq.laws _ unique;
       runs = left_in_order deref (difference_left eq) (difference_on eq);
     }
-
-pub iter-requires : goal.iter-requires
-iter-requires g c = assumption
-
-pub len-content-requires : goal.len-content-requires
-len-content-requires g c = assumption

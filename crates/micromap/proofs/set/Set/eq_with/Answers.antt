@@ -15,12 +15,3 @@ returns-else-len g c =
     let apart : length c.args.self.now ≢ length c.args.other.now = search rules in
     let answer = ne_eqb c.len.result c.len-2.result c.if-len.false ∙ sym (not_both_sides g.met.T.Eq.laws c.args.self.now c.args.other.now c.len.ensures.content.unique c.len-2.ensures.content.unique apart) in
     record { answer = answer; members = members_answered g.met.T.Eq.laws _ _ _ answer }
-
-pub len-requires : goal.len-requires
-len-requires g c = assumption
-
-pub is_subset-requires : goal.is_subset-requires
-is_subset-requires g c = assumption
-
-pub len-requires-2 : goal.len-requires-2
-len-requires-2 g c = assumption

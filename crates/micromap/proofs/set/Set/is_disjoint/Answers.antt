@@ -12,15 +12,3 @@ returns-else-len g c =
     let turned = c.is_apart_from-else-len.ensures in
     let answer = turned ∙ disjoint_turned g.met.T.Eq.laws c.args.other.now c.args.self.now in
     record { answer = answer; turned = turned; nothing_common = disjoint_answered g.T.PartialEq.eq c.args.self.now c.args.other.now _ answer }
-
-pub len-requires : goal.len-requires
-len-requires g c = assumption
-
-pub is_apart_from-requires : goal.is_apart_from-requires
-is_apart_from-requires g c = assumption
-
-pub len-requires-2 : goal.len-requires-2
-len-requires-2 g c = assumption
-
-pub is_apart_from-requires-else-len : goal.is_apart_from-requires-else-len
-is_apart_from-requires-else-len g c = assumption

@@ -11,12 +11,3 @@ returns-then-len g c =
 
 pub returns : goal.returns
 returns g c = record { answer = c.is_within.ensures; nothing_beyond = subset_answered g.T.PartialEq.eq c.args.self.now c.args.other.now _ c.is_within.ensures }
-
-pub is_within-requires : goal.is_within-requires
-is_within-requires g c = assumption
-
-pub len-requires-2 : goal.len-requires-2
-len-requires-2 g c = assumption
-
-pub len-requires : goal.len-requires
-len-requires g c = assumption

@@ -1,14 +1,13 @@
-use Rattle.std.proofs.Common.{rules, refl}
+use Rattle.std.proofs.Common.{arith, rules, refl}
 use Rattle.std.specs.Fn.{CalledAt, TakesAt}
 use Rattle.micromap_core.proofs.ClosureLemmas.{retained_keys}
 use Rattle.micromap.proofs.ItemLemmas.{content_items}
 use Rattle.micromap.proofs.RetainItems.{callable_inner}
-use Rattle.micromap.proofs.Sizes.{map_fits}
 use Rattle.micromap.proofs.set.Set.retain.Goals as goal
 
 pub retain-requires : goal.retain-requires
 retain-requires g c = (
-  map_fits g.row.T g.row.N g.T.PartialEq.eq assumption,
+  omega arith,
   let may = callable_inner _ (CalledAt g.F.FnMut) (λ f. f.0.now) (λ f x v b w t said. search rules) (TakesAt g.F.FnMut) _ _ (rw (← c.self.view_is) at c.requires) in
       record { at = λ before after s x v parts calls key shows value is. may.at before after s x v parts calls key shows },
 )

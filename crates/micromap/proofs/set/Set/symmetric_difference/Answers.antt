@@ -11,21 +11,13 @@ pub returns : goal.returns
 unfolding symmetric_difference symmetric_left
 returns g c =
     let eq = g.T.PartialEq.eq in
-    let xs = c.args.self.now in
-    let ys = c.args.other.now in
-    let unique = IsDistinct-symmetric_difference g.met.T.Eq.laws xs ys c.difference.ensures.unique c.difference-2.ensures.unique in
+    let unique = IsDistinct-symmetric_difference g.met.T.Eq.laws c.args.self.now c.args.other.now c.difference.ensures.unique c.difference-2.ensures.unique in
     record {
       walk = λ i. record { first = c.difference.ensures.walk i; second = c.difference-2.ensures.walk i };
       items = λ i. c.difference.ensures.items i ++ c.difference-2.ensures.items i;
       bounded = omega (arith, c.difference.ensures.bounded, c.difference-2.ensures.bounded, length-append (difference_left eq c.difference.result) (difference_left eq c.difference-2.result));
       unique = unique;
-      builds = added_all g.met.T.Eq.laws (symmetric_difference eq xs ys) unique;
-      turned = symmetric_difference_turned g.met.T.Eq.laws xs ys;
+      builds = added_all g.met.T.Eq.laws _ unique;
+      turned = symmetric_difference_turned g.met.T.Eq.laws _ _;
       runs = left_in_order deref (symmetric_left eq) (symmetric_on eq);
     }
-
-pub difference-requires : goal.difference-requires
-difference-requires g c = assumption
-
-pub difference-requires-2 : goal.difference-requires-2
-difference-requires-2 g c = assumption

@@ -39,6 +39,3 @@ returns-clause-runs g c =
     let l = c.loop-x in
     run_puts (item_fits g.T.PartialEq.eq g.row.N) (put_item g.T.PartialEq.eq) g.I.Iterator.next_gives c.args.items c.args.self.now l.self l.yielded l.at l.invariant.put
     (rw (← c.into_iter-x-iterator.ensures.into_iter_gives) (c.next.new.self, (l.x-iterator, l.yielded_by, c.in-None.ensures.steps)))
-
-pub put-requires : goal.put-requires
-put-requires g c = assumption

@@ -13,8 +13,5 @@ returns-in_err-try_extend g c =
     let stops = rw c.new-set.ensures at c.in_err-try_extend.ensures.stops in
     rw (same.1, same.2) (record { runs = tt; stops = (stops.0, stops.1, (stops.2.0, stops.2.1.0)); full = full_at g.met.T.Eq.laws (items_keyed g.T.PartialEq.eq g.row.N) stops.0.items _ stops.2.1.0.1; content = tt })
 
-pub new-set-requires : goal.new-set-requires
-new-set-requires g c = assumption
-
 pub array_drop-set-inside-requires : goal.array_drop-set-inside-requires
 array_drop-set-inside-requires g c = omega arith

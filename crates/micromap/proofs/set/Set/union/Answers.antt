@@ -11,25 +11,14 @@ pub returns : goal.returns
 unfolding union union_left
 returns g c =
     let eq = g.T.PartialEq.eq in
-    let xs = c.args.self.now in
-    let ys = c.args.other.now in
-    let unique = IsDistinct-union g.met.T.Eq.laws xs ys c.len-content.ensures.content.unique c.difference.ensures.unique in
+    let unique = IsDistinct-union g.met.T.Eq.laws c.args.self.now c.args.other.now c.len-content.ensures.content.unique c.difference.ensures.unique in
     record {
       walk = λ i. record { others = c.iter.ensures.answer i; beyond = c.difference.ensures.walk i };
       items = λ i. c.iter.ensures.answer i ++ c.difference.ensures.items i;
       bounded = omega (arith, c.len-content.ensures.content.bounded, ap length c.iter.ensures.answer, c.difference.ensures.bounded, length-append c.iter.result (difference_left eq c.difference.result));
       unique = unique;
-      builds = added_all g.met.T.Eq.laws (union eq xs ys) unique;
-      turned = union_turned g.met.T.Eq.laws xs ys;
-      lengths = length-union eq xs ys;
+      builds = added_all g.met.T.Eq.laws _ unique;
+      turned = union_turned g.met.T.Eq.laws _ _;
+      lengths = length-union eq _ _;
       runs = left_in_order deref (union_left eq) (union_on eq);
     }
-
-pub iter-requires : goal.iter-requires
-iter-requires g c = assumption
-
-pub len-content-requires : goal.len-content-requires
-len-content-requires g c = assumption
-
-pub difference-requires : goal.difference-requires
-difference-requires g c = assumption

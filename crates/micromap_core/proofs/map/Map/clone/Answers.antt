@@ -14,7 +14,7 @@ hint_equal-requires g c = c.len.ensures.answer ∙ length_clones _ _ _ _ c.loop-
 
 pub push-requires : goal.push-requires
 push-requires g c =
-    (columns_fit g.row.K g.row.V g.row.N g.K.PartialEq.eq assumption, rw (c.map.view_is, length_clones _ _ _ _ c.loop-index.invariant (rw (← c.len-len.ensures.answer) c.if-index-len.true)) c.loop-index-test.true)
+    (columns_fit g.row.K g.row.V g.row.N g.K.PartialEq.eq assumption, rw (c.map.view_is, length_clones _ _ _ _ c.loop-index.invariant (rw (← c.len-len.ensures.answer) c.if-index-len.true)) (omega (arith, c.loop-index-test.true, c.clone_turns-index-end.ensures.bounded)))
 
 pub invariant_of-map : goal.invariant_of-map
 invariant_of-map g c =
@@ -31,7 +31,7 @@ loop-index-preserved g c =
     ]
 
 pub returns-clause-clones : goal.returns-clause-clones
-returns-clause-clones g c = rw (← take_all c.loop-index.index c.args.self.now (omega (arith, c.len-len.ensures.content.bounded, c.loop-index-test.false))) c.loop-index.invariant
+returns-clause-clones g c = rw (← take_all c.loop-index.index c.args.self.now (omega (arith, c.len-len.ensures.answer, c.clone_turns-index-end.ensures.all, c.loop-index-test.false))) c.loop-index.invariant
 
 pub returns-clause-same : goal.returns-clause-same
 returns-clause-same g c =

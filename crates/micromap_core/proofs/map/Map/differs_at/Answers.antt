@@ -14,15 +14,3 @@ pub returns-in-None : goal.returns-in-None
 returns-in-None g c =
     let known = answered_difference g.K.PartialEq.eq g.V.PartialEq.eq g.met.K.Eq.laws g.met.V.Eq.laws c.args.self.now c.args.other.now c.len.ensures.content.unique c.len-2.ensures.content.unique c.first_missing.result (rw (← c.in-None.ensures) c.first_missing.ensures) in
     record { answer = rw (← c.in-None.ensures) c.first_missing.ensures; none = known.0; differs = known.1 }
-
-pub len-requires-2 : goal.len-requires-2
-len-requires-2 g c = assumption
-
-pub len-requires : goal.len-requires
-len-requires g c = assumption
-
-pub first_missing-requires : goal.first_missing-requires
-first_missing-requires g c = assumption
-
-pub first_unequal-requires : goal.first_unequal-requires
-first_unequal-requires g c = assumption

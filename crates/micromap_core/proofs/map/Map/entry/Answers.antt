@@ -7,6 +7,3 @@ returns-in-Some-clause-entry g c = entry_at g.K.PartialEq.eq c.args.self c.args.
 
 pub returns-clause-entry : goal.returns-clause-entry
 returns-clause-entry g c = new_entry g.K.PartialEq.eq c.args.self c.args.key c.in-None.ensures.missing (sym c.in-None.ensures.answer)
-
-pub index_of-requires : goal.index_of-requires
-index_of-requires g c = assumption

@@ -9,12 +9,3 @@ returns-then-lengths g c =
 
 pub returns-else-lengths : goal.returns-else-lengths
 returns-else-lengths g c = assumption (compared_short g.met.V.Eq.laws c.len.ensures.content c.len-2.ensures.content c.len.ensures.answer c.len-2.ensures.answer c.if-lengths.false)
-
-pub len-requires-2 : goal.len-requires-2
-len-requires-2 g c = assumption
-
-pub len-requires : goal.len-requires
-len-requires g c = assumption
-
-pub first_unequal-requires : goal.first_unequal-requires
-first_unequal-requires g c = assumption

@@ -1,4 +1,4 @@
-use Rattle.std.proofs.Common.{arith, rules, ◌+◌, ◌*◌, ◌≤◌, length, sym, ◌∙◌}
+use Rattle.std.proofs.Common.{arith, ◌+◌, ◌*◌, ◌≤◌, length, sym, ◌∙◌}
 use Rattle.micromap_core.proofs.FairLemmas.{compared_long, compared_short}
 use Rattle.micromap_core.proofs.StepsLemmas.{comparison_long, comparison_short, walk_steps-square}
 use Rattle.micromap_core.proofs.map.Map.eq_with_counted.Goals as goal
@@ -20,12 +20,3 @@ returns-else-lengths g c =
     let steps = comparison_short g.K.PartialEq.eq g.V.PartialEq.eq c.args.self.now c.args.other.now c.len.result c.len-2.result one two c.if-lengths.false in
     let all = compared_short g.met.V.Eq.laws c.len.ensures.content c.len-2.ensures.content one two c.if-lengths.false in
     record { answer = all.0; told_apart = all.1; outlasts = all.2; count = omega (arith, steps); bounded = omega arith }
-
-pub is_within_counted-requires : goal.is_within_counted-requires
-is_within_counted-requires g c = (assumption, search rules)
-
-pub len-requires : goal.len-requires
-len-requires g c = assumption
-
-pub len-requires-2 : goal.len-requires-2
-len-requires-2 g c = assumption

@@ -2,7 +2,7 @@ use Rattle.std.proofs.Common.{◌≡◌, ◌+◌, ◌-◌, Some, length, ap, sym
 use Rattle.std.specs.Map.{keys_of}
 use Rattle.std.specs.Option.{option_map}
 use Rattle.std.proofs.lemmas.Map.Entries.{length-keys_of}
-use Rattle.micromap_core.proofs.ScanLemmas.{found_at, not_found, not_yet-start, not_yet-on, not_yet-found, not_yet-missing}
+use Rattle.micromap_core.proofs.MapLemmas.{found_at, not_found, not_yet-start, not_yet-on, not_yet-found, not_yet-missing}
 use Rattle.micromap_core.proofs.map.Map.find.Goals as goal
 
 pub loop-key-init : goal.loop-key-init
@@ -27,12 +27,3 @@ returns-then-matches g c =
     let found = found_at (g.P.Probe.matches c.args.probe.now) c.args.self.now _ (at ∙ ap Some (sym here)) in
     let pair = sym c.pair_at.ensures ∙ found.here in
     record { pair = pair ∙ sym found.entry; value = ap (option_map (λ p. p.1)) pair ∙ sym found.value }
-
-pub keys-keys-requires : goal.keys-keys-requires
-keys-keys-requires g c = assumption
-
-pub len-requires : goal.len-requires
-len-requires g c = assumption
-
-pub pair_at-requires : goal.pair_at-requires
-pair_at-requires g c = (assumption, omega (arith, c.len.ensures.answer, c.len-then-matches.ensures.value, c.loop-key.invariant.counted, ap length c.in-Some.ensures.steps, length-keys_of c.args.self.now))

@@ -1,11 +1,8 @@
 use Rattle.std.proofs.Common.{ap, sym, ◌∙◌}
 use Rattle.std.specs.Option.{option_copied, option_map}
-use Rattle.micromap_core.proofs.ScanLemmas.{found_at, not_found}
+use Rattle.micromap_core.proofs.MapLemmas.{found_at, not_found}
 use Rattle.micromap_core.proofs.StepsLemmas.{steps-bound}
 use Rattle.micromap_core.proofs.map.Map.get_counted.Goals as goal
-
-pub index_counted-requires : goal.index_counted-requires
-index_counted-requires g c = assumption
 
 pub pair_at-requires : goal.pair_at-requires
 pair_at-requires g c = (assumption, (found_at (g.K.PartialEq.eq c.args.key.now) c.args.self.now c.in_ok-index.index (sym c.in_ok-index.ensures.index)).within)

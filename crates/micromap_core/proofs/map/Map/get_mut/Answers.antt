@@ -1,6 +1,6 @@
-use Rattle.std.proofs.Common.{ap, sym, inl, ◌∙◌, refl}
+use Rattle.std.proofs.Common.{ap, sym, inl, ◌∙◌}
 use Rattle.std.specs.Option.{option_map}
-use Rattle.micromap_core.proofs.PairsLemmas.{with_value_at-put}
+use Rattle.micromap_core.proofs.MapLemmas.{with_value_at-put}
 use Rattle.micromap_core.proofs.map.Map.get_mut.Goals as goal
 
 -- the key is stored, and a write at its index puts
@@ -10,12 +10,3 @@ returns-in-Some g c =
       ap (λ (after : g.row.V.Denot → _). inl (c.value_at.result.ghost_name, after)) (λ j w. with_value_at-put g.K.PartialEq.eq c.args.key.now c.args.self.now c.in-Some.index found w j),
       record { writes_back = tt; answer = sym c.value_at.ensures.value ∙ ap (option_map (λ p. p.1)) found.here ∙ sym found.value; content = c.in-Some.ensures.content },
     )
-
-pub value_at-requires : goal.value_at-requires
-value_at-requires g c = (assumption, c.in-Some.ensures.found.within)
-
-pub index_of-requires : goal.index_of-requires
-index_of-requires g c = assumption
-
-pub returns-in-None : goal.returns-in-None
-returns-in-None g c = (refl, record { writes_back = tt; answer = sym c.in-None.ensures.missing.value; content = c.in-None.ensures.content })

@@ -1,6 +1,6 @@
-use Rattle.std.proofs.Common.{ap, refl, sym, inl, ◌∙◌}
+use Rattle.std.proofs.Common.{ap, sym, inl, ◌∙◌}
 use Rattle.std.specs.Option.{option_map}
-use Rattle.micromap_core.proofs.PairsLemmas.{written_at}
+use Rattle.micromap_core.proofs.MapLemmas.{written_at}
 use Rattle.micromap_core.proofs.map.Map.get_mut_by.Goals as goal
 
 -- a stored key matches, and a write at its index sets its value; or none matches
@@ -10,9 +10,3 @@ returns-in-Some g c =
       ap (λ (after : g.row.V.Denot → _). inl (c.value_at.result.ghost_name, after)) (λ j w. written_at _ c.args.self.now c.in-Some.index found w j),
       record { writes_back = tt; answer = sym c.value_at.ensures.value ∙ ap (option_map (λ p. p.1)) found.here ∙ sym found.value; content = c.in-Some.ensures.content },
     )
-
-pub returns-in-None : goal.returns-in-None
-returns-in-None g c = (refl, record { writes_back = tt; answer = sym c.in-None.ensures.missing.value; content = c.in-None.ensures.content })
-
-pub index_of-requires : goal.index_of-requires
-index_of-requires g c = assumption

@@ -1,7 +1,7 @@
 use Rattle.std.proofs.Common.{suc, length, ap, sym, arith}
 use Rattle.std.specs.Option.{option_map_or}
 use Rattle.std.proofs.lemmas.Map.Entries.{length-keys_of}
-use Rattle.micromap_core.proofs.ScanLemmas.{not_yet-found, not_yet-missing, not_yet-start, not_yet-on}
+use Rattle.micromap_core.proofs.MapLemmas.{not_yet-found, not_yet-missing, not_yet-start, not_yet-on}
 use Rattle.micromap_core.proofs.map.Map.index_counted.Goals as goal
 
 pub loop-stored-init : goal.loop-stored-init
@@ -37,6 +37,3 @@ returns g c =
       index = sym none;
       count = omega (arith, c.loop-stored.invariant.count, c.loop-stored.invariant.scan.counted, ap length c.in-None.ensures.steps.0, length-keys_of c.args.self.now, ap (λ o. option_map_or suc o (length c.args.self.now)) none);
     }
-
-pub keys-keys-requires : goal.keys-keys-requires
-keys-keys-requires g c = assumption

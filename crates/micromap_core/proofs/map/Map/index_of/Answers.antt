@@ -1,6 +1,6 @@
 use Rattle.std.proofs.Common.{ap, sym, length, arith}
 use Rattle.std.proofs.lemmas.Map.Entries.{length-keys_of}
-use Rattle.micromap_core.proofs.ScanLemmas.{found_at, not_found, not_yet-start, not_yet-on, not_yet-found, not_yet-missing}
+use Rattle.micromap_core.proofs.MapLemmas.{found_at, not_found, not_yet-start, not_yet-on, not_yet-found, not_yet-missing}
 use Rattle.micromap_core.proofs.map.Map.index_of.Goals as goal
 
 pub loop-key-init : goal.loop-key-init
@@ -23,6 +23,3 @@ pub returns : goal.returns
 returns g c =
     let none = not_yet-missing c.loop-key.invariant c.in-None.ensures.steps.0 in
     record { answer = sym none; found = tt; missing = not_found (g.P.Probe.matches c.args.probe.now) c.args.self.now none; content = c.len-content.ensures.content }
-
-pub keys-keys-requires : goal.keys-keys-requires
-keys-keys-requires g c = assumption

@@ -1,18 +1,9 @@
-use Rattle.std.proofs.Common.{length, refl, arith, rules, ap, sym, ◌∙◌}
+use Rattle.std.proofs.Common.{length, refl, arith, ap, sym, ◌∙◌}
 use Rattle.micromap_core.proofs.StepsLemmas.{look_up_steps-bound, most_steps-product, most_steps, walk_step, all_step}
 use Rattle.micromap_core.proofs.map.Map.is_within_counted.Goals as goal
-use Rattle.std.specs.List.{list_all}
-use Rattle.micromap_core.specs.Same.{has_value}
-use Rattle.micromap_core.specs.Steps.{walk_steps}
 
 pub loop-key-init : goal.loop-key-init
 loop-key-init g c = rw c.into_iter-key-iterator.ensures.into_iter_gives.0 (record { answer = refl; count = refl; bounded = omega (arith, most_steps-product c.args.self.now (length c.args.other.now)) })
-
-pub into_iter-key-iterator-requires : goal.into_iter-key-iterator-requires
-into_iter-key-iterator-requires g c = assumption
-
-pub has_value_counted-requires : goal.has_value_counted-requires
-has_value_counted-requires g c = (assumption, search rules)
 
 pub returns-then-not-has_value_counted : goal.returns-then-not-has_value_counted
 returns-then-not-has_value_counted g c = record {
@@ -25,10 +16,4 @@ loop-key-preserved g c = record {
   answer = sym (all_step g.K.PartialEq.eq g.V.PartialEq.eq c.args.other.now c.in-Some.ensures.steps c.if-not-has_value_counted.ensures.answer) ∙ c.loop-key.invariant.answer;
   count = omega (arith, c.loop-key.invariant.count, c.has_value_counted.ensures.count, walk_step g.K.PartialEq.eq g.V.PartialEq.eq c.args.other.now c.in-Some.ensures.steps c.if-not-has_value_counted.ensures.answer);
   bounded = omega (arith, c.loop-key.invariant.bounded, c.has_value_counted.ensures.count, look_up_steps-bound g.K.PartialEq.eq c.args.other.now c.in-Some.key.now, ap (λ l. most_steps l (length c.args.other.now)) c.in-Some.ensures.steps);
-}
-
-pub returns : goal.returns
-returns g c = record {
-  answer = ap (list_all (has_value g.K.PartialEq.eq g.V.PartialEq.eq c.args.other.now)) (sym c.in-None.ensures.steps.0) ∙ c.loop-key.invariant.answer;
-  count = omega (arith, c.loop-key.invariant.count, ap (walk_steps g.K.PartialEq.eq g.V.PartialEq.eq c.args.other.now) c.in-None.ensures.steps.0);
 }

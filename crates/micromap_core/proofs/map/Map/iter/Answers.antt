@@ -1,10 +1,6 @@
-use Rattle.micromap_core.proofs.Sizes.{columns_fit}
 use Rattle.std.specs.Map.Iter.{deref_pair}
 use Rattle.micromap_walk.proofs.Runs.{shows_in_order}
 use Rattle.micromap_core.proofs.map.Map.iter.Goals as goal
 
 pub returns-clause-runs : goal.returns-clause-runs
 returns-clause-runs g c = shows_in_order deref_pair
-
-pub as_slices-requires : goal.as_slices-requires
-as_slices-requires g c = columns_fit g.row.K g.row.V g.row.N g.K.PartialEq.eq assumption

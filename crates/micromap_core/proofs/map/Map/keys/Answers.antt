@@ -1,10 +1,6 @@
-use Rattle.micromap_core.proofs.Sizes.{columns_fit}
 use Rattle.std.specs.Map.Iter.{deref}
 use Rattle.micromap_walk.proofs.Runs.{shows_in_order}
 use Rattle.micromap_core.proofs.map.Map.keys.Goals as goal
 
 pub returns-clause-runs : goal.returns-clause-runs
 returns-clause-runs g c = shows_in_order deref
-
-pub keys-requires : goal.keys-requires
-keys-requires g c = columns_fit g.row.K g.row.V g.row.N g.K.PartialEq.eq assumption

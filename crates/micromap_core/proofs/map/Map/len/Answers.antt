@@ -1,4 +1,3 @@
-use Rattle.micromap_core.proofs.Sizes.{columns_fit}
 use Rattle.std.proofs.Common.{rules, ◌≤◌, length, ap, subst, ◌∙◌}
 use Rattle.micromap_core.proofs.Equalities.{lawful}
 use Rattle.micromap_core.proofs.map.Map.len.Goals as goal
@@ -8,6 +7,3 @@ returns g c = record {
   answer = c.len.ensures.answer ∙ ap length c.self.view_is;
   content = record { unique = search rules; bounded = subst (λ pairs. length pairs ≤ g.row.N) c.self.view_is c.len.ensures.bounded; lawful = lawful g.K.PartialEq.eq g.met.K.Eq.laws };
 }
-
-pub len-requires : goal.len-requires
-len-requires g c = columns_fit g.row.K g.row.V g.row.N g.K.PartialEq.eq assumption

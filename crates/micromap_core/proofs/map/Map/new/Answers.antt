@@ -1,9 +1,5 @@
-use Rattle.micromap_core.proofs.Sizes.{columns_fit}
 use Rattle.micromap_core.proofs.MapLaws.{unique_empty}
 use Rattle.micromap_core.proofs.map.Map.new.Goals as goal
 
 pub invariant_of-result : goal.invariant_of-result
 invariant_of-result g c = rw c.new.ensures (unique_empty g.row.V.Denot g.K.PartialEq.eq)
-
-pub new-requires : goal.new-requires
-new-requires g c = columns_fit g.row.K g.row.V g.row.N g.K.PartialEq.eq assumption

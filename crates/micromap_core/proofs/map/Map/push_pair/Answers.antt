@@ -1,7 +1,6 @@
 use Rattle.micromap_core.proofs.Sizes.{columns_fit}
 use Rattle.std.proofs.Common.{refl}
-use Rattle.micromap_core.proofs.ScanLemmas.{not_found}
-use Rattle.micromap_core.proofs.PairsLemmas.{IsUnique-push, push-put, push-put_key}
+use Rattle.micromap_core.proofs.MapLemmas.{not_found, IsUnique-push, push-put, push-put_key}
 use Rattle.micromap_core.proofs.map.Map.push_pair.Goals as goal
 
 pub push-requires : goal.push-requires
@@ -18,4 +17,5 @@ returns g c =
       pairs = rw (c.push.ensures, c.self.view_is) refl;
       put = rw (c.push.ensures, c.self.view_is) (push-put g.K.PartialEq.eq c.args.key c.args.self.now new c.args.value);
       put_key = rw (c.push.ensures, c.self.view_is) (push-put_key g.K.PartialEq.eq c.args.key c.args.self.now new c.args.value);
+      content = c.len-content.ensures.content;
     }

@@ -48,12 +48,6 @@ returns g c =
       content = (c.len-content.ensures.content, l.invariant.content);
     }
 
-pub checked_insert-requires : goal.checked_insert-requires
-checked_insert-requires g c = assumption
-
-pub drop-checked_insert-requires : goal.drop-checked_insert-requires
-drop-checked_insert-requires g c κs within = within
-
 pub overflow_add-at : goal.overflow_add-at
 overflow_add-at g c = omega (arith, (c.in-Some.ensures.goes.on c.loop-key.invariant.finite).2, c.loop-key.invariant.counted)
 

@@ -1,4 +1,3 @@
-use Rattle.std.proofs.Common.{rules}
 use Rattle.std.proofs.lemmas.Result.{err_from_is_err_and}
 use Rattle.micromap_core.proofs.BuildLemmas.{full_at, pairs_keyed}
 use Rattle.micromap_core.proofs.map.Map.try_from_iter.Goals as goal
@@ -11,12 +10,3 @@ returns-in_err-try_extend g c =
     let same = err_from_is_err_and c.from_residual.result c.from_residual.ensures.1 in
     let stops = rw c.new-map.ensures at c.in_err-try_extend.ensures.stops in
     rw (same.1, same.2) (record { runs = tt; stops = (stops.0, stops.1, (stops.2.0, stops.2.1.0)); full = full_at g.met.K.Eq.laws (pairs_keyed g.K.PartialEq.eq g.row.N) stops.0.items _ stops.2.1.0.1; content = tt })
-
-pub new-map-requires : goal.new-map-requires
-new-map-requires g c = assumption
-
-pub array_drop-map-inside-requires : goal.array_drop-map-inside-requires
-array_drop-map-inside-requires g c = search rules
-
-pub array_drop-map-inside-requires-in_err-try_extend : goal.array_drop-map-inside-requires-in_err-try_extend
-array_drop-map-inside-requires-in_err-try_extend g c = search rules

@@ -1,9 +1,6 @@
-use Rattle.std.proofs.Common.{arith, refl}
+use Rattle.std.proofs.Common.{arith}
 use Rattle.micromap_core.proofs.ClosureLemmas.{asks_next, updates_next, update_ends}
 use Rattle.micromap_core.proofs.map.Map.update_all.Goals as goal
-
-pub loop-index-init : goal.loop-index-init
-loop-index-init g c = record { turns = refl; others = refl; whole = refl }
 
 pub visit_at-requires : goal.visit_at-requires
 visit_at-requires g c = (assumption, (omega arith, asks_next g.F.FnMut c.args.update c.args.self.now _ _ _ c.loop-index.invariant c.requires))
@@ -15,6 +12,3 @@ pub returns : goal.returns
 returns g c =
     let at = c.loop-index.invariant in
     record { pairs = update_ends g.F.FnMut c.args.update c.args.self.now _ _ _ at (omega arith); content = (c.len-index-end.ensures.content, c.len-after.ensures.content) }
-
-pub len-index-end-requires : goal.len-index-end-requires
-len-index-end-requires g c = assumption

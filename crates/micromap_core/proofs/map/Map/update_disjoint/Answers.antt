@@ -1,8 +1,6 @@
-use Rattle.std.proofs.Common.{◌<◌, length, refl, rules, sym, ◌∙◌}
+use Rattle.std.proofs.Common.{◌<◌, length, refl, rules, sym}
 use Rattle.micromap_core.proofs.ClosureLemmas.{asks_value, updates_stored, updates_missing, update_keys_end}
-use Rattle.micromap_core.proofs.ContentLemmas.{content_same_keys}
 use Rattle.micromap_core.proofs.map.Map.update_disjoint.Goals as goal
-use Rattle.std.proofs.lemmas.List.{length-replicate}
 
 pub update-requires : goal.update-requires
 update-requires g c =
@@ -25,16 +23,6 @@ loop-position-preserved g c =
     ]
 
 pub returns : goal.returns
-returns g c = assumption (content_same_keys c.len-content.ensures.content c.loop-position.invariant.same_keys, update_keys_end g.K.PartialEq.eq g.F.FnMut c.args.update c.args.self.now c.args.keys.now _ _ _ _ c.loop-position.invariant (search rules))
-
-pub get_mut-requires : goal.get_mut-requires
-get_mut-requires g c = assumption
-
-pub bounds-found-position : goal.bounds-found-position
-bounds-found-position g c = c.loop-position-test.true
-
-pub loop-position-init : goal.loop-position-init
-loop-position-init g c = record { turns = refl; same_keys = refl; answered = refl; whole = length-replicate _ _ ∙ sym c.type_inv.keys }
-
-pub drop-update-requires : goal.drop-update-requires
-drop-update-requires g c = λ κs within. within
+returns g c =
+    let end = update_keys_end g.K.PartialEq.eq g.F.FnMut c.args.update c.args.self.now c.args.keys.now _ _ _ _ c.loop-position.invariant (search rules) in
+    record { answer = end.0; pairs = end.1; content = (c.len-content.ensures.content, c.len-after.ensures.content) }

@@ -1,6 +1,6 @@
 use Rattle.micromap_core.proofs.Sizes.{columns_fit}
 use Rattle.std.proofs.Common.{refl}
-use Rattle.micromap_core.proofs.PairsLemmas.{IsUnique-with_value_at}
+use Rattle.micromap_core.proofs.MapLemmas.{IsUnique-with_value_at}
 use Rattle.micromap_core.proofs.map.Map.value_at.Goals as goal
 
 pub invariant_of-self-lent : goal.invariant_of-self-lent

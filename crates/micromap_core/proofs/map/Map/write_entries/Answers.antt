@@ -1,4 +1,4 @@
-use Rattle.std.proofs.Common.{refl, length, ap, arith}
+use Rattle.std.proofs.Common.{refl}
 use Rattle.std.proofs.lemmas.Result.{MatchResult-from_err}
 use Rattle.micromap_core.proofs.StreamLemmas.{still_faultless, writing_begins, writing_more, writing_ends, writing_fails}
 use Rattle.micromap_core.proofs.map.Map.write_entries.Goals as goal
@@ -18,12 +18,3 @@ returns-in_err-entry-clause-beginning g c =
 
 pub returns : goal.returns
 returns g c = assumption (writing_ends c.loop-key.invariant.writing c.in-None.ensures.steps.0)
-
-pub into_iter-key-iterator-requires : goal.into_iter-key-iterator-requires
-into_iter-key-iterator-requires g c = assumption
-
-pub entry-requires : goal.entry-requires
-entry-requires g c = omega (arith, c.requires, c.loop-key.invariant.faultless.count)
-
-pub loop-key-smaller : goal.loop-key-smaller
-loop-key-smaller g c = omega (arith, ap length c.in-Some.ensures.steps)

@@ -1,15 +1,12 @@
 use Rattle.std.proofs.Common.{◌≡◌, ℕ, List, length, refl, ◌∙◌}
 use Rattle.std.specs.List.{refill, swap}
 use Rattle.micromap_core.proofs.Lists.{refill-same}
-use Rattle.micromap_core.proofs.SlotsLemmas.{AreFilled-from, items_of-map, length_filled, swap_filled}
+use Rattle.micromap_core.proofs.SlotsLemmas.{AreFilled-from, items_of-map, swap_filled}
 use Rattle.micromap_core.proofs.slots.Slots.swap.Goals as goal
 
 -- the slots once the slice is written back
 written : {X : Type 0} (slots shown new : List X) (a b : ℕ) → shown ≡ slots → length new ≡ length shown → new ≡ swap shown a b → refill (length slots) slots new ≡ swap slots a b
 written slots shown new a b is long swapped = rw (← is) (refill-same shown new long ∙ swapped)
-
-pub swap-requires : goal.swap-requires
-swap-requires g c = rw (c.as_mut_slice.ensures.value, ← length_filled _ c.self.invariant, c.self.view_is) c.requires
 
 pub invariant_of-self : goal.invariant_of-self
 invariant_of-self g c =

@@ -3,9 +3,6 @@ use Rattle.std.proofs.Math.ListN.{drop_of_length-le}
 use Rattle.micromap_walk.proofs.Runs.{first_goes}
 use Rattle.micromap_walk.proofs.owning.IntoIterIterator.next.Goals as goal
 
-pub len-requires : goal.len-requires
-len-requires g c = grind arith
-
 pub returns-then-index-len-clause-steps : goal.returns-then-index-len-clause-steps
 returns-then-index-len-clause-steps g c =
     let none : length c.self.inside.keys.items ≤ c.self.inside.given = omega (arith, c.len.ensures.value) in
@@ -13,15 +10,6 @@ returns-then-index-len-clause-steps g c =
 
 pub returns-then-index-len-clause-goes : goal.returns-then-index-len-clause-goes
 returns-then-index-len-clause-goes g c = first_goes (λ p. p) _ _ _ (returns-then-index-len-clause-steps g c)
-
-pub overflow_add-self : goal.overflow_add-self
-overflow_add-self g c = omega arith
-
-pub taken-requires : goal.taken-requires
-taken-requires g c = (grind arith, (c.self.invariant.keys, omega arith))
-
-pub taken-requires-2 : goal.taken-requires-2
-taken-requires-2 g c = (grind arith, (c.self.invariant.values, omega arith))
 
 pub invariant_of-self : goal.invariant_of-self
 invariant_of-self g c = record {

@@ -1,10 +1,7 @@
-use Rattle.std.proofs.Common.{ap, sym, ◌∙◌, arith}
+use Rattle.std.proofs.Common.{ap, sym, ◌∙◌}
 use Rattle.std.specs.Map.{keys_of}
 use Rattle.micromap_walk.proofs.Runs.{first_goes}
 use Rattle.micromap_walk.proofs.owning.IntoKeysIterator.next.Goals as goal
-
-pub next-requires : goal.next-requires
-next-requires g c = grind arith
 
 pub returns-in_err-key-clause-steps : goal.returns-in_err-key-clause-steps
 returns-in_err-key-clause-steps g c = rw c.from_residual.ensures (sym c.self.view_is ∙ ap keys_of c.in_err-key.ensures.steps.0, ap keys_of c.in_err-key.ensures.steps.1)

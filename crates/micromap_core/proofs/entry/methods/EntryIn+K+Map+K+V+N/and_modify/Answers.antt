@@ -25,13 +25,3 @@ returns-in-Occupied g c =
       taken = written.taken;
       sound = written.sound;
     })
-
-pub get_mut-requires : goal.get_mut-requires
-get_mut-requires g c = (assumption, rw c.in-Occupied.is at c.requires.sound)
-
-pub f-requires : goal.f-requires
-f-requires g c = c.requires.callable c.get_mut.result (rw c.in-Occupied.is c.get_mut.ensures.answer)
-
--- a vacant entry is returned as it is
-pub returns-in-Vacant : goal.returns-in-Vacant
-returns-in-Vacant g c = let sound = rw c.in-Vacant.is at c.requires.sound in rw c.in-Vacant.is (assumption sound)

@@ -9,13 +9,3 @@ returns-in-Vacant g c =
     let of-held : AnswersOfKey g.F.FnOnce c.args.default (Some c.in-Vacant.entry.key) c.insert.result.now =
     rw c.insert.ensures.answer (_, c.default-value.ensures, sym (same_Some _ _ c.key.ensures)) in
     ((refl, λ w. rw c.in-Vacant.is refl), record { writes_back = tt; answer = rw c.in-Vacant.is of-held })
-
-pub key-requires : goal.key-requires
-key-requires g c = assumption
-
-pub default-value-requires : goal.default-value-requires
-default-value-requires g c = c.requires.callable (rw c.in-Vacant.is refl) c.key.result (rw c.in-Vacant.is c.key.ensures)
-
-pub returns-in-Occupied : goal.returns-in-Occupied
-returns-in-Occupied g c =
-    ((refl, λ w. rw c.in-Occupied.is refl), record { writes_back = tt; answer = rw (c.in-Occupied.is, c.into_mut.ensures.answer) refl })

@@ -1,9 +1,8 @@
-use Rattle.std.proofs.Common.{refl, sym, ◌∙◌, []}
-use Rattle.std.proofs.lemmas.Option.{same_Some, slice_get_within}
+use Rattle.std.proofs.Common.{refl, sym, ◌∙◌}
+use Rattle.std.proofs.lemmas.Option.{same_Some}
 use Rattle.micromap_core.specs.Entry.{entry_put}
 use Rattle.micromap_core.proofs.EntryLemmas.{vacant_written}
 use Rattle.micromap_core.proofs.entry.vacant.VacantIn+K+Map+K+V+N.insert.Goals as goal
-use Rattle.micromap_core.proofs.Lists.{slice_get_seam}
 
 -- the pair stands last, and its value is lent
 pub returns : goal.returns
@@ -13,11 +12,3 @@ returns g c =
     let new = record self.map { now = c.push_pair.new.self } in
     let written = vacant_written g.K.PartialEq.eq c.args.value new self c.len-index.result c.len-index.ensures.answer refl c.push_pair.ensures.pairs in
     ((refl, written.puts), record { writes_back = tt; answer = same_Some _ _ (sym c.value_at.ensures.value ∙ written.value) })
-
-pub len-index-requires : goal.len-index-requires
-len-index-requires g c = assumption
-
-pub value_at-requires : goal.value_at-requires
-value_at-requires g c =
-    let stands = slice_get_seam c.args.self.map.now (c.args.self.key, c.args.value) [] in
-    (assumption, rw (c.len-index.ensures.answer, c.push_pair.ensures.pairs) (slice_get_within _ _ _ stands))

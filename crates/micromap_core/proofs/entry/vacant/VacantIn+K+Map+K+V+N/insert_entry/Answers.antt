@@ -5,6 +5,3 @@ use Rattle.micromap_core.proofs.entry.vacant.VacantIn+K+Map+K+V+N.insert_entry.G
 pub returns : goal.returns
 returns g c =
     vacant_written g.K.PartialEq.eq c.args.value _ c.args.self c.len-index.result c.len-index.ensures.answer refl c.push_pair.ensures.pairs
-
-pub len-index-requires : goal.len-index-requires
-len-index-requires g c = assumption

@@ -1,30 +1,26 @@
-use Rattle.std.proofs.Common.{◌≡◌, true, [], get_or, ap, ◌∙◌, rules}
-use Rattle.std.proofs.lemmas.List.{take_all}
-use Rattle.micromap_core.specs.Build.{build, pair_fits, put_pair}
-use Rattle.micromap_core.proofs.BuildLemmas.{put_at, pairs_keyed, array_fits, array_fits_at}
+use Rattle.std.proofs.Common.{◌≡◌, [], ◌∷◌, ◌++◌, ◌+◌, get_or, take, refl, ap, sym, ◌∙◌, rules}
+use Rattle.std.proofs.lemmas.List.{take_all, take_more}
+use Rattle.micromap_core.proofs.BuildLemmas.{array_fits, pairs_keyed}
+use Rattle.micromap_core.proofs.Sizes.{columns_fit}
+use Rattle.micromap_core.proofs.StreamLemmas.{built_in_turn}
 use Rattle.micromap_core.proofs.map.build.MapFromArrayTuple2.from.Goals as goal
 
-pub insert-requires : goal.insert-requires
-insert-requires g c =
-    let l = c.loop-index in
-    let eq = g.K.PartialEq.eq in
-    let item = c.index-items-index.result in
-    let fit : pair_fits eq g.row.N l.map (get_or c.args.items l.index item) ≡ true = array_fits_at g.met.K.Eq.laws (pairs_keyed eq g.row.N) c.args.items (search rules) l.index item l.map c.loop-index-test.true l.invariant in
-    search rules
+pub push-requires : goal.push-requires
+push-requires g c =
+    (columns_fit g.row.K g.row.V g.row.N g.K.PartialEq.eq assumption, rw c.loop-index.invariant (search rules))
 
 pub loop-index-preserved : goal.loop-index-preserved
 loop-index-preserved g c =
-    let l = c.loop-index in
-    let eq = g.K.PartialEq.eq in
-    put_at (pair_fits eq g.row.N) (put_pair eq) [] c.args.items l.index c.index-items-index.result l.map (search rules) l.invariant _ c.insert.ensures.pairs
+    let index = c.loop-index.index in
+    let item = c.index-items-index.result in
+    let more : take (index + 1) c.args.items ≡ take index c.args.items ++ get_or c.args.items index item ∷ [] = take_more c.args.items index item (search rules) in
+    c.push.ensures ∙ ap (λ l. l ++ get_or c.args.items index item ∷ []) c.loop-index.invariant ∙ sym more
+
+pub invariant_of-result : goal.invariant_of-result
+invariant_of-result g c = rw (c.loop-index.invariant, take_all c.loop-index.index c.args.items (search rules)) (c.if-not-are_distinct.ensures refl)
 
 pub returns : goal.returns
 returns g c =
-    let eq = g.K.PartialEq.eq in
-    (c.loop-index.invariant ∙ ap (build eq) (take_all c.loop-index.index c.args.items (search rules)), array_fits g.met.K.Eq.laws (pairs_keyed eq g.row.N) c.args.items (search rules))
-
-pub new-map-requires : goal.new-map-requires
-new-map-requires g c = assumption
-
-pub loop-index-init : goal.loop-index-init
-loop-index-init g c = c.new-map.ensures
+    let laws = g.met.K.Eq.laws in
+    let pushed : c.loop-index.pairs ≡ c.args.items = c.loop-index.invariant ∙ take_all c.loop-index.index c.args.items (search rules) in
+    (pushed ∙ sym (built_in_turn laws [] c.args.items (c.if-not-are_distinct.ensures refl)), array_fits laws (pairs_keyed g.K.PartialEq.eq g.row.N) c.args.items (search rules))

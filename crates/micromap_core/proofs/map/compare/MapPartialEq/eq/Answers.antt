@@ -3,6 +3,3 @@ use Rattle.micromap_core.proofs.map.compare.MapPartialEq.eq.Goals as goal
 
 pub returns : goal.returns
 returns g c = both_ways c.eq_with.result _ c.eq_with.ensures.answer.0 c.eq_with.ensures.answer.1
-
-pub eq_with-requires : goal.eq_with-requires
-eq_with-requires g c = assumption

@@ -1,4 +1,4 @@
-use Rattle.std.proofs.Common.{Some, Ok, rules, length, ap, arith}
+use Rattle.std.proofs.Common.{Some, Ok, rules}
 use Rattle.std.specs.Fmt.{◌++?◌}
 use Rattle.std.proofs.Padding.{displays_at_plain}
 use Rattle.micromap_core.specs.Print.{pair_text, map_text}
@@ -38,9 +38,3 @@ pub returns-in_err-write_str : goal.returns-in_err-write_str
 returns-in_err-write_str g c =
     let failed = failed_styled g.W.Write.write_str_gives c.args.f.now _ _ _ c.from_residual.ensures.0 in
     record { styled = failed; writes = displays_at_plain g.W.Write.write_str_gives _ _ _ (map_text g.K.Display.output g.V.Display.output c.args.self.now) failed }
-
-pub into_iter-key-iterator-requires : goal.into_iter-key-iterator-requires
-into_iter-key-iterator-requires g c = assumption
-
-pub loop-key-smaller : goal.loop-key-smaller
-loop-key-smaller g c = omega (arith, ap length c.in-Some.ensures.steps)

@@ -9,9 +9,3 @@ into_capacity-requires g c =
 pub into_capacity-requires-2 : goal.into_capacity-requires-2
 into_capacity-requires-2 g c =
     (search rules, omega (arith, as_long _ _ _ c.self.invariant c.self.view_is, c.requires, c.self.invariant))
-
-pub invariant_of-result : goal.invariant_of-result
-invariant_of-result g c = rw (c.into_capacity.ensures, c.into_capacity-2.ensures) c.self.invariant
-
-pub returns : goal.returns
-returns g c = rw (c.into_capacity.ensures, c.into_capacity-2.ensures) c.self.view_is

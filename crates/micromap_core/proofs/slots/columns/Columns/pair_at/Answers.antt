@@ -1,15 +1,5 @@
-use Rattle.std.proofs.Common.{arith}
-use Rattle.micromap_core.proofs.Sizes.{keys_fit, values_fit}
-use Rattle.micromap_core.proofs.SlotsLemmas.{as_long, get_zip}
+use Rattle.micromap_core.proofs.SlotsLemmas.{get_zip}
 use Rattle.micromap_core.proofs.slots.columns.Columns.pair_at.Goals as goal
-
-pub item_at-requires : goal.item_at-requires
-item_at-requires g c =
-    (keys_fit g.row.K g.row.V g.row.N assumption, omega (arith, as_long _ _ _ c.self.invariant c.self.view_is, c.requires))
-
-pub item_at-requires-2 : goal.item_at-requires-2
-item_at-requires-2 g c =
-    (values_fit g.row.K g.row.V g.row.N assumption, omega (arith, as_long _ _ _ c.self.invariant c.self.view_is, c.requires, c.self.invariant))
 
 pub returns : goal.returns
 returns g c = rw (← c.self.view_is) (get_zip _ _ c.args.index _ _ c.item_at.ensures c.item_at-2.ensures)

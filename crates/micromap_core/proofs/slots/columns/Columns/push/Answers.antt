@@ -1,23 +1,5 @@
-use Rattle.micromap_core.proofs.Sizes.{keys_fit, values_fit}
-use Rattle.std.proofs.Common.{arith}
 use Rattle.micromap_walk.proofs.ZipLemmas.{zip_append}
-use Rattle.micromap_core.proofs.SlotsLemmas.{as_long, equal_push}
 use Rattle.micromap_core.proofs.slots.columns.Columns.push.Goals as goal
-
-pub push-requires : goal.push-requires
-push-requires g c =
-    (keys_fit g.row.K g.row.V g.row.N assumption, omega (arith, as_long _ _ _ c.self.invariant c.self.view_is, c.requires))
-
-pub push-requires-2 : goal.push-requires-2
-push-requires-2 g c =
-    (values_fit g.row.K g.row.V g.row.N assumption, omega (arith, as_long _ _ _ c.self.invariant c.self.view_is, c.requires, c.self.invariant))
 
 pub returns : goal.returns
 returns g c = rw (c.push.ensures, c.push-2.ensures, ← c.self.view_is) (zip_append _ _ _ _ c.self.invariant)
-
-pub hint_equal-requires : goal.hint_equal-requires
-hint_equal-requires g c =
-    omega (arith, as_long _ _ _ c.self.invariant c.self.view_is, c.self.invariant, c.len.ensures.answer, c.len-len.ensures.answer)
-
-pub invariant_of-self : goal.invariant_of-self
-invariant_of-self g c = rw (c.push.ensures, c.push-2.ensures) (equal_push _ _ c.args.key c.args.value c.self.invariant)

@@ -1,25 +1,8 @@
-use Rattle.micromap_core.proofs.Sizes.{keys_fit, values_fit}
-use Rattle.std.proofs.Common.{arith}
-use Rattle.micromap_core.proofs.SlotsLemmas.{as_long, equal_remove, get_zip, zip_remove}
+use Rattle.micromap_core.proofs.SlotsLemmas.{get_zip, zip_remove}
 use Rattle.micromap_core.proofs.slots.columns.Columns.remove.Goals as goal
-
-pub remove-key-requires : goal.remove-key-requires
-remove-key-requires g c =
-    (keys_fit g.row.K g.row.V g.row.N assumption, omega (arith, as_long _ _ _ c.self.invariant c.self.view_is, c.requires))
-
-pub remove-value-requires : goal.remove-value-requires
-remove-value-requires g c =
-    (values_fit g.row.K g.row.V g.row.N assumption, omega (arith, as_long _ _ _ c.self.invariant c.self.view_is, c.requires, c.self.invariant))
-
-pub invariant_of-self : goal.invariant_of-self
-invariant_of-self g c = rw (c.remove-key.ensures.items, c.remove-value.ensures.items) (equal_remove _ _ c.args.index c.self.invariant)
 
 pub returns : goal.returns
 returns g c = record {
   answer = rw (← c.self.view_is) (get_zip _ _ c.args.index _ _ c.remove-key.ensures.answer c.remove-value.ensures.answer);
   pairs = rw (c.remove-key.ensures.items, c.remove-value.ensures.items, ← c.self.view_is) (zip_remove _ _ c.args.index c.self.invariant);
 }
-
-pub hint_equal-requires : goal.hint_equal-requires
-hint_equal-requires g c =
-    omega (arith, as_long _ _ _ c.self.invariant c.self.view_is, c.self.invariant, c.len.ensures.answer, c.len-len.ensures.answer)

@@ -1,21 +1,9 @@
-use Rattle.std.proofs.Common.{length-set, Some, ap, sym, ◌∙◌, arith}
-use Rattle.micromap_core.proofs.Sizes.{keys_fit, values_fit}
-use Rattle.micromap_core.proofs.SlotsLemmas.{as_long, get_zip, set_zip}
+use Rattle.std.proofs.Common.{Some, ap, sym, ◌∙◌}
+use Rattle.micromap_core.proofs.SlotsLemmas.{get_zip, set_zip}
 use Rattle.micromap_core.proofs.slots.columns.Columns.replace_at.Goals as goal
-
-pub item_at_mut-requires : goal.item_at_mut-requires
-item_at_mut-requires g c =
-    (keys_fit g.row.K g.row.V g.row.N assumption, omega (arith, as_long _ _ _ c.self.invariant c.self.view_is, c.requires))
-
-pub item_at_mut-requires-2 : goal.item_at_mut-requires-2
-item_at_mut-requires-2 g c =
-    (values_fit g.row.K g.row.V g.row.N assumption, omega (arith, as_long _ _ _ c.self.invariant c.self.view_is, c.requires, c.self.invariant))
 
 pub returns : goal.returns
 returns g c = record {
   old = rw (← c.self.view_is) (get_zip _ _ c.args.index _ _ (c.item_at_mut.ensures.answer ∙ ap Some (sym c.replace.ensures.value)) (c.item_at_mut-2.ensures.answer ∙ ap Some (sym c.replace-2.ensures.value)));
   pairs = rw (c.replace.ensures.after, c.replace-2.ensures.after, ← c.self.view_is) (set_zip _ _ c.args.index c.args.key c.args.value c.self.invariant);
 }
-
-pub invariant_of-self : goal.invariant_of-self
-invariant_of-self g c = length-set _ _ _ ∙ c.self.invariant ∙ sym (length-set _ _ _)

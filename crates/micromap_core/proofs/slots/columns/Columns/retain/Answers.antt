@@ -1,12 +1,9 @@
-use Rattle.std.proofs.Common.{ℕ, ◌<◌, ◌≤◌, length, length-set, refl, ◌∙◌, arith}
+use Rattle.std.proofs.Common.{ℕ, ◌<◌, ◌≤◌, length, length-set, ◌∙◌, arith}
 use Rattle.micromap_core.proofs.ClosureLemmas.{retain_asks, keeps_next, drops_next, retain_ends}
 use Rattle.micromap_core.proofs.slots.columns.Columns.retain.Goals as goal
 
 below : {k i n : ℕ} → k ≤ i → i < n → k < n
 below behind within = omega arith
-
-pub loop-index-init : goal.loop-index-init
-loop-index-init g c = record { ready = c.requires; rest = λ more later. later; behind = omega arith; whole = refl }
 
 pub visit_at-requires : goal.visit_at-requires
 visit_at-requires g c =

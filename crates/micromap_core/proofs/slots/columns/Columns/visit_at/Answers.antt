@@ -1,21 +1,8 @@
-use Rattle.std.proofs.Common.{sym, length-set, ◌≡◌, Some, slice_get, refl, subst, ◌∙◌, arith}
+use Rattle.std.proofs.Common.{◌≡◌, Some, slice_get, refl, subst, ◌∙◌}
 use Rattle.std.specs.Option.{IfSome}
 use Rattle.micromap_core.specs.Closures.{AcceptsPair}
-use Rattle.micromap_core.proofs.Sizes.{keys_fit, values_fit}
-use Rattle.micromap_core.proofs.SlotsLemmas.{as_long, get_zip, set_value_zip}
+use Rattle.micromap_core.proofs.SlotsLemmas.{get_zip, set_value_zip}
 use Rattle.micromap_core.proofs.slots.columns.Columns.visit_at.Goals as goal
-
-pub hint_below-requires : goal.hint_below-requires
-hint_below-requires g c =
-    omega (arith, as_long _ _ _ c.self.invariant c.self.view_is, c.requires.within, c.self.invariant, c.len.ensures.answer)
-
-pub item_at-requires : goal.item_at-requires
-item_at-requires g c =
-    (keys_fit g.row.K g.row.V g.row.N assumption, omega (arith, as_long _ _ _ c.self.invariant c.self.view_is, c.requires.within))
-
-pub item_at_mut-requires : goal.item_at_mut-requires
-item_at_mut-requires g c =
-    (values_fit g.row.K g.row.V g.row.N assumption, omega (arith, as_long _ _ _ c.self.invariant c.self.view_is, c.requires.within, c.self.invariant))
 
 pub visit-requires : goal.visit-requires
 visit-requires g c =
@@ -33,6 +20,3 @@ returns g c =
       called = record { key = _; shows = refl; called = record { value = _; shows = refl; left = _; called = c.visit.ensures; leaves = refl } };
       pairs = rw (← c.self.view_is) (set_value_zip _ _ c.args.index c.visit.new.arg3 c.self.invariant ∙ rw here refl);
     }
-
-pub invariant_of-self : goal.invariant_of-self
-invariant_of-self g c = c.self.invariant ∙ sym (length-set _ _ _)

@@ -8,9 +8,3 @@ returns-in-None-clause-steps g c = rw (← c.self.view_is) (second_gives g.T.Par
 
 pub returns-in-None-clause-goes : goal.returns-in-None-clause-goes
 returns-in-None-clause-goes g c = progress deref (symmetric_left g.T.PartialEq.eq) (symmetric_on g.T.PartialEq.eq) _ _ _ (returns-in-None-clause-steps g c)
-
-pub next-requires : goal.next-requires
-next-requires g c = assumption
-
-pub next-requires-in-None : goal.next-requires-in-None
-next-requires-in-None g c = assumption
