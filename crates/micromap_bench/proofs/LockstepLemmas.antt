@@ -1,18 +1,14 @@
 -- The calls that are left to run lead two maps, and the answers so far, to the same end as all calls from the start.
-use Rattle.std.proofs.Common.{◌≡◌, ◌↔◌, ℕ, ◌+◌, ◌<◌, ◌≤◌, Bool, true, false, ◌&&◌, List, [], ◌∷◌, length, get_or, drop, map, IsTrue, refl, ap, sym, ◌∙◌}
+use Rattle.std.proofs.Common.{◌≡◌, ◌↔◌, ℕ, ◌+◌, ◌<◌, ◌≤◌, Bool, ◌&&◌, List, [], ◌∷◌, length, get_or, drop, map, IsTrue, refl, ap, sym, ◌∙◌}
 use Rattle.std.specs.Cmp.{IsEquivalence}
 use Rattle.std.specs.Cmp.Lexicographic.{pointwise}
-use Rattle.std.proofs.Math.Bool.{and-true}
+use Rattle.std.proofs.Math.Bool.{and_assoc, and-true}
 use Rattle.std.proofs.lemmas.List.{drop_all, drop_more}
 use Rattle.micromap.proofs.FairLemmas.{same_for_good}
 use Rattle.micromap.specs.Calls.{Call, answer, after, run, agree}
 use Rattle.micromap.specs.Fair.{IsFair, AnswersAgree}
 use Rattle.micromap.specs.Pairs.{IsUnique}
 use Rattle.micromap.specs.Same.{is_same, Same}
-
-and_assoc : (x y z : Bool) → ((x && y) && z) ≡ (x && (y && z))
-and_assoc true y z = refl
-and_assoc false y z = refl
 
 module _ {K V : Type 0} (eq : K → K → Bool) (same : V → V → Bool) (N M : ℕ) where
   -- from first and second on, with what agreed so far, the rest of the calls gives what all of them give from the start

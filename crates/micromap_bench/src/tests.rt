@@ -1,42 +1,16 @@
 //! Tests of what no contract says: the rows have their values, and a failed write ends a run.
 use super::{Call, lockstep, run_rows};
 use micromap::Map;
-use micromap_testing::Marked;
-use std::io::{self, Write};
-
-// A writer that counts its calls, and refuses one of them.
-#[derive(Drop)]
-struct Refusing {
-    refused: usize,
-    calls: usize,
-}
-
-impl Write for Refusing {
-    fn write(&mut self, buf: &[u8]) -> io::Result<usize> {
-        let number = self.calls;
-        self.calls = number.saturating_add(1);
-        if number == self.refused {
-            return Err(io::Error::from(io::ErrorKind::BrokenPipe));
-        }
-        Ok(buf.len())
-    }
-
-    fn flush(&mut self) -> io::Result<()> {
-        Ok(())
-    }
-}
+use micromap_testing::{Marked, Refusing};
 
 #[test]
 fn the_first_refused_write_ends_the_run(rt: HostRuntime) {
-    let mut willing = Refusing {
-        refused: usize::MAX,
-        calls: 0,
-    };
+    let mut willing = Refusing::new(usize::MAX);
     assert_eq!(rt; run_rows(rt.alloc(), &mut willing), 0);
-    for refused in 0..willing.calls {
-        let mut out = Refusing { refused, calls: 0 };
+    for refused in 0..willing.writes {
+        let mut out = Refusing::new(refused);
         assert_eq!(rt; run_rows(rt.alloc(), &mut out), 1, "at {refused}");
-        assert_eq!(rt; out.calls, refused.saturating_add(1), "at {refused}");
+        assert_eq!(rt; out.writes, refused.saturating_add(1), "at {refused}");
     }
 }
 

@@ -2,6 +2,5 @@
 
 mod hints;
 mod operations;
-mod popped;
 mod refused;
 mod set;

@@ -1,11 +1,16 @@
 //! What the tests and the programs beside the library share: a key whose `==` reads one of its fields, with two probes,
-//! and checks of a whole iterator, of a whole set and of a printed text.
+//! elements that count what is done with them, a writer that refuses a write, and checks of a whole iterator, of a
+//! whole set and of a printed text.
 #![tactic(auto)]
 
+mod counted;
 mod lists;
 mod marked;
+mod refusing;
 mod texts;
 
+pub use counted::{Counted, Counts, counted_map, counted_set, drops_all};
 pub use lists::{gives, holds};
 pub use marked::{Digit, Id, Marked};
+pub use refusing::Refusing;
 pub use texts::{debugs, displays};

@@ -15,18 +15,12 @@ pub(super) fn row_19() -> bool {
 // A comparison costs a look-up of each key, and nothing where the lengths differ.
 pub(super) fn row_32() -> bool {
     let map = Map::from([(1, 10), (2, 20), (3, 30)]);
-    compared(&map, &Map::from([(3, 30), (2, 20), (1, 10)])) == (true, 6)
-        && compared(&map, &Map::from([(1, 10), (2, 20)])) == (false, 0)
-}
-
-// Whether the two maps are the same, and what the comparison costs.
-fn compared<const N: usize, const M: usize>(
-    first: &Map<u8, u8, N>,
-    second: &Map<u8, u8, M>,
-) -> (bool, u128) {
-    // `len` ensures that the steps fit.
-    let _content = first.len();
+    let turned = Map::from([(3, 30), (2, 20), (1, 10)]);
+    let shorter = Map::from([(1, 10), (2, 20)]);
+    let longer = map.len() > shorter.len();
     let mut steps = Steps::new();
-    let same = first.eq_with_counted(second, &mut steps);
-    (same, steps.count())
+    let same = map.eq_with_counted(&turned, &mut steps);
+    let after_one = steps.count();
+    let different = !map.eq_with_counted(&shorter, &mut steps);
+    longer && same && after_one == 6 && different && steps.count() == 6
 }

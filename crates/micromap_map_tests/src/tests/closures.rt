@@ -148,3 +148,24 @@ fn a_closure_adds_up(rt: HostRuntime) {
     assert_eq!(rt; total, 60);
     assert!(rt; map.drain().eq([(1, 10), (2, 30), (3, 60)]));
 }
+
+// Writes two values at once, where their keys differ.
+fn write_both<const N: usize>(map: &mut Map<u8, u8, N>, first: u8, second: u8) -> [bool; 2] {
+    if first == second {
+        return [false; 2];
+    }
+    map.update_disjoint(&[first, second], |_, value| *value = 9)
+}
+
+#[test]
+fn keys_that_differ_are_written_at_once(rt: HostRuntime) {
+    let mut map = Map::from([(1, 10), (2, 20)]);
+    assert_eq!(rt; write_both(&mut map, 2, 2), [false, false]);
+    assert_eq!(rt; write_both(&mut map, 3, 2), [false, true]);
+    assert!(rt; map.drain().eq([(1, 10), (2, 9)]));
+    assert_eq!(rt; write_both(&mut map, 1, 2), [false, false]);
+    assert_eq!(rt;
+        write_both(&mut Map::<u8, u8, 0>::new(), 1, 2),
+        [false, false]
+    );
+}

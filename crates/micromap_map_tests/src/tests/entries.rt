@@ -8,7 +8,7 @@ ghost use Rattle.micromap.specs.Pairs.{at, fits, has, put, put_if_fits, take_out
 
 use micromap::Map;
 use micromap::map::{Entry, OccupiedEntry, VacantEntry};
-use micromap_testing::Marked;
+use micromap_testing::{Counted, Counts, Marked, counted_map};
 
 // Counts one more `letter`.
 fn count<const N: usize>(counts: &mut Map<char, i32, N>, letter: char)
@@ -52,7 +52,7 @@ fn overwrite_stored<K: Eq + Drop, const N: usize>(map: &mut Map<K, u8, N>, key: 
 }
 
 // Whether `key` is stored.
-pub(super) fn is_stored<K: Eq + Drop, V, const N: usize>(map: &mut Map<K, V, N>, key: K) -> bool
+fn is_stored<K: Eq + Drop, V, const N: usize>(map: &mut Map<K, V, N>, key: K) -> bool
     ensures answer { result ≡ has K.eq map.old key }
     ensures pairs { map.new ≡ map.old }
 {
@@ -239,4 +239,58 @@ fn a_vacant_entry_is_filled_and_goes_on(rt: HostRuntime) {
     let mut map: Map<char, u8, 1> = Map::new();
     assert_eq!(rt; insert_new_entry(&mut map, 'e', 5), Some(('e', 5)));
     assert_eq!(rt; insert_new_entry(&mut map, 'e', 6), None);
+}
+
+// Reads or makes a value by an entry, where it has room.
+fn read_or_put<const N: usize>(map: &mut Map<u8, u8, N>, key: u8, value: u8) -> Option<u8> {
+    let entry = map.entry(key);
+    if entry.has_room() {
+        Some(*entry.or_insert(value))
+    } else {
+        None
+    }
+}
+
+// Puts a pair with a new key by its entry, where it has room.
+fn put_new<const N: usize>(map: &mut Map<u8, u8, N>, key: u8, value: u8) -> bool {
+    match map.entry(key) {
+        Entry::Vacant(entry) => {
+            let has_room = entry.has_room();
+            if has_room {
+                entry.insert(value);
+            }
+            has_room
+        }
+        Entry::Occupied(_entry) => false,
+    }
+}
+
+#[test]
+fn an_entry_has_room_where_it_is_occupied_or_the_map_has(rt: HostRuntime) {
+    let mut map: Map<u8, u8, 1> = Map::new();
+    assert_eq!(rt; read_or_put(&mut map, 1, 10), Some(10));
+    assert_eq!(rt; read_or_put(&mut map, 1, 11), Some(10));
+    assert_eq!(rt; read_or_put(&mut map, 2, 20), None);
+    assert!(rt; !put_new(&mut map, 1, 11));
+    assert!(rt; !put_new(&mut map, 2, 20));
+    map.clear();
+    assert!(rt; put_new(&mut map, 2, 20));
+    assert!(rt; map.drain().eq([(2, 20)]));
+    let mut none: Map<u8, u8, 0> = Map::new();
+    assert_eq!(rt; read_or_put(&mut none, 1, 10), None);
+    assert!(rt; !put_new(&mut none, 1, 10));
+}
+
+#[test]
+fn an_entry_drops_its_key(rt: HostRuntime) {
+    let counts = Counts::new();
+    let mut map = counted_map([0, 1, 2], &counts);
+    let new = Counted::new(9, &counts);
+    assert!(rt; !is_stored(&mut map, new));
+    assert_eq!(rt; counts.drops.replace(0), 1);
+    let stored = Counted::new(1, &counts);
+    assert!(rt; is_stored(&mut map, stored));
+    assert_eq!(rt; counts.drops.replace(0), 1);
+    drop(map);
+    assert_eq!(rt; counts.drops.get(), 6);
 }

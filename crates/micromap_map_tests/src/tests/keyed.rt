@@ -1,12 +1,12 @@
-//! The keyed calls with a precondition, the calls by probe, and callers' proofs over a value written by reference and
-//! over what a look-up finds after an insertion and a removal.
+//! The keyed calls and the calls by probe: what they require, change and drop. Callers' proofs over a value written by
+//! reference and over what a look-up finds after an insertion and a removal.
 ghost use Rattle.std.specs.Prelude.{◌≡◌, Some, None, IsTrue, nat_eq, if◌then◌else◌};
 ghost use Rattle.std.specs.Map.{lookup};
 ghost use Rattle.micromap.specs.Pairs.{fits, has, put};
 ghost use Rattle.micromap.specs.Probe.{is_str};
 
 use micromap::{Map, Text};
-use micromap_testing::{Digit, Id, Marked, gives};
+use micromap_testing::{Counted, Counts, Digit, Id, Marked, counted_map, gives};
 use std::alloc::{AllocError, Global};
 
 // Writes `value` at a key that is there.
@@ -171,4 +171,165 @@ fn a_probe_that_matches_no_key_leaves_the_map(rt: HostRuntime) {
     assert!(rt; map.remove_entry_by(&Digit('3')).is_none());
     assert!(rt; gives(map.keys().map(|key| key.id), &[1, 2]));
     assert!(rt; gives(map.values(), &[&5, &6]));
+}
+
+#[test]
+fn a_key_comes_and_goes(rt: HostRuntime) {
+    let mut map: Map<u8, u8, 2> = Map::new();
+    assert_eq!(rt; map.checked_insert(1, 10), Some(None));
+    assert_eq!(rt; map.remove(&2), None);
+    assert_eq!(rt; map.remove(&1), Some(10));
+    assert_eq!(rt; map.remove(&1), None);
+    assert!(rt; map.is_empty());
+}
+
+#[test]
+fn a_cleared_map_is_empty(rt: HostRuntime) {
+    let mut map: Map<u8, u8, 2> = Map::new();
+    assert_eq!(rt; map.checked_insert(3, 30), Some(None));
+    assert_eq!(rt; map.checked_insert(4, 40), Some(None));
+    map.clear();
+    assert_eq!(rt; map.len(), 0);
+    assert_eq!(rt; map.get(&3), None);
+}
+
+#[test]
+fn the_pairs_behind_the_gap_move_up_with_key_and_value(rt: HostRuntime) {
+    let mut map = Map::from([(1, 10), (2, 20), (3, 30)]);
+    assert_eq!(rt; map.remove_entry(&1), Some((1, 10)));
+    assert!(rt; gives(map.iter(), &[(&2, &20), (&3, &30)]));
+    assert!(rt; gives(map.drain(), &[(2, 20), (3, 30)]));
+}
+
+#[test]
+fn capacity_0_holds_nothing(rt: HostRuntime) {
+    let mut map: Map<u8, u8, 0> = Map::default();
+    assert!(rt; map.get_key_value(&1).is_none());
+    assert!(rt; map.remove(&1).is_none());
+    assert!(rt; map.remove_entry(&1).is_none());
+    assert!(rt; map.eq_with(&Map::<u8, u8, 3>::new()));
+}
+
+#[test]
+fn a_probe_finds_nothing_at_capacity_0(rt: HostRuntime) {
+    let mut map: Map<&str, u8, 0> = Map::new();
+    assert!(rt; !map.contains_key_by(&Text("a")));
+    assert_eq!(rt; map.get_by(&Text("a")), None);
+    assert_eq!(rt; map.remove_entry_by(&Text("a")), None);
+}
+
+#[test]
+fn a_map_of_one_changes_its_key(rt: HostRuntime) {
+    let mut map: Map<u8, u8, 1> = Map::new();
+    assert_eq!(rt; map.checked_insert(1, 10), Some(None));
+    assert!(rt; map.fits(&1));
+    assert!(rt; !map.fits(&2));
+    assert_eq!(rt; map.checked_insert(2, 20), None);
+    assert_eq!(rt; map.checked_insert(1, 11), Some(Some(10)));
+    assert_eq!(rt; map.remove(&1), Some(11));
+    if map.fits(&2) {
+        let value = *map.entry(2).or_insert(20);
+        assert_eq!(rt; value, 20);
+    }
+    assert!(rt; !map.entry(3).has_room());
+    assert_eq!(rt; (map.get(&2), map.len()), (Some(&20), 1));
+}
+
+#[test]
+fn the_first_pair_is_taken_out(rt: HostRuntime) {
+    let mut map = Map::from([(3, 30), (1, 10), (2, 20)]);
+    assert!(rt; map.pop_first() == Some((3, 30)));
+    assert!(rt; map.get(&3).is_none());
+    map.checked_insert(3, 33);
+    assert!(rt; map.keys().eq(&[1, 2, 3]));
+    assert!(rt; map.pop_first() == Some((1, 10)));
+    assert!(rt; map.pop_first() == Some((2, 20)));
+    assert!(rt; map.pop_first() == Some((3, 33)));
+    assert!(rt; map.pop_first().is_none());
+    assert!(rt; map.is_empty());
+    let mut none: Map<u8, u8, 0> = Map::new();
+    assert!(rt; none.pop_first().is_none());
+}
+
+// Inserts a pair by each call that requires room, if there is some.
+#[tactic(auto, using(micromap_core::proofs::MapLaws::map_laws))]
+fn put<const N: usize>(map: &mut Map<u8, u8, N>, key: u8, value: u8) -> bool {
+    if !map.fits(&key) {
+        return false;
+    }
+    map.insert(key, value);
+    map.insert_unchecked(key, value);
+    map.insert_key_value(key, value);
+    true
+}
+
+#[test]
+fn a_pair_fits_where_its_key_is_there_or_there_is_room(rt: HostRuntime) {
+    let mut map: Map<u8, u8, 2> = Map::new();
+    assert!(rt; put(&mut map, 1, 10));
+    assert!(rt; put(&mut map, 2, 20));
+    assert!(rt; !put(&mut map, 3, 30));
+    assert!(rt; put(&mut map, 1, 11));
+    assert!(rt; map.drain().eq([(1, 11), (2, 20)]));
+    assert!(rt; put(&mut map, 3, 30));
+    let mut none: Map<u8, u8, 0> = Map::new();
+    assert!(rt; !put(&mut none, 1, 10));
+    assert!(rt; none.is_empty());
+}
+
+// Adds one to a value by index, where its key is there.
+fn raise<const N: usize>(map: &mut Map<u8, u8, N>, key: u8) -> Option<u8> {
+    if !map.contains_key(&key) {
+        return None;
+    }
+    let value = map.index_mut(&key);
+    *value = value.wrapping_add(1);
+    map.get(&key).copied()
+}
+
+#[test]
+fn an_index_is_a_key_that_is_there(rt: HostRuntime) {
+    let mut map = Map::from([(1, 10), (2, 20)]);
+    assert_eq!(rt; raise(&mut map, 2), Some(21));
+    assert_eq!(rt; raise(&mut map, 3), None);
+    map.clear();
+    assert_eq!(rt; raise(&mut map, 2), None);
+    assert_eq!(rt; raise(&mut Map::<u8, u8, 0>::new(), 2), None);
+}
+
+// Reads a value by index, where its name is there.
+fn read<const N: usize>(map: &Map<&str, u8, N>, name: &str) -> Option<u8> {
+    if map.contains_key_by(&Text(name)) {
+        Some(*map.index_by(&Text(name)))
+    } else {
+        None
+    }
+}
+
+#[test]
+fn an_index_is_a_text_that_is_there(rt: HostRuntime) {
+    let mut map = Map::from([("one", 1), ("two", 2)]);
+    assert_eq!(rt; read(&map, "two"), Some(2));
+    assert_eq!(rt; read(&map, "tw"), None);
+    map.clear();
+    assert_eq!(rt; read(&map, "two"), None);
+    assert_eq!(rt; read(&Map::<&str, u8, 0>::new(), ""), None);
+}
+
+#[test]
+fn a_call_drops_what_it_does_not_keep(rt: HostRuntime) {
+    let counts = Counts::new();
+    let mut map = counted_map([0, 1, 2], &counts);
+    // The new key, and the old value, which is returned.
+    map.checked_insert(Counted::new(1, &counts), Counted::new(1, &counts));
+    assert_eq!(rt; counts.drops.replace(0), 2);
+    // The pair that has no room.
+    map.checked_insert(Counted::new(9, &counts), Counted::new(9, &counts));
+    assert_eq!(rt; counts.drops.replace(0), 2);
+    map.retain(|key, _| key.id == 2);
+    assert_eq!(rt; counts.drops.replace(0), 4);
+    map.clear();
+    assert_eq!(rt; counts.drops.replace(0), 2);
+    drop(map);
+    assert_eq!(rt; counts.drops.get(), 0);
 }

@@ -1,10 +1,10 @@
-//! The iterators as a user writes them, and a caller's proof of a loop over a map.
+//! The iterators as a user writes them, what they drop, and a caller's proof of a loop over a map.
 ghost use Rattle.std.specs.Prelude.{◌≡◌, ◌<◌, ◌^◌, IfOk, IsOk, sum};
 ghost use Rattle.std.specs.Iterator.{size};
 ghost use Rattle.std.specs.Map.{values_of};
 
 use micromap::Map;
-use micromap_testing::gives;
+use micromap_testing::{Counted, Counts, counted_map, drops_all, gives};
 use std::alloc::AllocError;
 
 // The sum of all values.
@@ -180,4 +180,31 @@ fn a_drained_map_is_empty_at_once_and_has_all_its_room(rt: HostRuntime) {
         assert_eq!(rt; map.checked_insert(key, 0), Some(None));
     }
     assert!(rt; map.keys().eq(&[4, 5, 6]));
+}
+
+// A full map of three.
+fn counted(counts: &Counts) -> Map<Counted<'_>, Counted<'_>, 3> {
+    counted_map([0, 1, 2], counts)
+}
+
+#[test]
+fn a_walk_over_a_map_drops_what_it_owned(rt: HostRuntime) {
+    for items in 0..5 {
+        let counts = Counts::new();
+        assert!(rt; drops_all(counted(&counts).into_iter(), items, &counts, 6));
+        assert!(rt; drops_all(counted(&counts).into_keys(), items, &counts, 6));
+        assert!(rt; drops_all(counted(&counts).into_values(), items, &counts, 6));
+    }
+}
+
+#[test]
+fn a_drained_map_has_nothing_left_to_drop(rt: HostRuntime) {
+    for items in 0..5 {
+        let counts = Counts::new();
+        let mut map = counted(&counts);
+        assert!(rt; drops_all(map.drain(), items, &counts, 6));
+        map.checked_insert(Counted::new(9, &counts), Counted::new(9, &counts));
+        drop(map);
+        assert_eq!(rt; counts.drops.get(), 2);
+    }
 }

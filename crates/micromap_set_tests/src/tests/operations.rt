@@ -3,7 +3,7 @@ ghost use Rattle.std.specs.Prelude.{◌≡◌, ◌↔◌, ◌==◌, ◌%◌, ◌
 ghost use Rattle.micromap.specs.Operations.{difference, intersection, union};
 
 use micromap::{Overfull, Set};
-use micromap_testing::{Marked, holds};
+use micromap_testing::{Counted, Counts, Marked, counted_set, holds};
 use std::alloc::{AllocError, Global};
 
 // The sum of the numbers that are in either set: each of them is met once.
@@ -121,4 +121,34 @@ fn loops_and_chains(rt: HostRuntime) -> Result<(), AllocError> {
     }
     assert_eq!(rt; met, 1);
     Ok(())
+}
+
+// How many members each of the four operations has, of those that come first.
+fn members(first: &Set<Counted<'_>, 3>, second: &Set<Counted<'_>, 3>, most: usize) -> [usize; 4] {
+    [
+        first.difference(second).take(most).count(),
+        first.intersection(second).take(most).count(),
+        first.union(second).take(most).count(),
+        first.symmetric_difference(second).take(most).count(),
+    ]
+}
+
+// Whether the set has just the items of these ids, from the front.
+fn has_ids(set: &Set<Counted<'_>, 3>, ids: &[u8]) -> bool {
+    set.len() == ids.len() && set.iter().zip(ids).all(|(item, id)| item.id == *id)
+}
+
+#[test]
+fn an_operation_leaves_both_sets(rt: HostRuntime) {
+    let counts = Counts::new();
+    let first = counted_set([0, 1, 2], &counts);
+    let mut second = counted_set([0, 1, 2], &counts);
+    second.retain(|item| item.id != 1);
+    assert_eq!(rt; counts.drops.replace(0), 1);
+    assert_eq!(rt; members(&first, &second, 0), [0, 0, 0, 0]);
+    assert_eq!(rt; members(&first, &second, 1), [1, 1, 1, 1]);
+    assert_eq!(rt; members(&first, &second, 9), [1, 2, 3, 1]);
+    assert_eq!(rt; counts.drops.get(), 0);
+    assert!(rt; has_ids(&first, &[0, 1, 2]));
+    assert!(rt; has_ids(&second, &[0, 2]));
 }

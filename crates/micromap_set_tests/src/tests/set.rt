@@ -12,7 +12,7 @@ mod symmetric_difference;
 mod union;
 
 use micromap::{Overfull, Set, Text};
-use micromap_testing::{Digit, Id, Marked, gives, holds};
+use micromap_testing::{Counts, Digit, Id, Marked, counted_set, drops_all, gives, holds};
 use std::alloc::{AllocError, Global};
 
 // The small sets on which each operation is tried.
@@ -288,5 +288,58 @@ fn each_item_is_visited_once_in_turn(rt: HostRuntime) {
     ];
     for (items, kept) in visited {
         assert!(rt; retains(items, kept));
+    }
+}
+
+// Inserts an item by each call that requires room, if there is some.
+#[tactic(auto, using(micromap::proofs::SetLaws::set_laws))]
+fn put_item<const N: usize>(set: &mut Set<u8, N>, item: u8) -> bool {
+    if !set.fits(&item) {
+        return false;
+    }
+    set.insert(item);
+    set.insert_unchecked(item);
+    set.replace(item);
+    true
+}
+
+#[test]
+fn an_item_fits_where_it_is_there_or_there_is_room(rt: HostRuntime) {
+    let mut set: Set<u8, 2> = Set::new();
+    assert!(rt; put_item(&mut set, 1));
+    assert!(rt; put_item(&mut set, 2));
+    assert!(rt; !put_item(&mut set, 3));
+    assert!(rt; put_item(&mut set, 1));
+    assert!(rt; set.drain().eq([1, 2]));
+    assert!(rt; put_item(&mut set, 3));
+    let mut none: Set<u8, 0> = Set::new();
+    assert!(rt; !put_item(&mut none, 1));
+    assert!(rt; none.is_empty());
+}
+
+#[test]
+fn the_first_item_is_taken_out(rt: HostRuntime) {
+    let mut set = Set::from([3, 1, 2]);
+    assert!(rt; set.pop_first() == Some(3));
+    assert!(rt; !set.contains(&3));
+    set.checked_insert(3);
+    assert!(rt; set.iter().eq(&[1, 2, 3]));
+    assert!(rt; set.pop_first() == Some(1));
+    assert!(rt; set.pop_first() == Some(2));
+    assert!(rt; set.pop_first() == Some(3));
+    assert!(rt; set.pop_first().is_none());
+    assert!(rt; set.is_empty());
+}
+
+#[test]
+fn a_walk_over_a_set_drops_what_it_owned(rt: HostRuntime) {
+    for items in 0..5 {
+        let counts = Counts::new();
+        let mut set = counted_set([0, 1, 2], &counts);
+        assert!(rt; drops_all(set.drain(), items, &counts, 3));
+        drop(set);
+        assert_eq!(rt; counts.drops.get(), 0);
+        let set = counted_set([0, 1, 2], &counts);
+        assert!(rt; drops_all(set.into_iter(), items, &counts, 3));
     }
 }

@@ -53,7 +53,6 @@ fn distinct_items<const N: usize>(items: &[u8]) -> Option<Set<u8, N>>
         }
         set.insert(*item);
     }
-    let _content = set.len();
     Some(set)
 }
 

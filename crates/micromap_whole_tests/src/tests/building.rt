@@ -4,7 +4,7 @@ ghost use Rattle.std.specs.Vec.{vec_items};
 ghost use Rattle.micromap.specs.Build.{build, MisfitIn};
 
 use micromap::{Map, Overfull, Set};
-use micromap_testing::{debugs, displays, holds};
+use micromap_testing::{Counted, Counts, debugs, displays, holds};
 use std::alloc::AllocError;
 
 // The map of these items, or the place of the first that doesn't fit.
@@ -70,4 +70,13 @@ fn a_misfit_can_be_read(rt: HostRuntime) {
     assert!(rt; displays(rt.alloc(), &misfit, text));
     assert!(rt; debugs(rt.alloc(), &misfit, "Overfull { at: 3 }"));
     assert_eq!(rt; misfit, Overfull { at: 3 });
+}
+
+#[test]
+fn items_that_do_not_fit_are_dropped(rt: HostRuntime) {
+    let counts = Counts::new();
+    let items = [0, 1, 0, 2, 3].map(|id| Counted::new(id, &counts));
+    let set: Result<Set<Counted<'_>, 2>, _> = Set::try_from_iter(items.into_iter());
+    assert!(rt; set.is_err());
+    assert_eq!(rt; counts.drops.get(), 5);
 }

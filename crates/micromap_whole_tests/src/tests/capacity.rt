@@ -5,7 +5,7 @@ ghost use Rattle.micromap.specs.Pairs.{put};
 ghost use Rattle.micromap.specs.Same.{Same};
 
 use micromap::{Map, Set};
-use micromap_testing::holds;
+use micromap_testing::{Counts, counted_map, holds};
 
 // Puts the pair into a map of twice the capacity, which has all pairs of this one.
 fn outgrow<const N: usize, const M: usize>(
@@ -121,4 +121,36 @@ fn a_third_map_finds_no_difference(rt: HostRuntime) {
     assert_eq!(rt; is_same_in_8(other, &third), Some(false));
     let many = Map::from([1, 2, 3, 4, 5, 6, 7, 8, 9].map(|key| (key, key)));
     assert_eq!(rt; is_same_in_8(many, &third), None);
+}
+
+// A map of this capacity, where it is the type's.
+fn with_capacity<const N: usize>(capacity: usize) -> Option<Map<u8, u8, N>> {
+    if capacity == N {
+        Some(Map::with_capacity(capacity))
+    } else {
+        None
+    }
+}
+
+#[test]
+fn a_capacity_is_that_of_the_type(rt: HostRuntime) {
+    assert!(rt; with_capacity::<2>(2).is_some_and(|map| map.capacity() == 2));
+    assert!(rt; with_capacity::<2>(1).is_none());
+    assert!(rt; with_capacity::<2>(3).is_none());
+    assert!(rt; with_capacity::<0>(0).is_some_and(|map| map.is_empty()));
+}
+
+#[test]
+fn another_capacity_drops_nothing_by_itself(rt: HostRuntime) {
+    let counts = Counts::new();
+    let moved = counted_map([0, 1, 2], &counts).into_capacity::<4>();
+    assert!(rt; moved.is_ok());
+    assert_eq!(rt; counts.drops.get(), 0);
+    drop(moved);
+    assert_eq!(rt; counts.drops.replace(0), 6);
+    let refused = counted_map([0, 1, 2], &counts).into_capacity::<2>();
+    assert!(rt; refused.is_err());
+    assert_eq!(rt; counts.drops.get(), 0);
+    drop(refused);
+    assert_eq!(rt; counts.drops.replace(0), 6);
 }

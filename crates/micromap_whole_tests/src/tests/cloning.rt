@@ -4,7 +4,7 @@ ghost use Rattle.std.specs.List.{AllZip};
 ghost use Rattle.std.specs.String.{string_bytes};
 
 use micromap::{Map, Set};
-use micromap_testing::{displays, holds};
+use micromap_testing::{Counted, Counts, counted_set, displays, holds};
 use std::alloc::{AllocError, Global};
 
 // A copy of a map of numbers.
@@ -85,60 +85,35 @@ fn texts_are_cloned(rt: HostRuntime) -> Result<(), AllocError> {
     Ok(())
 }
 
-// A number that a broken one's clone lacks memory for.
-#[derive(Debug, Drop, PartialEq, Eq)]
-struct Brittle {
-    number: u8,
-    broken: bool,
-}
-
-impl Clone for Brittle {
-    ghost is_clone = { λ x y. y ≡ x };
-
-    fn clone(&self) -> Result<Self, AllocError> {
-        if self.broken {
-            return Err(AllocError);
-        }
-        Ok(Brittle {
-            number: self.number,
-            broken: false,
-        })
+// Keys with even ids, each with the value of the next.
+fn two_pairs(counts: &Counts) -> Map<Counted<'_>, Counted<'_>, 2> {
+    let mut map = Map::new();
+    for id in [0, 2] {
+        map.checked_insert(Counted::new(id, counts), Counted::new(id + 1, counts));
     }
+    map
 }
 
 #[test]
 fn a_clone_that_fails_leaves_the_map(rt: HostRuntime) {
-    for failing in 1..5 {
-        let mut map: Map<Brittle, Brittle, 2> = Map::new();
-        for number in [0, 2] {
-            let key = Brittle {
-                number,
-                broken: failing == number + 1,
-            };
-            let value = Brittle {
-                number: number + 1,
-                broken: failing == number + 2,
-            };
-            map.checked_insert(key, value);
-        }
+    for failing in 0..4 {
+        let counts = Counts::with_failing(failing);
+        let map = two_pairs(&counts);
         assert!(rt; matches!(map.clone(), Err(AllocError)));
+        assert_eq!(rt; counts.drops.get(), counts.clones.get());
         assert_eq!(rt; map.len(), 2);
-        assert!(rt; map.keys().map(|key| key.number).eq([0, 2]));
-        assert!(rt; map.values().map(|value| value.number).eq([1, 3]));
+        assert!(rt; map.keys().map(|key| key.id).eq([0, 2]));
+        assert!(rt; map.values().map(|value| value.id).eq([1, 3]));
     }
 }
 
 #[test]
 fn a_clone_that_fails_leaves_the_set(rt: HostRuntime) {
     for failing in 0..3 {
-        let mut set: Set<Brittle, 3> = Set::new();
-        for number in 0..3 {
-            set.checked_insert(Brittle {
-                number,
-                broken: failing == number,
-            });
-        }
+        let counts = Counts::with_failing(failing);
+        let set = counted_set([0, 1, 2], &counts);
         assert!(rt; matches!(set.clone(), Err(AllocError)));
-        assert!(rt; set.iter().map(|item| item.number).eq([0, 1, 2]));
+        assert_eq!(rt; counts.drops.get(), counts.clones.get());
+        assert!(rt; set.iter().map(|item| item.id).eq([0, 1, 2]));
     }
 }

@@ -1,15 +1,12 @@
 //! How many comparisons look-ups and comparisons of maps make, by their contracts and by items whose `==` counts.
-ghost use Rattle.std.specs.Prelude.{◌≡◌, ◌↔◌, nat_eq, IsTrue};
-ghost use Rattle.std.specs.Cmp.Rules.{comparing};
+ghost use Rattle.std.specs.Prelude.{◌≡◌, ◌↔◌, nat_eq, IfSome, IsTrue};
 ghost use Rattle.std.specs.Option.{option_copied};
-ghost use Rattle.std.specs.Ordering.{on};
-ghost use Rattle.std.proofs.Common.{rules};
 ghost use Rattle.micromap.specs.Pairs.{at};
 ghost use Rattle.micromap.specs.Same.{Same};
 ghost use Rattle.micromap.specs.Steps.{comparison_steps, look_up_steps};
 
-use micromap::{Map, Set, Steps};
-use std::cell::Cell;
+use micromap::{Map, Steps};
+use micromap_testing::{Counts, counted_set};
 
 // The value at a key, and the steps that the look-up takes.
 fn looked_up<const N: usize>(map: &Map<u8, u8, N>, key: u8) -> (Option<&u8>, u128)
@@ -77,53 +74,44 @@ fn a_comparison_stops_at_the_first_pair_that_fails(rt: HostRuntime) {
     );
 }
 
-// Equal by `id`; each comparison is counted in a cell.
-#[derive(Clone, Copy)]
-struct Tallied<'a> {
-    id: u8,
-    tally: &'a Cell<u32>,
-}
-
-impl PartialEq for Tallied<'_> {
-    ghost eq = { on (λ k. k.id) nat_eq };
-
-    ghost laws = { Prim.search (comparing, rules) };
-
-    fn eq(&self, other: &Tallied<'_>) -> bool {
-        self.tally.set(self.tally.get().wrapping_add(1));
-        self.id == other.id
-    }
-}
-
-impl Eq for Tallied<'_> {
-    ghost laws = { Prim.search (comparing, rules) };
-}
-
-// A set of these ids.
-fn set_of<const N: usize>(ids: [u8; N], tally: &Cell<u32>) -> Set<Tallied<'_>, N> {
-    let mut set = Set::new();
-    for id in ids {
-        set.checked_insert(Tallied { id, tally });
-    }
-    set
-}
-
 #[test]
 fn sets_are_compared_as_little_as_their_lengths_allow(rt: HostRuntime) {
-    let tally = Cell::new(0);
-    let two = set_of([4, 9], &tally);
-    let three = set_of([1, 2, 4], &tally);
-    let turned = set_of([4, 2, 1], &tally);
-    tally.set(0);
+    let counts = Counts::new();
+    let two = counted_set([4, 9], &counts);
+    let three = counted_set([1, 2, 4], &counts);
+    let turned = counted_set([4, 2, 1], &counts);
+    counts.comparisons.set(0);
     assert!(rt; !three.is_subset(&two));
     assert!(rt; !two.is_superset(&three));
     assert!(rt; !two.eq_with(&three));
     assert!(rt; !three.eq_with(&two));
-    assert_eq!(rt; tally.get(), 0);
+    assert_eq!(rt; counts.comparisons.get(), 0);
     assert!(rt; !two.is_disjoint(&three));
-    assert_eq!(rt; tally.replace(0), 3);
+    assert_eq!(rt; counts.comparisons.replace(0), 3);
     assert!(rt; !three.is_disjoint(&two));
-    assert_eq!(rt; tally.replace(0), 3);
+    assert_eq!(rt; counts.comparisons.replace(0), 3);
     assert!(rt; three.eq_with(&turned));
-    assert_eq!(rt; tally.replace(0), 6);
+    assert_eq!(rt; counts.comparisons.replace(0), 6);
+}
+
+// The value at a key, where the counter has room for the steps of the look-up.
+fn counted<'a, const N: usize>(
+    map: &'a Map<u8, u8, N>,
+    key: u8,
+    steps: &mut Steps,
+) -> Option<Option<&'a u8>>
+    ensures { IfSome result (λ found. option_copied found ≡ at nat_eq map.now key) }
+{
+    if steps.count() >= u128::MAX - map.len() as u128 {
+        return None;
+    }
+    Some(map.get_counted(&key, steps))
+}
+
+#[test]
+fn conditions_are_tested_by_the_counts(rt: HostRuntime) {
+    let map = Map::from([(1, 10), (2, 20)]);
+    let mut steps = Steps::new();
+    assert_eq!(rt; counted(&map, 2, &mut steps), Some(Some(&20)));
+    assert_eq!(rt; steps.count(), 2);
 }

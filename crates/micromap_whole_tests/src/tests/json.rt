@@ -3,8 +3,9 @@
 ghost use Rattle.std.specs.Prelude.{◌≡◌, ◌≤◌, length, IfOk, IfErr, MatchResult, string_bytes};
 ghost use Rattle.std.specs.Ordering.{int_eq};
 ghost use Rattle.std.specs.String.{string_eq};
-ghost use Rattle.micromap.specs.Json.{HasPairs, IsFault, Pairs, pairs_for, texts_of};
+ghost use Rattle.micromap.specs.Json.{HasPairs, IsFault, Pairs, pairs_for};
 ghost use Rattle.micromap.specs.Same.{Same};
+ghost use Rattle.micromap.specs.Texts.{item_texts};
 ghost use Rattle.micromap.specs.declared.json.JsonFault.TheVariants.{Memory};
 
 use micromap::json::{JsonFault, map_from_json, map_to_json, set_from_json, set_to_json};
@@ -38,7 +39,7 @@ fn set_by_text<const N: usize, const M: usize>(
     set: &Set<String, N>,
 ) -> Result<Set<String, M>, JsonFault>
     requires { length set.now ≤ M }
-    ensures { MatchResult result (λ new. texts_of new ≡ texts_of set.now) (λ fault. fault ≡ Memory) }
+    ensures { MatchResult result (λ new. item_texts new ≡ item_texts set.now) (λ fault. fault ≡ Memory) }
 {
     let text = set_to_json(alloc, set)?;
     set_from_json(alloc, text.as_str())

@@ -1,6 +1,7 @@
 //! Maps and sets written to sinks and read from sources, what stands after a fault of either, and a caller that is
 //! proved to read back what it wrote.
-ghost use Rattle.std.specs.Prelude.{◌≡◌, IfOk, IfSome, Some, None, if◌then◌else◌, length, nat_eq, nat_le};
+ghost use Rattle.std.specs.Prelude.{◌≡◌, ◌++◌, IfOk, IfSome, Some, None, if◌then◌else◌, length, nat_eq, nat_le};
+ghost use Rattle.std.specs.Bool.{OnTrue};
 ghost use Rattle.std.specs.Map.{keys_of};
 ghost use Rattle.micromap.specs.Extend.{distinct};
 
@@ -326,4 +327,19 @@ fn a_fault_says_whose_it_is(rt: HostRuntime) {
             "a pair has a new key, and there is no room for it"
         )
     );
+}
+
+// Writes the map if the sink may return one more error, and returns whether it was written.
+fn written<W: EntrySink<u8, u8>, const N: usize>(map: &Map<u8, u8, N>, sink: &mut W) -> bool
+    ensures { OnTrue result (W.taken sink.new ≡ W.taken sink.old ++ map.now) }
+{
+    sink.faults() < u128::MAX && map.write_entries(sink).is_ok()
+}
+
+#[test]
+fn a_sink_is_written_to_where_it_may_fail_once_more(rt: HostRuntime) {
+    let map = Map::from([(1, 10), (2, 20)]);
+    let mut sink = VecSink::new(rt.alloc());
+    assert!(rt; written(&map, &mut sink));
+    assert_eq!(rt; sink.entries(), [(1, 10), (2, 20)].as_slice());
 }

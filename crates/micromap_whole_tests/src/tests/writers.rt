@@ -1,32 +1,15 @@
 //! Printing to a writer that refuses each text in turn.
 use micromap::{Map, Set};
+use micromap_testing::Refusing;
 use std::fmt::{self, Write};
-
-// A writer that counts what it is given to write, and refuses one of these texts alone, counted from 0.
-#[derive(Drop)]
-struct Refusing {
-    refused: usize,
-    given: usize,
-}
-
-impl Write for Refusing {
-    fn write_str(&mut self, _text: &str) -> fmt::Result {
-        let position = self.given;
-        self.given = position.saturating_add(1);
-        if position == self.refused {
-            return Err(fmt::Error);
-        }
-        Ok(())
-    }
-}
 
 // How many texts the value is printed in, where a print ends with the first that is refused and returns its error.
 fn counted_texts<T: fmt::Display>(value: &T) -> Option<usize> {
     for refused in 0..100 {
-        let mut out = Refusing { refused, given: 0 };
+        let mut out = Refusing::new(refused);
         match write!(out, "{value}") {
-            Ok(()) if out.given == refused => return Some(refused),
-            Err(fmt::Error) if out.given == refused + 1 => {}
+            Ok(()) if out.writes == refused => return Some(refused),
+            Err(fmt::Error) if out.writes == refused + 1 => {}
             _ => return None,
         }
     }
