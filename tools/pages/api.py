@@ -6,6 +6,7 @@ from pages.sources import TYPES, Paths, anchor, link, parts, read, spec_of
 from pages.words import FORM_OF, FORMS, PLAIN
 
 API = "crates/micromap/API.md"
+GUIDES = ["crates/micromap/CALLING.md", "crates/micromap/PROVING.md"]  # the documents that name words for callers
 # The groups: those of a map and of a set, by the names of calls and traits, and the others, by calls and types.
 OF_EACH = {
     "make": "new with_capacity Default",
@@ -54,7 +55,7 @@ once the borrow ends: at the key, the value that was written last.
 |---|---|"""
 OWN_WORDS = """## Words
 
-Each word of this library has the module that it is imported from, as `ghost use \
+Each word of contracts and of the documents for callers has the module that it is imported from, as `ghost use \
 Rattle.micromap.specs.Pairs.{put};`, and the comment at its definition. Signs: `≡` is equality, `→` "if, then" or a function, `↔` "exactly if", `×` "and", `λ x. ..` a function of `x`. `[]` is the empty list, `x ∷ xs` the list `xs` with `x` before it, `++` joins two lists, `⊤` always holds, `ℕ` are the natural numbers.
 
 | Word | Module | Meaning |
@@ -229,12 +230,22 @@ class Api:
                     module = imports[word]
                     is_ours = f"pub use Rattle.{module}\n" in exported
                     modules[word] = module.replace("micromap_core", "micromap") if is_ours else module
+        modules |= dict(self.guided(exported))
         for path in dict.fromkeys(spec_of(it) for it in modules.values() if spec_of(it)):
             for module, names in re.findall(r"^use Rattle\.([\w.]+)\.\{([^}]*)\}", read(path), re.M):
                 modules |= {it: module for it in parts(names) if it in FORM_OF and it not in modules}
         unnamed = (it for it in FORM_OF if it[0] != "." and it not in modules)
         self.wrong += [f"tools/pages/words.py: no clause and no definition names {it}" for it in unnamed]
         return dict(sorted(modules.items(), key=lambda it: (it[0].lower(), it)))
+
+    def guided(self, exported):
+        """The modules of the words that the documents for callers import, or name by themselves."""
+        named = set(re.findall(r"`([\w-]+)[^`\n]*`", "".join(map(read, GUIDES))))
+        for crate, name in re.findall(r"^pub (?:mod|use Rattle\.(\w+)\.specs\.)\s*(\w+)$", exported, re.M):
+            module = f"micromap.specs.{name}"
+            kinds = r"(?:(?:abbrev|unfoldable) pub|pub (?:record|data))"
+            defined = re.findall(rf"^ *{kinds} ([\w-]+)(?= )", read(spec_of(module)), re.M)
+            yield from ((word, module) for word in defined if word in named)
 
     def meaning(self, path, word):
         """The last comment above the definition of a word: its own, or that of the words that it stands among."""

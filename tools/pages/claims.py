@@ -21,8 +21,8 @@ HEAD = """# Claims
 Made by `tools/documents` from the sources, from the edits and from what the gate said of them.
 
 Every clause is proved. An *edit* tests whether a clause says enough: it puts a wrong body in the place of the right \
-one, and the prover must refuse it. A row has the clauses that an edit is for, what is wrong in its body, and the goal at \
-which the gate refused it. An edit is a file in `must-fail/` of a crate. Some change lines of the proof too, so that \
+one, and the prover must refuse it. A row has the clauses that an edit is for, what is wrong in its body, and the first goal at \
+which the gate refused it; the same body may break others. An edit is a file in `must-fail/` of a crate. Some change lines of the proof too, so that \
 nothing but the clause refuses the body.
 
 In a goal's name `returns` is what holds at the return, and `returns-clause-pairs` is the clause `pairs` of it. \

@@ -4,6 +4,9 @@ import os
 import re
 
 
+NONE = "none could be judged"
+
+
 def place_of(said):
     """The goal and the file at which an edit was refused, by what is said of it. A long line is cut off in the goal."""
     path = re.search(r"\b(src|proofs|specs)/([\w/.+-]+):\d+:\d+:(.*)", said)
@@ -44,13 +47,14 @@ def plants_of(text, calls):
             call = calls.get((ends[1], path, *function_of(shown)))
             tried[call][kind].append(body or "")
         rows = [] if ends else rows
-    return {call: summary(kinds) for call, kinds in tried.items() if call}
+    found = {call: summary(kinds) for call, kinds in tried.items() if call}
+    return {call: it for call, it in found.items() if it != NONE or not tried[call]["not-run"]}
 
 
 def summary(kinds):
     """What came of the bodies that were tried on a call, in a few words."""
     passed, refused = kinds["proves"] + kinds["no-ensures"], sorted(kinds["refused"], key=lambda it: (len(it), it))
     said = ["let through: " + ", ".join(f"`{it}`" for it in passed)] if passed else []
-    said += [f"{len(refused)} refused, as `{refused[0]}`"] if refused else []
+    said += [f"{len(refused)} refused, as `{refused[0] or '{}'}`"] if refused else []
     said += ["only the right one could be judged"] if kinds["same"] and not said else []
-    return "; ".join(said) or "none could be judged"
+    return "; ".join(said) or NONE
