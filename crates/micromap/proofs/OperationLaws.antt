@@ -1,6 +1,6 @@
 -- The members of an operation on two lists of items are pairwise unequal. An operation that doesn't care which list is
 -- first has equal members if the lists change places. For callers: `same_members`.
-use Rattle.std.proofs.Common.{◌≡◌, ◌+◌, Bool, true, not, ◌&&◌, ◌||◌, ◌↔◌, List, [], ◌∷◌, length, filter, if◌then◌else◌, IsTrue, refl, ap, sym, subst, ◌∙◌, arith}
+use Rattle.std.proofs.Common.{◌≡◌, ◌+◌, Bool, true, false, not, ◌&&◌, ◌||◌, ◌↔◌, List, [], ◌∷◌, length, filter, if◌then◌else◌, IsTrue, refl, ap, sym, subst, ◌∙◌, arith}
 use Rattle.std.specs.Cmp.{IsEquivalence, both_ways, first_so, second_so}
 use Rattle.std.specs.Cmp.Derive.{both_true}
 use Rattle.std.specs.List.{IsDistinct, list_all}
@@ -14,7 +14,7 @@ use Rattle.std.proofs.lemmas.Map.Steps.{list_any_congr}
 use Rattle.std.specs.Set.{is_member}
 use Rattle.micromap_core.specs.Same.{have_equal_items}
 use Rattle.micromap_core.proofs.DistinctLemmas.{IsDistinct-append}
-use Rattle.micromap.specs.Operations.{difference, intersection, symmetric_difference, union, Commutes, HaveEquals}
+use Rattle.micromap.specs.Operations.{difference, intersection, symmetric_difference, union, Commutes, HaveEquals, IsDisjoint, IsSubset}
 use Rattle.micromap.proofs.OperationSteps.{length-parts}
 
 module _ {T : Type 0} {eq : T → T → Bool} (laws : IsEquivalence eq) where
@@ -103,3 +103,19 @@ module _ {T : Type 0} {eq : T → T → Bool} (laws : IsEquivalence eq) where
   -- a comparison's answer says the same
   pub members_answered : (xs ys : List T) (answer : Bool) → answer ≡ have_equal_items eq xs ys → IsTrue answer ↔ HaveEquals eq xs ys
   members_answered xs ys answer is = subst (λ b. IsTrue b ↔ HaveEquals eq xs ys) (sym is) (same_members xs ys)
+
+  is_member_apart : (xs ys : List T) → list_all (λ x. not (is_member eq ys x)) xs ≡ true → (q : T) → is_member eq xs q ≡ true → is_member eq ys q ≡ false
+  is_member_apart [] ys all q there = absurd (false≢true there)
+  is_member_apart (x ∷ xs) ys all q there = grind (arith, all, there, list_any_congr laws q x ys, is_member_apart xs ys)
+
+  apart_is_member : (xs ys : List T) → ((q : T) → is_member eq xs q ≡ true → is_member eq ys q ≡ false) → list_all (λ x. not (is_member eq ys x)) xs ≡ true
+  apart_is_member [] ys each = refl
+  apart_is_member (x ∷ xs) ys each =
+      both_true (ap not (each x (ap (λ b. b || is_member eq xs x) (laws.refl x)))) (apart_is_member xs ys (λ q there. each q (ap (λ b. eq q x || b) there ∙ or-true (eq q x))))
+
+  -- the answers of `is_subset` and `is_disjoint` say the same of every item
+  pub is_subset_answered : (xs ys : List T) (answer : Bool) → answer ≡ list_all (is_member eq ys) xs → IsTrue answer ↔ IsSubset eq xs ys
+  is_subset_answered xs ys answer is = rw is (λ all q there. is_member_within xs ys all q there, λ each. within_is_member xs ys each)
+
+  pub is_disjoint_answered : (xs ys : List T) (answer : Bool) → answer ≡ list_all (λ x. not (is_member eq ys x)) xs → IsTrue answer ↔ IsDisjoint eq xs ys
+  is_disjoint_answered xs ys answer is = rw is (λ all q there. is_member_apart xs ys all q there, λ each. apart_is_member xs ys each)

@@ -1,7 +1,7 @@
 -- The operations on two lists of items, which are compared by eq. For each operation there are its members, what its
 -- iterator has left after a call, and its hint.
 use Rattle.std.specs.Set.{is_member}
-use Rattle.std.specs.Prelude.{◌≡◌, ℕ, ◌+◌, ◌-◌, ◌^◌, min, Bool, not, List, [], ◌∷◌, ◌++◌, length, drop, filter, Option, Some, None, if◌then◌else◌, nat_lt}
+use Rattle.std.specs.Prelude.{◌≡◌, ℕ, ◌+◌, ◌-◌, ◌^◌, min, Bool, not, List, [], ◌∷◌, ◌++◌, length, drop, filter, Option, Some, None, if◌then◌else◌, nat_lt, IsTrue, IsFalse}
 use Rattle.std.specs.Iterator.{YieldsFirstBy}
 use Rattle.std.specs.Iterator.Runs.{YieldsRefsInOrder}
 use Rattle.std.specs.List.{after_first}
@@ -47,6 +47,14 @@ module _ {T : Type 0} (eq : T → T → Bool) where
   -- each item has an equal one in xs where it has one in ys, and the other way round
   abbrev pub HaveEquals : List T → List T → Type 0
   HaveEquals xs ys = (x : T) → is_member eq xs x ≡ is_member eq ys x
+
+  -- each item that has an equal one in xs has one in ys
+  abbrev pub IsSubset : List T → List T → Type 0
+  IsSubset xs ys = (x : T) → IsTrue (is_member eq xs x) → IsTrue (is_member eq ys x)
+
+  -- no item has an equal one in both
+  abbrev pub IsDisjoint : List T → List T → Type 0
+  IsDisjoint xs ys = (x : T) → IsTrue (is_member eq xs x) → IsFalse (is_member eq ys x)
 
   -- with the two lists turned round, the operation has equal members
   abbrev pub Commutes : (List T → List T → List T) → List T → List T → Type 0

@@ -163,6 +163,14 @@ keys_in_order T f pairs kept retains =
     let is = retained_keys (λ s k b t. Unit {0}) (λ s. s) (λ s k v b w t called. tt {0}) f pairs kept retains in
     (is.0, is.4)
 
+-- `update_all` leaves the keys as they were
+pub keys_updated : {F K V R : Type 0} {g : Mut F (Bor K × (MutBor V × Unit {0})) (R × (MutBor V × Unit {0}))} {f : F} {pairs new : List (K × V)} → UpdatesAll g f pairs new → keys_of new ≡ keys_of pairs
+keys_updated {F = F} {K = K} {V = V} {g = g} {f = f} {pairs = pairs} {new = new} updates =
+    chained_keeps {P = F × List (K × V)} (UpdateAllTurn g) (λ done s. keys_of s.1 ≡ keys_of done) more pairs (f, []) (updates.last, new) refl updates.turns
+  where
+    more : (done : List (K × V)) (s : F × List (K × V)) (p : K × V) (t : F × List (K × V)) → keys_of s.1 ≡ keys_of done → UpdateAllTurn g s p t → keys_of t.1 ≡ keys_of (done ++ p ∷ [])
+    more done s p t before turn = ap keys_of turn.3 ∙ map_push (λ e. e.0) s.1 turn.1 ∙ (λ i. before i ++ turn.2.1 i ∷ []) ∙ sym (map_push (λ e. e.0) done p)
+
 -- `update_all` by a function of key and value
 pub updated_by : {F K V R : Type 0} {g : Mut F (Bor K × (MutBor V × Unit {0})) (R × (MutBor V × Unit {0}))} {f : F} {pairs new : List (K × V)} (h : K → V → V) → UpdatesAll g f pairs new → ((k : K) (v : V) (r : R) (w : V) (t : F) → CalledOnPair g f k v r w t → (w ≡ h k v) × (t ≡ f)) → new ≡ map (λ p. (p.0, h p.0 p.1)) pairs
 updated_by {F = F} {K = K} {V = V} {g = g} {f = f} {pairs = pairs} {new = new} h updates pure =

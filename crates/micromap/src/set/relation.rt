@@ -2,7 +2,7 @@
 ghost use Rattle.std.specs.Prelude.{◌≡◌, ◌↔◌, [], not, IsTrue};
 ghost use Rattle.std.specs.List.{list_all};
 ghost use Rattle.std.specs.Set.{is_member};
-ghost use Rattle.micromap.specs.Operations.{difference, intersection};
+ghost use Rattle.micromap.specs.Operations.{difference, intersection, IsDisjoint, IsSubset};
 
 use super::Set;
 
@@ -13,6 +13,7 @@ impl<T: Eq, const N: usize> Set<T, N> {
     /// that has no equal one.
     pub fn is_subset<const M: usize>(&self, other: &Set<T, M>) -> bool
         ensures answer { result ≡ list_all (is_member T.eq other.now) self.now }
+        ensures members { IsTrue result ↔ IsSubset T.eq self.now other.now }
         ensures nothing_beyond { IsTrue result ↔ (difference T.eq self.now other.now ≡ []) }
     {
         // With fewer items in `other`, not each of these can have an equal one.
@@ -24,7 +25,8 @@ impl<T: Eq, const N: usize> Set<T, N> {
 
     /// Returns `true` if each item of `other` has an equal one in this set. It is `other.is_subset(self)`.
     pub fn is_superset<const M: usize>(&self, other: &Set<T, M>) -> bool
-        ensures { result ≡ list_all (is_member T.eq self.now) other.now }
+        ensures answer { result ≡ list_all (is_member T.eq self.now) other.now }
+        ensures members { IsTrue result ↔ IsSubset T.eq other.now self.now }
     {
         other.is_subset(self)
     }
@@ -36,6 +38,7 @@ impl<T: Eq, const N: usize> Set<T, N> {
     pub fn is_disjoint<const M: usize>(&self, other: &Set<T, M>) -> bool
         ensures answer { result ≡ list_all (λ x. not (is_member T.eq other.now x)) self.now }
         ensures turned { result ≡ list_all (λ x. not (is_member T.eq self.now x)) other.now }
+        ensures members { IsTrue result ↔ IsDisjoint T.eq self.now other.now }
         ensures nothing_common { IsTrue result ↔ (intersection T.eq self.now other.now ≡ []) }
     {
         if self.len() <= other.len() {

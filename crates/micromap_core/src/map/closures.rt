@@ -35,6 +35,7 @@ impl<K: Eq, V, const N: usize> Map<K, V, N> {
     pub fn update_all<F: FnMut(&K, &mut V)>(&mut self, mut update: F)
         requires { MayUpdateAll F.FnMut update self.old }
         ensures pairs { UpdatesAll F.FnMut update self.old self.new }
+        ensures same_keys { keys_of self.new ≡ keys_of self.old }
         ensures content { AreContents K.eq N self.old self.new }
     {
         for index in 0..self.len() {
@@ -64,6 +65,7 @@ impl<K: Eq, V, const N: usize> Map<K, V, N> {
         requires callable { MayUpdateDisjoint K.eq F.FnMut update self.old keys.now }
         ensures answer { result ≡ map (has K.eq self.old) keys.now }
         ensures pairs { UpdatesDisjoint K.eq F.FnMut update self.old keys.now self.new }
+        ensures same_keys { keys_of self.new ≡ keys_of self.old }
         ensures content { AreContents K.eq N self.old self.new }
     {
         let _content = self.len();

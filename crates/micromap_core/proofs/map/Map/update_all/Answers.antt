@@ -1,5 +1,5 @@
 use Rattle.std.proofs.Common.{arith}
-use Rattle.micromap_core.proofs.ClosureLemmas.{asks_next, updates_next, update_ends}
+use Rattle.micromap_core.proofs.ClosureLemmas.{asks_next, keys_updated, updates_next, update_ends}
 use Rattle.micromap_core.proofs.map.Map.update_all.Goals as goal
 
 pub visit_at-requires : goal.visit_at-requires
@@ -11,4 +11,5 @@ loop-index-preserved g c = updates_next g.F.FnMut c.args.update c.args.self.now 
 pub returns : goal.returns
 returns g c =
     let at = c.loop-index.invariant in
-    record { pairs = update_ends g.F.FnMut c.args.update c.args.self.now _ _ _ at (omega arith); content = (c.len-index-end.ensures.content, c.len-after.ensures.content) }
+    let pairs = update_ends g.F.FnMut c.args.update c.args.self.now _ _ _ at (omega arith) in
+    record { pairs = pairs; same_keys = keys_updated pairs; content = (c.len-index-end.ensures.content, c.len-after.ensures.content) }

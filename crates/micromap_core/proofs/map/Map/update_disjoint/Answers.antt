@@ -25,4 +25,4 @@ loop-position-preserved g c =
 pub returns : goal.returns
 returns g c =
     let end = update_keys_end g.K.PartialEq.eq g.F.FnMut c.args.update c.args.self.now c.args.keys.now _ _ _ _ c.loop-position.invariant (search rules) in
-    record { answer = end.0; pairs = end.1; content = (c.len-content.ensures.content, c.len-after.ensures.content) }
+    record { answer = end.0; pairs = end.1; same_keys = c.loop-position.invariant.same_keys; content = (c.len-content.ensures.content, c.len-after.ensures.content) }
