@@ -63,7 +63,8 @@ class Claims:
         crates = sorted({it.split("/")[1] for it in paths} - {*LIBRARY})
         every = [*api.sources.clauses(), *(it for crate in crates for it in Sources([crate]).clauses())]
         self.clauses = {it.name: it for it in reversed(every)}
-        self.edits = [edit_of(it, self.clauses, wrong) for it in paths]
+        self.required = {it.name: it for it in api.sources.clauses(required=True)}
+        self.edits = [edit_of(it, self.required | self.clauses, wrong) for it in paths]
         page = read(CLAIMS) if os.path.exists(CLAIMS) else ""
         goals = re.findall(r"^\|.*\| \[.*\]\(\.\./(\S+\.edit)\) \| (.+) \|$", page, re.M)
         tried = re.findall(r"^\| \[`(.+?)`\].*\|.*\| (.+) \|$", page.partition(f"\n## {WITHOUT}\n")[2], re.M)
@@ -95,14 +96,15 @@ class Claims:
 
     def stated(self, name):
         """A clause as its contract states it."""
-        clause = self.clauses.get(name)
-        label = name[len(clause.call) + 2 :] if clause else ""
+        required, clause = name not in self.clauses, self.clauses.get(name) or self.required.get(name)
+        label = "requires " * required + name[len(clause.call) + 2 :] if clause else ""
         return f"`{f'{label} {{ {clause.text} }}'.lstrip()}`".replace("|", "\\|") if clause else ""
 
     def row(self, edit):
         cells = []
         for call, names in edit.claims:
-            cells += [self.linked(call, self.clauses.get(names[0])), *map(self.stated, names)]
+            clause = self.clauses.get(names[0]) or self.required.get(names[0])
+            cells += [self.linked(call, clause), *map(self.stated, names)]
         wrong = f"[{edit.wrong[:1].upper()}{edit.wrong[1:]}](../{edit.path})"
         return f"| {'<br>'.join(cells)} | {wrong} | {self.goals.get(edit.path) or UNKNOWN} |"
 

@@ -107,16 +107,17 @@ class Sources:
         is_bare = item.kind != "fn" or crate in LIBRARY or module in ("lib", "main")
         return ("" if is_bare else f"{module}::") + item.name + " of a set" * item.path.endswith("set/walk.rt")
 
-    def clauses(self):
-        """Each public clause. A ghost member of an impl is a clause of it, and a law of a trait is one of the trait."""
+    def clauses(self, required=False):
+        """Each public clause that is ensured, or each that is required. A ghost member of an impl is a clause of it, and a
+        law of a trait is one of the trait."""
         for it in self.items:
             if it.trait == "Model" or (self.owner(it) not in self.types and it.kind != "fn"):
                 continue
             states = [(self.call(it), name, text) for _, name, _, text in it.ghosts if not name.startswith("can_")]
-            states = states if it.kind != "trait" else [one for one in states if "≡" in one[2]]
+            states = [one for one in states if not required and (it.kind != "trait" or "≡" in one[2])]
             for function in it.functions:
-                ensured = ((label, text) for kind, label, text in function.clauses if kind != "requires")
-                named = ((label or function.name * bool(it.trait), text) for label, text in ensured)
+                wanted = ((label, text) for kind, label, text in function.clauses if (kind == "requires") == required)
+                named = ((label or function.name * bool(it.trait), text) for label, text in wanted)
                 states += [(self.call(it, function), *one) for one in named]
             yield from (Clause(call, f"{call}: {name}".removesuffix(": "), text, it) for call, name, text in states)
 

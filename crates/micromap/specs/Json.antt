@@ -84,7 +84,7 @@ texts_for N text = and_then (ok_or (read text) BadText) (λ value. and_then (ok_
 abbrev pub IsFault : {X : Type 0} → Result X JsonFault → JsonFault → Type 0
 IsFault reading fault = (fault ≡ Memory) ⊎ (reading ≡ Err fault)
 
--- the text's object has just these pairs
+-- the text is an object of at most N members with whole numbers, which has just these pairs, in whatever order
 abbrev pub HasPairs : ℕ → Bytes → Pairs → Type 0
 HasPairs N text pairs = (members : List (Bytes × ℤ)) × (pairs_for N text ≡ Ok members) × Same bytes_eq int_eq members (key_texts pairs)
 

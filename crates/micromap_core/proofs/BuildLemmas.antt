@@ -153,6 +153,10 @@ module _ {C X K : Type 0} {eq : K → K → Bool} (laws : IsEquivalence eq) {N :
   pub many_prefix : (items : List X) → IsTrue (not (each_fits fits put empty items)) → N < count items
   many_prefix items misfit = leb-false _ N (sym (all_fit-count items) ∙ not-true _ misfit)
 
+  -- the same of items that end with the first that doesn't fit
+  pub many_taken : (items : List X) (position n : ℕ) → n ≡ length items → n ≡ position + 1 → IsTrue (not (each_fits fits put empty (take (position + 1) items))) → N < count items
+  many_taken items position n long last misfit = subst (λ l. N < count l) (take_all (position + 1) items (omega (arith, long, last))) (many_prefix (take (position + 1) items) misfit)
+
   -- which stand behind as many as there is room for
   pub full_at : (items : List X) (position : ℕ) → IsTrue (not (each_fits fits put empty (take (position + 1) items))) → N ≤ position
   full_at items position misfit =

@@ -27,6 +27,7 @@ pub fn map_from_json<const N: usize>(
     text: &str,
 ) -> Result<Map<String, i64, N>, JsonFault>
     ensures pairs { IfOk result (HasPairs N text.now) }
+    ensures order { IfOk result (λ map. pairs_for N text.now ≡ Ok (key_texts map)) }
     ensures fault { IfErr result (IsFault (pairs_for N text.now)) }
     ensures memory { IfErr result (λ fault. fault ≡ Memory → 0 < length text.now) }
     ensures again { (pairs : Pairs) → HasPairs N text.now pairs

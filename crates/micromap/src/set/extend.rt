@@ -1,7 +1,8 @@
 //! Building a set from an array or an iterator, and extending it. Of equal items the first is stored. Items are in the
 //! order in which they first came.
-ghost use Rattle.std.specs.Prelude.{◌≡◌, ◌≤◌, [], length, IfOk, OnOk, IfErr, OnErr, IsTrue};
+ghost use Rattle.std.specs.Prelude.{◌≡◌, ◌<◌, ◌≤◌, [], length, IfOk, OnOk, IfErr, OnErr, IsTrue};
 ghost use Rattle.std.specs.Iterator.{UpTo};
+ghost use Rattle.std.specs.Set.{distinct_count};
 ghost use Rattle.micromap.specs.Build.{most_items, AllItems, ItemsUpTo};
 ghost use Rattle.micromap.specs.Extend.{all_items_fit, distinct, ItemMisfitIn, PutsAllItems, PutsItemsBefore};
 ghost use Rattle.micromap.specs.Items.{AreItems, IsItems, put_item_if_fits, item_fits};
@@ -67,6 +68,9 @@ impl<T: Eq + Drop, const N: usize> Set<T, N> {
         requires ends { UpTo (I.remaining items) most_items }
         ensures runs { IfOk result (λ set. AllItems I.next_gives items (PutsAllItems T.eq N [] set)) }
         ensures stops { IfErr result (ItemsUpTo I.next_gives items (ItemMisfitIn T.eq N [])) }
+        ensures few { OnOk result (AllItems I.next_gives items (λ taken. distinct_count T.eq taken ≤ N)) }
+        ensures many { IfErr result
+            (ItemsUpTo I.next_gives items (λ taken _. N < distinct_count T.eq taken)) }
         ensures full { IfErr result (λ e. N ≤ e.at) }
         ensures content { IfOk result (IsItems T.eq N) }
     {

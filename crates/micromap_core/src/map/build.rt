@@ -1,7 +1,9 @@
 //! Building a map from an array or an iterator, and extending it. Keys are in the order in which they first came. Each
 //! key has the value of its last item.
-ghost use Rattle.std.specs.Prelude.{◌≡◌, ◌≤◌, [], length, IsTrue, IfOk, OnOk, IfErr, OnErr};
+ghost use Rattle.std.specs.Prelude.{◌≡◌, ◌<◌, ◌≤◌, [], length, IsTrue, IfOk, OnOk, IfErr, OnErr};
 ghost use Rattle.std.specs.Iterator.{UpTo};
+ghost use Rattle.std.specs.Map.{keys_of};
+ghost use Rattle.std.specs.Set.{distinct_count};
 ghost use Rattle.micromap_core.specs.Build.{all_fit, build, most_items, AllItems, ItemsUpTo, MisfitIn, PutsAll, PutsBefore};
 ghost use Rattle.micromap_core.specs.Pairs.{AreContents, IsContent, IsUnique};
 
@@ -120,6 +122,10 @@ impl<K: Eq + Drop, V: Drop, const N: usize> Map<K, V, N> {
         requires ends { UpTo (I.remaining items) most_items }
         ensures runs { IfOk result (λ map. AllItems I.next_gives items (PutsAll K.eq N [] map)) }
         ensures stops { IfErr result (ItemsUpTo I.next_gives items (MisfitIn K.eq N [])) }
+        ensures few { OnOk result
+            (AllItems I.next_gives items (λ taken. distinct_count K.eq (keys_of taken) ≤ N)) }
+        ensures many { IfErr result
+            (ItemsUpTo I.next_gives items (λ taken _. N < distinct_count K.eq (keys_of taken))) }
         ensures full { IfErr result (λ e. N ≤ e.at) }
         ensures content { IfOk result (IsContent K.eq N) }
     {
