@@ -25,7 +25,8 @@ use std::marker::Model;
 /// A map of at most `N` pairs with pairwise unequal keys, which are found by `==`, from the front.
 ///
 /// A contract sees it as the list of its pairs, from front to end. All `N` slots are part of the value, so no call
-/// allocates memory of its own. A *scan* compares the keys from the front, each at most once.
+/// allocates memory of its own. A *scan* compares the keys from the front, each at most once. How many keys are compared
+/// is proved of `get_counted` and `eq_with_counted` alone.
 #[derive(Drop)]
 pub struct Map<K: Eq, V, const N: usize> {
     pairs: Columns<K, V, N>,
@@ -66,8 +67,8 @@ impl<K: Eq, V, const N: usize> Map<K, V, N> {
     /// Returns the number of pairs.
     ///
     /// The clause `content` states three facts of the map: no two keys are equal, there are at most `N` pairs, and the
-    /// equality of keys is lawful (reflexive, symmetric and transitive). A call that changes a map states them of the
-    /// map before and after it.
+    /// equality of keys is lawful (reflexive, symmetric and transitive). A call of a map that changes it states them of
+    /// the map before and after.
     #[inline]
     pub fn len(&self) -> usize
         ensures answer { result ≡ length self.now }
