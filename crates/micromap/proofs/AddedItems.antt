@@ -1,11 +1,10 @@
 -- A list of pairwise unequal items, or the list of their clones, is put into a set item by item. Each item is new, and
 -- goes last.
-use Rattle.std.proofs.Common.{◌≡◌, ℕ, All, ◌<◌, ◌≤◌, Bool, true, false, ◌||◌, List, [], ◌∷◌, ◌++◌, length, get_or, IsTrue, refl, ap, sym, subst, ◌∙◌, append_assoc, arith}
+use Rattle.std.proofs.Common.{◌≡◌, ℕ, All, ◌<◌, ◌≤◌, Bool, true, false, ◌||◌, List, [], ◌∷◌, ◌++◌, length, get_or, IsTrue, refl, ap, sym, subst, ◌∙◌, append_assoc, arith, append-nil, length-append, lt-ltb}
 use Rattle.std.specs.Cmp.{IsEquivalence}
 use Rattle.std.specs.List.{AllZip, IsDistinct}
 use Rattle.std.specs.Set.{is_member, ClonesAreEqual}
 use Rattle.std.proofs.Math.Seq.{get_or-append_seam}
-use Rattle.std.proofs.lemmas.List.{append-nil, length-append}
 use Rattle.std.proofs.lemmas.List.Elements.{AllZip-push, length_all_zip}
 use Rattle.std.specs.Map.{keys_of}
 use Rattle.micromap_core.proofs.DistinctLemmas.{new_behind}
@@ -17,7 +16,6 @@ use Rattle.micromap.proofs.EntryItems.{keys_of-entries}
 use Rattle.micromap.proofs.ItemLemmas.{keys_put_all_items}
 use Rattle.micromap.proofs.SetLaws.{put_item_new}
 use Rattle.std.proofs.Math.Bool.{or-true}
-use Rattle.std.proofs.lemmas.Bool.{lt-ltb}
 
 -- with room each item fits
 pub fits_room : {T : Type 0} (eq : T → T → Bool) (N : ℕ) (items : List T) (x : T) → length items < N → IsTrue (item_fits eq N items x)
@@ -42,33 +40,33 @@ module _ {T : Type 0} {eq : T → T → Bool} (laws : IsEquivalence eq) where
 
 -- of the members, these are left; the clones of those before them are the set
 pub record ClonesTo {T : Type 0} (C : T → T → Type 0) (members left set : List T) : Type 0 where
-  pub given : List T
-  pub split : given ++ left ≡ members
-  pub clones : AllZip C given set
+  pub before : List T
+  pub split : before ++ left ≡ members
+  pub clones : AllZip C before set
 
 pub clones_end : {T : Type 0} {C : T → T → Type 0} {members left set : List T} → ClonesTo C members left set → left ≡ [] → AllZip C members set
-clones_end {C = C} {set = set} c none = subst (λ l. AllZip C l set) (sym (append-nil c.given) ∙ ap (λ l. c.given ++ l) (sym none) ∙ c.split) c.clones
+clones_end {C = C} {set = set} c none = subst (λ l. AllZip C l set) (sym (append-nil c.before) ∙ ap (λ l. c.before ++ l) (sym none) ∙ c.split) c.clones
 
 module _ {T : Type 0} {eq : T → T → Bool} (laws : IsEquivalence eq) {C : T → T → Type 0} (equal : ClonesAreEqual eq C) {members left set : List T} (c : ClonesTo C members left set) {x : T} {rest : List T} (first : left ≡ x ∷ rest) where
-  whole : c.given ++ x ∷ rest ≡ members
-  whole = ap (λ l. c.given ++ l) (sym first) ∙ c.split
+  whole : c.before ++ x ∷ rest ≡ members
+  whole = ap (λ l. c.before ++ l) (sym first) ∙ c.split
 
-  within : length c.given < length members
-  within = omega (arith, ap length whole, length-append c.given (x ∷ rest))
+  within : length c.before < length members
+  within = omega (arith, ap length whole, length-append c.before (x ∷ rest))
 
   -- what holds of each member holds of the next
   pub next_holds : (P : T → Type 0) → All P members → P x
-  next_holds P all = subst P (ap (λ l. get_or l (length c.given) x) (sym whole) ∙ get_or-append_seam c.given x rest x) (all (length c.given) x within)
+  next_holds P all = subst P (ap (λ l. get_or l (length c.before) x) (sym whole) ∙ get_or-append_seam c.before x rest x) (all (length c.before) x within)
 
   -- there is room for its clone, which is new and goes last
   pub clone_fits : (N : ℕ) (y : T) → length members ≤ N → IsTrue (item_fits eq N set y)
-  clone_fits N y bounded = fits_room eq N set y (omega (arith, bounded, within, length_all_zip C c.given set c.clones))
+  clone_fits N y bounded = fits_room eq N set y (omega (arith, bounded, within, length_all_zip C c.before set c.clones))
 
   pub clones_next : {y : T} {new : List T} → IsDistinct eq members → C x y → new ≡ put_item eq set y → ClonesTo C members rest new
   clones_next {y} distinct clone added =
-      let missing : is_member eq set y ≡ false = clones_alike laws equal c.given set x y c.clones (equal x y clone) ∙ new_behind laws c.given x rest (subst (IsDistinct eq) (sym whole) distinct) in
+      let missing : is_member eq set y ≡ false = clones_alike laws equal c.before set x y c.clones (equal x y clone) ∙ new_behind laws c.before x rest (subst (IsDistinct eq) (sym whole) distinct) in
       record {
-        given = c.given ++ x ∷ [];
-        split = append_assoc c.given (x ∷ []) rest ∙ whole;
-        clones = subst (AllZip C (c.given ++ x ∷ [])) (sym (added ∙ put_item_new eq set y missing)) (AllZip-push C c.given set x y c.clones clone);
+        before = c.before ++ x ∷ [];
+        split = append_assoc c.before (x ∷ []) rest ∙ whole;
+        clones = subst (AllZip C (c.before ++ x ∷ [])) (sym (added ∙ put_item_new eq set y missing)) (AllZip-push C c.before set x y c.clones clone);
       }

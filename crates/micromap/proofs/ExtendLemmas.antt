@@ -1,8 +1,7 @@
 -- A set into which items are put has one item for each distinct item.
-use Rattle.std.proofs.Common.{ℕ, Bool, inl, inr, [], refl, ap, sym, arith}
+use Rattle.std.proofs.Common.{ℕ, Bool, inl, inr, [], refl, ap, sym, arith, map-id}
 use Rattle.std.specs.Set.{is_member, distinct_count}
 use Rattle.std.proofs.lemmas.Bool.{cases_Bool}
-use Rattle.std.proofs.lemmas.List.{map-id}
 use Rattle.micromap_core.proofs.BuildLemmas.{IsKeyed}
 use Rattle.micromap.specs.Items.{put_item, item_fits}
 

@@ -1,8 +1,7 @@
 -- A set's items are the keys of its map. Each lemma says what a word on the map's pairs does to the keys.
-use Rattle.std.proofs.Common.{◌≡◌, ℕ, nat_lt, Bool, true, List, [], ◌∷◌, length, is_some, if◌then◌else◌, refl, ap, ◌∙◌, arith}
+use Rattle.std.proofs.Common.{◌≡◌, ℕ, nat_lt, Bool, true, List, [], ◌∷◌, length, is_some, if◌then◌else◌, refl, ap, ◌∙◌, arith, option_map}
 use Rattle.std.specs.List.{AllZip, IsDistinct, find, list_any}
 use Rattle.std.specs.Map.{keys_of, lookup, lookup_entry, remove_entry, set_value, set_key}
-use Rattle.std.specs.Option.{option_map}
 use Rattle.std.specs.Set.{is_member, remove_key, swap_key}
 use Rattle.std.proofs.lemmas.List.{map_push}
 use Rattle.std.proofs.lemmas.Map.{keys-set_value}

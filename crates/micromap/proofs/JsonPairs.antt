@@ -1,11 +1,8 @@
 -- A map's pairs with their keys as bytes. A map that is read of an object has the pairs that its text has.
-use Rattle.std.proofs.Common.{◌≡◌, ℕ, Result, Ok, Err, MatchResult, IfOk, IfErr, ok_or, BTreeMap, String, Global, inr, bytes_eq, refl, ap, sym, subst, ◌∙◌}
+use Rattle.std.proofs.Common.{◌≡◌, ℕ, Result, Ok, Err, MatchResult, IfOk, IfErr, ok_or, BTreeMap, String, Global, inr, bytes_eq, refl, ap, sym, subst, ◌∙◌, int_eq, string_eq, true≢false}
 use Rattle.std.specs.Cmp.{IsEquivalence, int_eq_equiv}
 use Rattle.std.specs.Cmp.Lexicographic.{nat_list_eq_equiv}
-use Rattle.std.specs.Ordering.{int_eq}
 use Rattle.std.specs.Result.{is_ok, result_map_both}
-use Rattle.std.specs.String.{string_eq}
-use Rattle.std.proofs.lemmas.Bool.{true≢false}
 use Rattle.serde_json.specs.Read.{read}
 use Rattle.serde_json.specs.View.{view, members_view}
 use Rattle.serde_json.specs.declared.value.Value.{Value, Object}

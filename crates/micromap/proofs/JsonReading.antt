@@ -1,13 +1,10 @@
 -- A loop that reads the elements of an array, or the members of an object: one more of them, and the end of the loop.
-use Rattle.std.proofs.Common.{◌≡◌, ℕ, ◌<◌, ◌≤◌, Bool, true, false, ◌&&◌, List, [], ◌∷◌, ◌++◌, length, Option, Some, None, option_map, option_and_then, ok_or, if◌then◌else◌, Ok, Err, String, string_bytes, bytes_eq, string_cmp, Global, ℤ, refl, ap, sym, subst, ◌∙◌, arith}
+use Rattle.std.proofs.Common.{◌≡◌, ℕ, ◌<◌, ◌≤◌, Bool, true, false, ◌&&◌, List, [], ◌∷◌, ◌++◌, length, Option, Some, None, option_map, option_and_then, ok_or, if◌then◌else◌, Ok, Err, String, string_bytes, bytes_eq, string_cmp, Global, ℤ, refl, ap, sym, subst, ◌∙◌, arith, string_eq, true≢false, lt-ltb, le-ltb, ltb-false, append_assoc, append-nil}
 use Rattle.std.specs.Cmp.Lexicographic.{nat_list_eq_equiv}
 use Rattle.std.specs.List.{IsDistinct, fold}
 use Rattle.std.specs.List.Sorted.{IsStrictlySortedBy}
 use Rattle.std.specs.Map.{keys_of}
-use Rattle.std.specs.String.{string_eq}
-use Rattle.std.proofs.lemmas.Bool.{true≢false, lt-ltb, le-ltb, ltb-false}
 use Rattle.std.proofs.lemmas.Iterator.Adapters.{option_map_id}
-use Rattle.std.proofs.lemmas.List.{append_assoc, append-nil}
 use Rattle.std.proofs.lemmas.List.Sums.{fold_push}
 use Rattle.std.proofs.lemmas.Map.Keys.{IsDistinct-from_sorted}
 use Rattle.std.proofs.lemmas.Map.Text.{is_eq-slice_cmp}
@@ -34,13 +31,13 @@ few N xs short = ap (λ b. if b then Err TooMany else Ok xs) (le-ltb N (length x
 
 -- of a text that is read part by part, these parts were put so far, unless there are too many
 pub record HasRead {B : Type 0} (put : List B → B → List B) (N : ℕ) (all rest : Option (List B)) (now : List B) (all_fit : Bool) : Type 0 where
-  pub parts : List B
-  pub split : all ≡ option_map (λ more. parts ++ more) rest
-  pub fit : all_fit ≡ true → now ≡ fold put [] parts
-  pub misfit : all_fit ≡ false → N < length (fold put [] parts)
+  pub before : List B
+  pub split : all ≡ option_map (λ more. before ++ more) rest
+  pub fit : all_fit ≡ true → now ≡ fold put [] before
+  pub misfit : all_fit ≡ false → N < length (fold put [] before)
 
 pub none_read : {B : Type 0} (put : List B → B → List B) (N : ℕ) (all : Option (List B)) → HasRead put N all all [] true
-none_read put N all = record { parts = []; split = sym (option_map_id all); fit = λ _. refl; misfit = λ over. absurd (true≢false over) }
+none_read put N all = record { before = []; split = sym (option_map_id all); fit = λ _. refl; misfit = λ over. absurd (true≢false over) }
 
 module _ {B Y : Type 0} {put : List B → B → List B} {N : ℕ} {all rest : Option (List B)} {now : List B} {all_fit : Bool} (has : HasRead put N all rest now all_fit) (part : Y → B) (later : Option (List B)) (next : Option Y) (first : rest ≡ option_and_then (λ y. option_map (λ more. part y ∷ more) later) next) where
   -- what comes next isn't read
@@ -48,28 +45,28 @@ module _ {B Y : Type 0} {put : List B → B → List B} {N : ℕ} {all rest : Op
   not_read is = rw (has.split, first, is) refl
 
   module _ (y : Y) (is : next ≡ Some y) (grows : (c : List B) → length c ≤ length (put c (part y))) where
-    joined : (rest : Option (List B)) → option_map (λ more. has.parts ++ more) (option_map (λ more. part y ∷ more) rest) ≡ option_map (λ more. (has.parts ++ part y ∷ []) ++ more) rest
+    joined : (rest : Option (List B)) → option_map (λ more. has.before ++ more) (option_map (λ more. part y ∷ more) rest) ≡ option_map (λ more. (has.before ++ part y ∷ []) ++ more) rest
     joined None = refl
-    joined (Some more) = ap Some (sym (append_assoc has.parts (part y ∷ []) more))
+    joined (Some more) = ap Some (sym (append_assoc has.before (part y ∷ []) more))
 
-    more : fold put [] (has.parts ++ part y ∷ []) ≡ put (fold put [] has.parts) (part y)
-    more = fold_push put [] has.parts (part y)
+    more : fold put [] (has.before ++ part y ∷ []) ≡ put (fold put [] has.before) (part y)
+    more = fold_push put [] has.before (part y)
 
     -- one more, which wider has as well, is put or doesn't fit
     read_one : {new wider : List B} (fit : Bool) → wider ≡ put now (part y) → (fit ≡ true → new ≡ wider) → (fit ≡ false → N < length wider) → HasRead put N all later new (all_fit && fit)
     read_one fit made fits misfits = record {
-      parts = has.parts ++ part y ∷ [];
+      before = has.before ++ part y ∷ [];
       split = rw (has.split, first, is) (joined later);
       fit = λ whole. grind (arith, whole, has.fit, made, fits, more);
-      misfit = λ over. grind (arith, over, has.fit, has.misfit, made, misfits, more, grows (fold put [] has.parts));
+      misfit = λ over. grind (arith, over, has.fit, has.misfit, made, misfits, more, grows (fold put [] has.before));
     }
 
 module _ {B : Type 0} {put : List B → B → List B} {N : ℕ} {all rest : Option (List B)} {now : List B} {all_fit : Bool} (has : HasRead put N all rest now all_fit) (end : rest ≡ Some []) (fault : JsonFault) where
   pub read_whole : all_fit ≡ true → length now ≤ N → and_then (ok_or all fault) (λ parts. items_for N (fold put [] parts)) ≡ Ok now
-  read_whole whole short = rw (has.split, end, append-nil has.parts, ← has.fit whole) (few N now short)
+  read_whole whole short = rw (has.split, end, append-nil has.before, ← has.fit whole) (few N now short)
 
   pub read_beyond : all_fit ≡ false → and_then (ok_or all fault) (λ parts. items_for N (fold put [] parts)) ≡ Err TooMany
-  read_beyond over = rw (has.split, end, append-nil has.parts) (ap (λ b. if b then Err TooMany else Ok (fold put [] has.parts)) (lt-ltb N (length (fold put [] has.parts)) (has.misfit over)))
+  read_beyond over = rw (has.split, end, append-nil has.before) (ap (λ b. if b then Err TooMany else Ok (fold put [] has.before)) (lt-ltb N (length (fold put [] has.before)) (has.misfit over)))
 
 -- an element that is a text, in a set
 module _ {N : ℕ} {all : Option (List Bytes)} {rest later : Items} {d : Data} (items : List (String Global)) {all_fit : Bool} (has : HasRead (put_item bytes_eq) N all (all_texts rest) (item_texts items) all_fit) (first : rest ≡ item d later) (x : String Global) (is : as_str d ≡ Some (string_bytes x)) where

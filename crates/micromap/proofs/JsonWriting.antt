@@ -1,12 +1,11 @@
 -- A loop that writes a map's pairs as the members of an object, or a set's items as the elements of an array.
-use Rattle.std.proofs.Common.{◌≡◌, ℕ, suc, ◌≤◌, Bool, true, false, ◌||◌, List, [], ◌∷◌, ◌++◌, length, map, Some, option_map, Ok, nat_cmp, String, Global, string_bytes, bytes_eq, ℤ, pos, negsuc, refl, ap, sym, subst, ◌∙◌, arith}
+use Rattle.std.proofs.Common.{◌≡◌, ℕ, suc, ◌≤◌, Bool, true, false, ◌||◌, List, [], ◌∷◌, ◌++◌, length, map, Some, option_map, Ok, nat_cmp, String, Global, string_bytes, bytes_eq, ℤ, pos, negsuc, refl, ap, sym, subst, ◌∙◌, arith, int_eq}
 use Rattle.std.specs.BTreeMap.{insert_entry}
 use Rattle.std.specs.Cmp.{first_so}
 use Rattle.std.specs.Cmp.Derive.{both_true}
 use Rattle.std.specs.Cmp.Lexicographic.{nat_list_eq_equiv, slice_cmp}
 use Rattle.std.specs.List.{IsDistinct, list_all, list_any}
 use Rattle.std.specs.Map.{keys_of}
-use Rattle.std.specs.Ordering.{int_eq}
 use Rattle.std.specs.Set.{is_member}
 use Rattle.std.specs.String.{string_eq, string_eq_equiv}
 use Rattle.std.proofs.lemmas.List.{append_assoc, append-nil, length_push, map-append, map_push}
@@ -66,39 +65,39 @@ unfolding texts_by
 any-names k [] = refl
 any-names k (p ∷ pairs) = ap (λ b. bytes_eq (string_bytes k) (string_bytes p.0) || b) (any-names k pairs)
 
--- the members so far are those of the pairs that were given, and the rest is left
+-- the members so far are those of the pairs before, and the rest is left
 pub record HasWritten (ms : Members) (rest all : Pairs) : Type 0 where
-  pub given : Pairs
-  pub split : given ++ rest ≡ all
+  pub before : Pairs
+  pub split : before ++ rest ≡ all
   pub pairs : List (Bytes × ℤ)
   pub whole : whole_members ms ≡ Some pairs
   pub flat : members_depth ms ≡ 0
   pub none_is_float : members_have_float ms ≡ false
-  pub made : ms ≡ members given
-  pub alike : (test : Bytes × ℤ → Bool) → list_any test pairs ≡ list_any test (key_texts given)
-  pub count : length pairs ≡ length given
+  pub made : ms ≡ members before
+  pub alike : (test : Bytes × ℤ → Bool) → list_any test pairs ≡ list_any test (key_texts before)
+  pub count : length pairs ≡ length before
 
 pub none_written : (all : Pairs) → HasWritten no_members all all
 unfolding texts_by
-none_written all = record { given = []; split = refl; pairs = []; whole = refl; flat = refl; none_is_float = refl; made = refl; alike = λ test. refl; count = refl }
+none_written all = record { before = []; split = refl; pairs = []; whole = refl; flat = refl; none_is_float = refl; made = refl; alike = λ test. refl; count = refl }
 
 -- one more
 pub writes_one : {ms after : Members} {rest later all : Pairs} {k : String Global} {n : ℤ} (d : Data) → HasWritten ms rest all → IsDistinct string_eq (keys_of all) → rest ≡ (k, n) ∷ later → d ≡ number (of_integer n) → whole_number d ≡ Some n → depth d ≡ 0 → after ≡ put (string_bytes k) d ms → HasWritten after later all
 unfolding texts_by
 writes_one {ms} {after} {rest} {later} {all} {k} {n} d has distinct first seen is flat made =
-    let seam : keys_of all ≡ keys_of has.given ++ k ∷ keys_of later = sym (ap keys_of has.split) ∙ ap (λ r. keys_of (has.given ++ r)) first ∙ map-append (λ p. p.0) has.given ((k, n) ∷ later) in
-    let new : Lacks has.pairs (string_bytes k) = has.alike _ ∙ any-names k has.given ∙ new_behind string_eq_equiv (keys_of has.given) k (keys_of later) (subst (IsDistinct string_eq) seam distinct) in
+    let seam : keys_of all ≡ keys_of has.before ++ k ∷ keys_of later = sym (ap keys_of has.split) ∙ ap (λ r. keys_of (has.before ++ r)) first ∙ map-append (λ p. p.0) has.before ((k, n) ∷ later) in
+    let new : Lacks has.pairs (string_bytes k) = has.alike _ ∙ any-names k has.before ∙ new_behind string_eq_equiv (keys_of has.before) k (keys_of later) (subst (IsDistinct string_eq) seam distinct) in
     let put_is : after ≡ put (string_bytes k) (number (of_integer n)) ms = made ∙ ap (λ d. put (string_bytes k) d ms) seen in
     record {
-      given = has.given ++ (k, n) ∷ [];
-      split = append_assoc has.given ((k, n) ∷ []) later ∙ ap (λ r. has.given ++ r) (sym first) ∙ has.split;
+      before = has.before ++ (k, n) ∷ [];
+      split = append_assoc has.before ((k, n) ∷ []) later ∙ ap (λ r. has.before ++ r) (sym first) ∙ has.split;
       pairs = insert has.pairs (string_bytes k) n;
       whole = ap whole_members made ∙ whole-put (string_bytes k) d n is ms has.pairs has.whole;
       flat = ap members_depth made ∙ depth-put (string_bytes k) d ms flat has.flat;
       none_is_float = ap members_have_float put_is ∙ float-put (string_bytes k) n ms has.none_is_float;
-      made = put_is ∙ ap (put (string_bytes k) (number (of_integer n))) has.made ∙ sym (fold_push _ no_members has.given (k, n));
-      alike = λ test. any-insert test has.pairs (string_bytes k) n new ∙ grind (arith, has.alike test, map_push {Y = Bytes × ℤ} (λ p. (string_bytes p.0, p.1)) has.given (k, n), list_any-append test (key_texts has.given) ((string_bytes k, n) ∷ []));
-      count = omega (arith, has.count, length-insert has.pairs (string_bytes k) n new, length_push has.given (k, n));
+      made = put_is ∙ ap (put (string_bytes k) (number (of_integer n))) has.made ∙ sym (fold_push _ no_members has.before (k, n));
+      alike = λ test. any-insert test has.pairs (string_bytes k) n new ∙ grind (arith, has.alike test, map_push {Y = Bytes × ℤ} (λ p. (string_bytes p.0, p.1)) has.before (k, n), list_any-append test (key_texts has.before) ((string_bytes k, n) ∷ []));
+      count = omega (arith, has.count, length-insert has.pairs (string_bytes k) n new, length_push has.before (k, n));
     }
 
 -- lists that have the same items by any test
@@ -111,14 +110,14 @@ same_items first second same =
 -- the text of these members has the pairs, for any capacity that holds them
 pub written : {ms : Members} {rest all : Pairs} (text : Bytes) → HasWritten ms rest all → rest ≡ [] → (depth (object ms) ≤ max_depth → read text ≡ Some (object ms)) → (M : ℕ) → length all ≤ M → HasPairs M text all
 written {ms} {all = all} text has none reads_back M short =
-    let whole : has.given ≡ all = sym (append-nil has.given) ∙ ap (λ r. has.given ++ r) (sym none) ∙ has.split in
+    let whole : has.before ≡ all = sym (append-nil has.before) ∙ ap (λ r. has.before ++ r) (sym none) ∙ has.split in
     let is = reads_back (rw has.flat (omega arith)) in
     (has.pairs, rw (is, has.whole) (few M has.pairs (omega (arith, has.count, ap length whole, short))), same_items has.pairs (key_texts all) (λ test. sym (has.alike test ∙ ap (λ l. list_any test (key_texts l)) whole)))
 
 -- and is that of all pairs' members
 pub written_text : {ms : Members} {rest all : Pairs} (text : Bytes) → HasWritten ms rest all → rest ≡ [] → (has_float (object ms) ≡ false → text ≡ compact_text (object ms)) → text ≡ compact_text (object (members all))
 written_text {ms} {all = all} text has none is =
-    let whole : has.given ≡ all = sym (append-nil has.given) ∙ ap (λ r. has.given ++ r) (sym none) ∙ has.split in
+    let whole : has.before ≡ all = sym (append-nil has.before) ∙ ap (λ r. has.before ++ r) (sym none) ∙ has.split in
     is has.none_is_float ∙ ap (λ ms. compact_text (object ms)) (has.made ∙ ap members whole)
 
 -- a set's items as the elements of an array

@@ -1,12 +1,11 @@
 -- The members of an operation on two lists of items are pairwise unequal. An operation that doesn't care which list is
 -- first has equal members if the lists change places. For callers: `same_members`.
-use Rattle.std.proofs.Common.{◌≡◌, ◌+◌, Bool, true, false, not, ◌&&◌, ◌||◌, ◌↔◌, List, [], ◌∷◌, length, filter, if◌then◌else◌, IsTrue, refl, ap, sym, subst, ◌∙◌, arith}
+use Rattle.std.proofs.Common.{◌≡◌, ◌+◌, Bool, true, false, not, ◌&&◌, ◌||◌, ◌↔◌, List, [], ◌∷◌, length, filter, if◌then◌else◌, IsTrue, refl, ap, sym, subst, ◌∙◌, arith, length-append}
 use Rattle.std.specs.Cmp.{IsEquivalence, both_ways, first_so, second_so}
 use Rattle.std.specs.Cmp.Derive.{both_true}
 use Rattle.std.specs.List.{IsDistinct, list_all}
 use Rattle.std.proofs.Math.Bool.{not-not, or-true}
 use Rattle.std.proofs.lemmas.Bool.{false≢true}
-use Rattle.std.proofs.lemmas.List.{length-append}
 use Rattle.std.proofs.lemmas.List.Folds.{list_any-append}
 use Rattle.std.proofs.lemmas.List.Sums.{list_all-from_AllPass}
 use Rattle.std.proofs.lemmas.Map.Made.{is_member-filter}

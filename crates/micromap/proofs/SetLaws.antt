@@ -2,17 +2,16 @@
 -- a law has the reader first and then the change. The readers are a test of the items (`any`, whether an item passes,
 -- and `find`, the first that does), a given item (`is_member`, `find_item`, `fits`), the number of items (`length`),
 -- and that they are pairwise unequal (`unique`). The ruleset at the end has the laws that a search needs.
-use Rattle.std.proofs.Common.{◌≡◌, ℕ, ◌+◌, ◌≤◌, ◌||◌, ◌&&◌, not, Bool, true, false, List, [], ◌∷◌, ◌++◌, filter, length, Some, None, is_some, if◌then◌else◌, refl, ap, sym, subst, ◌∙◌, arith}
+use Rattle.std.proofs.Common.{◌≡◌, ℕ, ◌+◌, ◌≤◌, ◌||◌, ◌&&◌, not, Bool, true, false, List, [], ◌∷◌, ◌++◌, filter, length, Some, None, is_some, if◌then◌else◌, refl, ap, sym, subst, ◌∙◌, arith, option_map, unwrap_or}
 use Rattle.std.specs.List.{IsDistinct, find, list_all, list_any}
 use Rattle.std.specs.Map.{keys_of, lookup, lookup_entry}
-use Rattle.std.specs.Option.{option_map, unwrap_or}
 use Rattle.std.specs.Set.{swap_key, is_member, remove_key}
 use Rattle.std.proofs.lemmas.Bool.Decides.{nat_tests}
 use Rattle.std.proofs.lemmas.Map.Entries.{length-keys_of}
 use Rattle.micromap_core.specs.Equalities.{Lawful, Probes}
 use Rattle.micromap_core.specs.Pairs.{put, put_key, take_out, IsUnique}
 use Rattle.micromap_core.proofs.Equalities.{equalities, of_lawful, probes_key}
-use Rattle.micromap_core.proofs.Lists.{none_is}
+use Rattle.std.proofs.option.Match.{None-if_not_some}
 use Rattle.micromap_core.proofs.MapLaws.{lookup_put, lookup_put_key, lookup_take_out, pair_put, pair_put_key, pair_take_out, length_put, length_put_key, length_take_out, unique_put, unique_put_key, unique_take_out, take_out_missing, keys_take_out, keys_remove_entry, has_behind}
 use Rattle.micromap.specs.ItemEntries.{entries_of}
 use Rattle.micromap.specs.Extend.{put_all_items}
@@ -107,7 +106,7 @@ module _ {T : Type 0} (eq : T → T → Bool) (items : List T) (x : T) where
 
   pub take_item_missing : is_member eq items x ≡ false → take_item eq items x ≡ items
   take_item_missing missing =
-      entries-take_item eq items x ∙ ap keys_of (take_out_missing eq (entries_of items) x (none_is _ (sym (any-entries (eq x) items) ∙ missing))) ∙ keys_of-entries items
+      entries-take_item eq items x ∙ ap keys_of (take_out_missing eq (entries_of items) x (None-if_not_some _ (sym (any-entries (eq x) items) ∙ missing))) ∙ keys_of-entries items
 
 -- at an item of one's own
 module _ {T : Type 0} (eq : T → T → Bool) (items : List T) (x y : T) where

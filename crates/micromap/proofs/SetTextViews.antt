@@ -1,10 +1,7 @@
 -- For callers: what each change of a set of texts does to the list of the texts' bytes.
-use Rattle.std.specs.Str.{bytes_eq}
-use Rattle.std.proofs.Common.{◌≡◌, ◌↔◌, ℕ, Bool, true, false, ◌&&◌, ◌||◌, inl, inr, List, [], ◌∷◌, length, map, String, is_some, refl, ap, sym, subst, ◌∙◌, string_bytes, arith}
+use Rattle.std.proofs.Common.{◌≡◌, ◌↔◌, ℕ, Bool, true, false, ◌&&◌, ◌||◌, inl, inr, List, [], ◌∷◌, length, map, String, is_some, refl, ap, sym, subst, ◌∙◌, string_bytes, arith, bytes_eq, option_map, string_eq}
 use Rattle.std.specs.List.{AllByRecursion, IsDistinct, find, list_all, list_any}
-use Rattle.std.specs.Option.{option_map}
 use Rattle.std.specs.Set.{swap_key, is_member, remove_key}
-use Rattle.std.specs.String.{string_eq}
 use Rattle.std.proofs.lemmas.Bool.{cases_Bool}
 use Rattle.std.proofs.lemmas.List.{length-map, map-append}
 use Rattle.micromap_core.specs.Probe.{is_text}

@@ -1,6 +1,5 @@
 -- What a set is after items are put into it one after the other, and which item is the first that doesn't fit.
-use Rattle.std.specs.Prelude.{ℕ, Bool, List, []}
-use Rattle.std.specs.List.{fold}
+use Rattle.std.specs.Prelude.{ℕ, Bool, List, [], fold}
 use Rattle.micromap_core.specs.Build.{each_fits, PutsEach, PutsUpTo, StopsAt}
 use Rattle.micromap.specs.Items.{put_item, item_fits}
 

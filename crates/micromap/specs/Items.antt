@@ -1,5 +1,4 @@
--- A set's content is the list of its items, from front to end. The words say what an insertion or a removal makes of
--- it. Items are compared by eq, which need not be identity. N is the capacity.
+-- What an insertion or a removal makes of a set's list of items. N is the capacity, and eq compares items.
 use Rattle.std.specs.Prelude.{ℕ, ◌≤◌, Bool, ◌||◌, List, [], ◌∷◌, ◌++◌, length, Option, if◌then◌else◌, nat_lt}
 use Rattle.std.specs.Borrow.{Bor}
 use Rattle.std.specs.Fn.{Mut, CalledAt, TakesAt}

@@ -1,6 +1,5 @@
 -- What `serde_json` reads in a text: an object's pairs for a map, an array's texts for a set, or the first fault.
-use Rattle.std.specs.Prelude.{◌≡◌, ◌⊎◌, codes, ℕ, ℤ, List, [], ◌∷◌, length, map, nat_lt, if◌then◌else◌, Option, Some, option_map, option_and_then, ok_or, Result, Ok, Err, String, string_bytes, bytes_eq}
-use Rattle.std.specs.List.{fold}
+use Rattle.std.specs.Prelude.{◌≡◌, ◌⊎◌, codes, ℕ, ℤ, List, [], ◌∷◌, length, map, nat_lt, if◌then◌else◌, Option, Some, option_map, option_and_then, ok_or, Result, Ok, Err, String, string_bytes, bytes_eq, fold}
 use Rattle.std.specs.Ordering.{int_eq}
 use Rattle.std.specs.declared.alloc.Global.{Global}
 use Rattle.serde_json.specs.Data.{Data, Items, no_items, item, Members, no_members, member, number, put, string}

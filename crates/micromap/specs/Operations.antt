@@ -1,5 +1,4 @@
--- The operations on two lists of items, which are compared by eq. For each operation there are its members, what its
--- iterator has left after a call, and its hint.
+-- The operations on two lists of items, compared by eq: the members, what their iterators have left, and the hints.
 use Rattle.std.specs.Set.{is_member}
 use Rattle.std.specs.Prelude.{◌≡◌, ℕ, ◌+◌, ◌-◌, ◌^◌, min, Bool, not, List, [], ◌∷◌, ◌++◌, length, drop, filter, Option, Some, None, if◌then◌else◌, nat_lt, IsTrue, IsFalse}
 use Rattle.std.specs.Iterator.{YieldsFirstBy}

@@ -1,11 +1,10 @@
 -- The conditions that a set and its iterators by value fit in memory. A caller that is generic in the items requires them
 -- if it makes a set, drains one or iterates one by value. `Memory` has the conditions for a map.
 use Rattle.std.specs.Prelude.{Bool}
-use Rattle.std.specs.Borrow.{RattleType}
+use Rattle.std.specs.Borrow.{RattleType, unit}
 use Rattle.micromap_core.specs.Memory.{FitsInMemory}
 use Rattle.micromap.specs.contracts.set.Set as set
 use Rattle.micromap_walk.specs.contracts.owning.IntoKeys as into_keys
-use denote.Builtin.{unit}
 use denote.Param.{param}
 
 module _ (T N : RattleType) where

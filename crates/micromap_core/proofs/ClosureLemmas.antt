@@ -1,8 +1,7 @@
 -- One turn of each loop that calls a closure, and the end of the loop. For callers: which keys `retain` keeps and in
 -- which order, and the plain list that `update_all` or `update_disjoint` leaves if the closure changes nothing that it
 -- captures.
-use Rattle.std.proofs.Common.{◌≡◌, ℕ, suc, ◌+◌, ◌≤◌, Bool, true, false, cond, List, [], ◌∷◌, ◌++◌, length, take, drop, set, slice_get, refl, ap, sym, ◌∙◌, append-nil, append_assoc, arith, add-one, ◌<◌, get_or, map, Some, None, is_some, zero-add, Option, MatchOption, subst}
-use Rattle.std.specs.Borrow.{Bor, MutBor}
+use Rattle.std.proofs.Common.{◌≡◌, ℕ, suc, ◌+◌, ◌≤◌, Bool, true, false, cond, List, [], ◌∷◌, ◌++◌, length, take, drop, set, slice_get, refl, ap, sym, ◌∙◌, append-nil, append_assoc, arith, add-one, ◌<◌, get_or, map, Some, None, is_some, zero-add, Option, MatchOption, subst, Bor, MutBor}
 use Rattle.std.specs.Fn.{Mut}
 use Rattle.std.specs.List.{swap, FoldsTo, enumerate_from, list_any, fold, items_where_true}
 use Rattle.std.specs.Map.Calls.{CallableOnEachPair, RetainsPairs}
@@ -96,7 +95,7 @@ module _ {F K V R : Type 0} (g : Mut F (Bor K × (MutBor V × Unit {0})) (R × (
         let was = drop-here pairs index v.pair (stood v.pair v.here) in
         let rest : drop (suc index) now ≡ drop (suc index) pairs = cc in
         record {
-          turns = turns_more (UpdateAllTurn g) (f, []) pairs index v.pair (s, take index now) (stood v.pair v.here) m.turns (t, take (index + 1) new) (r, left, (v.called, refl), ap (take (index + 1)) v.pairs ∙ take_more_set now index left (slice_get_within now index v.pair v.here));
+          turns = turns_more (UpdateAllTurn g) (f, []) pairs index v.pair (s, take index now) (stood v.pair v.here) m.turns (t, take (index + 1) new) (r, v.value, v.called, ap (take (index + 1)) v.pairs ∙ take_more_set now index left (slice_get_within now index v.pair v.here));
           others = rw (v.pairs, add-one, drop-set-lt (suc index) now index left (omega arith)) rest;
           whole = ap length v.pairs ∙ length-set now index left ∙ m.whole;
         }
@@ -169,7 +168,7 @@ keys_updated {F = F} {K = K} {V = V} {g = g} {f = f} {pairs = pairs} {new = new}
     chained_keeps {P = F × List (K × V)} (UpdateAllTurn g) (λ done s. keys_of s.1 ≡ keys_of done) more pairs (f, []) (updates.last, new) refl updates.turns
   where
     more : (done : List (K × V)) (s : F × List (K × V)) (p : K × V) (t : F × List (K × V)) → keys_of s.1 ≡ keys_of done → UpdateAllTurn g s p t → keys_of t.1 ≡ keys_of (done ++ p ∷ [])
-    more done s p t before turn = ap keys_of turn.3 ∙ map_push (λ e. e.0) s.1 turn.1 ∙ (λ i. before i ++ turn.2.1 i ∷ []) ∙ sym (map_push (λ e. e.0) done p)
+    more done s p t before turn = ap keys_of turn.3 ∙ map_push (λ e. e.0) s.1 (p.0, turn.1) ∙ (λ i. before i ++ p.0 ∷ []) ∙ sym (map_push (λ e. e.0) done p)
 
 -- `update_all` by a function of key and value
 pub updated_by : {F K V R : Type 0} {g : Mut F (Bor K × (MutBor V × Unit {0})) (R × (MutBor V × Unit {0}))} {f : F} {pairs new : List (K × V)} (h : K → V → V) → UpdatesAll g f pairs new → ((k : K) (v : V) (r : R) (w : V) (t : F) → CalledOnPair g f k v r w t → (w ≡ h k v) × (t ≡ f)) → new ≡ map (λ p. (p.0, h p.0 p.1)) pairs
@@ -178,9 +177,8 @@ updated_by {F = F} {K = K} {V = V} {g = g} {f = f} {pairs = pairs} {new = new} h
   where
     more : (done : List (K × V)) (s : F × List (K × V)) (p : K × V) (t : F × List (K × V)) → (s.0 ≡ f) × (s.1 ≡ map (λ p. (p.0, h p.0 p.1)) done) → UpdateAllTurn g s p t → (t.0 ≡ f) × (t.1 ≡ map (λ p. (p.0, h p.0 p.1)) (done ++ p ∷ []))
     more done s p t before turn =
-        let said = pure p.0 p.1 turn.0 turn.1.1 t.0 (subst (λ u. CalledOnPair g u p.0 p.1 turn.0 turn.1.1 t.0) before.0 turn.2.0) in
-        let left : turn.1 ≡ (p.0, h p.0 p.1) = λ i. (turn.2.1 i, said.0 i) in
-        (said.1, turn.3 ∙ rw (before.1, left, map_push) refl)
+        let said = pure p.0 p.1 turn.0 turn.1 t.0 (subst (λ u. CalledOnPair g u p.0 p.1 turn.0 turn.1 t.0) before.0 turn.2) in
+        (said.1, turn.3 ∙ rw (before.1, said.0, map_push) refl)
 
 -- `update_disjoint` by a function of position and value
 pub updated_at_keys : {F K V R : Type 0} {eq : K → K → Bool} {g : Mut F (ℕ × (MutBor V × Unit {0})) (R × (MutBor V × Unit {0}))} {f : F} {pairs new : List (K × V)} {keys : List K} (h : ℕ → V → V) → UpdatesDisjoint eq g f pairs keys new → ((i : ℕ) (v : V) (r : R) (w : V) (t : F) → CalledOnValue g f i v r w t → (w ≡ h i v) × (t ≡ f)) → new ≡ updated_disjoint eq h pairs keys

@@ -1,7 +1,5 @@
 -- The entry of a stored key, the entry of a new key, and an entry after its value is written.
-use Rattle.std.proofs.Common.{◌≡◌, ℕ, Bool, List, [], ◌∷◌, ◌++◌, length, Some, None, slice_get, refl, sym, ◌∙◌}
-use Rattle.std.specs.Borrow.{MutBor}
-use Rattle.std.proofs.lemmas.List.{set-set, append-nil}
+use Rattle.std.proofs.Common.{◌≡◌, ℕ, Bool, List, [], ◌∷◌, ◌++◌, length, Some, None, slice_get, refl, sym, ◌∙◌, MutBor, set-set, append-nil}
 use Rattle.std.proofs.lemmas.Option.{slice_get_within}
 use Rattle.std.proofs.Math.Seq.{set-append_seam}
 use Rattle.micromap_core.specs.Found.{FoundAt, NotFound}

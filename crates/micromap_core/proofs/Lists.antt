@@ -1,19 +1,14 @@
 -- Facts about lists and options alone.
-use Rattle.std.proofs.Common.{Bool, false, if◌then◌else◌, Option, Some, None, is_some, slice_get, ◌++◌, ◌≡◌, ℕ, suc, zero, ◌<◌, ◌≤◌, List, [], ◌∷◌, length, get_or, set, take, drop, map, refl, ap, sym, ◌∙◌, arith}
+use Rattle.std.proofs.Common.{Bool, if◌then◌else◌, Option, Some, None, is_some, slice_get, ◌++◌, ◌≡◌, ℕ, suc, zero, ◌<◌, ◌≤◌, List, [], ◌∷◌, length, get_or, set, take, drop, map, refl, ap, sym, ◌∙◌, arith, drop-cons}
 use Rattle.std.specs.Option.{ForSome, IfSome}
 use Rattle.std.specs.List.{remove, swap, refill}
 use Rattle.std.proofs.Math.ListN.{get_or-map}
 use Rattle.std.proofs.lemmas.List.{get_or-set_same, drop-map, drop-set-lt, map-set, map-append, take-map, take-set, length-set, take_at}
 use Rattle.std.proofs.lemmas.Option.{get_or_from_slice_get, slice_get-get_or, slice_get_within}
-use Rattle.std.proofs.Math.Seq.{drop-cons}
 
 -- written back whole, a list of the same length is what it was written as
 pub refill-same : {X : Type 0} (xs ws : List X) → length ws ≡ length xs → refill (length xs) xs ws ≡ ws
 refill-same xs ws same = take_at ws _ (length xs) same
-
--- where there is no value
-pub none_is : {X : Type 0} (o : Option X) → is_some o ≡ false → o ≡ None
-none_is o so = grind (arith, so)
 
 module _ {X : Type 0} where
   -- without an element that stands after the first ones

@@ -2,12 +2,11 @@
 -- then the change, as `lookup_put` and `length_take_out`. The readers are look-ups by a test (`lookup` of the value,
 -- `pair` of the pair), look-ups by a key (`at`, `has`, `fits`), the number of pairs (`length`), and that keys are
 -- pairwise unequal (`unique`). The ruleset at the end has the laws that a search needs.
-use Rattle.std.proofs.Common.{◌≡◌, ℕ, ◌+◌, ◌||◌, Bool, true, not, List, [], ◌∷◌, ◌++◌, filter, length, reverse, Some, None, is_some, get_or, if◌then◌else◌, refl, ap, sym, subst, ◌∙◌, inl, inr, arith, ◌≤◌, false, String}
+use Rattle.std.proofs.Common.{◌≡◌, ℕ, ◌+◌, ◌||◌, Bool, true, not, List, [], ◌∷◌, ◌++◌, filter, length, reverse, Some, None, is_some, get_or, if◌then◌else◌, refl, ap, sym, subst, ◌∙◌, inl, inr, arith, ◌≤◌, false, String, string_eq}
 use Rattle.std.specs.List.{fold, list_all, IsDistinct}
 use Rattle.std.specs.Map.{keys_of, lookup, lookup_entry, remove_entry, set_value}
 use Rattle.std.specs.Option.{option_eq, option_map, option_map_or, option_or, unwrap_or}
 use Rattle.std.specs.Set.{distinct_count}
-use Rattle.std.specs.String.{string_eq}
 use Rattle.std.proofs.lemmas.List.{reverse-append, length-append}
 use Rattle.std.proofs.lemmas.List.Sums.{list_all-from_AllPass}
 use Rattle.std.proofs.lemmas.Map.Entries.{length-keys_of, lookup_from_place, option_filter, none_past_head}
@@ -23,7 +22,7 @@ use Rattle.micromap_core.specs.Pairs.{at, pair, has, put, put_key, take_out, wit
 use Rattle.micromap_core.specs.Same.{has_value}
 use Rattle.micromap_core.proofs.Equalities.{equalities, lawful, of_lawful, of_probes, probes_key, same_test, probes_text}
 use Rattle.micromap_core.proofs.DistinctLemmas.{IsDistinct-filter}
-use Rattle.micromap_core.proofs.BuildLemmas.{keys-built, length-built, pairs_keyed}
+use Rattle.micromap_core.proofs.BuildLemmas.{IsDistinct-nil, keys-built, length-built, pairs_keyed}
 use Rattle.micromap_core.proofs.MapLemmas.{lookup-entry, push-put, push-put_key, slice_set-put_key, IsUnique-push, IsUnique-set, IsUnique-set_key, IsUnique-remove, keys_of-put_new, keys_of-put_stored, entry_push, entry_set, entry_set_key, none_apart, lookup-append, entry_new, length-remove_entry, length-set_key, keys_removed, by_test, lookup-set, no_value, set_put, lookup-reverse}
 use Rattle.micromap_core.specs.Probe.{is_text}
 
@@ -101,8 +100,7 @@ module _ {K V : Type 0} (eq : K → K → Bool) (pairs : List (K × V)) (k : K) 
 
 -- no pair at all: the other ways to read them are computed
 pub unique_empty : {K : Type 0} (V : Type 0) (eq : K → K → Bool) → IsUnique {V = V} eq []
-unfolding IsDistinct
-unique_empty V eq = tt
+unique_empty V eq = IsDistinct-nil eq
 
 -- at a key of one's own
 module _ {K V : Type 0} (eq : K → K → Bool) where

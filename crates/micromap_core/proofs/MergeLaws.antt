@@ -1,9 +1,8 @@
 -- For callers: what a map has into which a loop merges values (`merged`): after one item more, at each key, and how many
 -- keys there are. The ruleset `merge_laws` is for such a loop.
-use Rattle.std.proofs.Common.{◌≡◌, ℕ, ◌+◌, ◌<◌, ◌≤◌, nat_le, ◌&&◌, ◌||◌, not, Bool, true, false, List, [], ◌∷◌, ◌++◌, filter, length, map, get_or, take, drop, Option, Some, None, IsTrue, refl, ap, sym, subst, ◌∙◌, append_assoc, arith, unwrap_or}
+use Rattle.std.proofs.Common.{◌≡◌, ℕ, ◌+◌, ◌<◌, ◌≤◌, nat_le, ◌&&◌, ◌||◌, not, Bool, true, false, List, [], ◌∷◌, ◌++◌, filter, length, map, get_or, take, drop, Option, Some, None, IsTrue, refl, ap, sym, subst, ◌∙◌, append_assoc, arith, unwrap_or, fold}
 use Rattle.std.specs.Iterator.{Yields}
 use Rattle.std.specs.Iterator.Runs.{SomeRun, WholeRun}
-use Rattle.std.specs.List.{fold}
 use Rattle.std.specs.Map.{keys_of, values_of}
 use Rattle.std.specs.Set.{distinct_count}
 use Rattle.std.proofs.iter.runs.Consumers.{total_runs}

@@ -1,8 +1,6 @@
 -- For callers: if the items of an iterator are known as a list, the first item that doesn't fit has its position in
 -- that list. The list then has more distinct keys than there is room for.
-use Rattle.std.proofs.Common.{◌≡◌, ℕ, ◌+◌, ◌<◌, ◌≤◌, Bool, List, [], length, take, slice_index_or, Option, Some, Result, Ok, Err, IfErr, sym, ap, subst, ◌∙◌, arith}
-use Rattle.std.specs.List.{fold}
-use Rattle.std.specs.Option.{option_map}
+use Rattle.std.proofs.Common.{◌≡◌, ℕ, ◌+◌, ◌<◌, ◌≤◌, Bool, List, [], length, take, slice_index_or, Option, Some, Result, Ok, Err, IfErr, sym, ap, subst, ◌∙◌, arith, fold, option_map}
 use Rattle.std.specs.Iterator.Runs.{EveryRun, ItemsAre, Run, SomeRun}
 use Rattle.std.proofs.lemmas.Bool.{leb-false, not-true}
 use Rattle.std.proofs.lemmas.Grind.{common_steps}

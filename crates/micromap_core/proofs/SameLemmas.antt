@@ -1,13 +1,12 @@
 -- Two lists with pairwise unequal keys are the same exactly if every key finds equal values in both, or none in either.
 -- If the lists are equally long, one side is enough: they are the same if one has an equal value at each key of the
 -- other. That follows by counting keys.
-use Rattle.std.proofs.Common.{◌≡◌, Bool, true, List, [], ◌∷◌, Option, Some, None, is_some, not, get_or, refl, ap, sym, subst, ◌∙◌, ◌↔◌, IfSome, IsNone, IsFalse, slice_get, arith, ◌≢◌, ◌≤◌, ◌&&◌, ◌||◌, if◌then◌else◌, filter, nat_eq, ℕ, IsTrue, length}
+use Rattle.std.proofs.Common.{◌≡◌, Bool, true, List, [], ◌∷◌, Option, Some, None, is_some, not, get_or, refl, ap, sym, subst, ◌∙◌, ◌↔◌, IfSome, IsNone, IsFalse, slice_get, arith, ◌≢◌, ◌≤◌, ◌&&◌, ◌||◌, if◌then◌else◌, filter, nat_eq, ℕ, IsTrue, length, Bor}
 use Rattle.std.specs.Cmp.{IsEquivalence, first_so, second_so}
 use Rattle.std.specs.Cmp.Derive.{both_true}
 use Rattle.std.specs.List.{All, IsDistinct, find, list_all, list_any, position_or_len}
 use Rattle.std.specs.Map.{keys_of}
 use Rattle.std.specs.Set.{is_member}
-use Rattle.std.specs.Borrow.{Bor}
 use Rattle.std.specs.Option.{MatchOption, option_copied, option_eq, option_map, option_map_or, option_or}
 use Rattle.std.proofs.Math.Bool.{or-false}
 use Rattle.std.proofs.lemmas.Bool.{false≢true, not-true}

@@ -1,7 +1,6 @@
 -- Facts about filled slots and the items in them, and about two columns of equal length and their pairs. The rulesets at
 -- the end are for `using` at the calls of both.
-use Rattle.std.proofs.Common.{◌≡◌, ℕ, ◌<◌, List, [], ◌∷◌, ◌++◌, length, get_or, set, take, map, Option, Some, None, is_some, slice_get, ap, sym, ◌∙◌, zero, suc, slice_set, refl, arith}
-use Rattle.std.specs.List.{remove, swap, zip}
+use Rattle.std.proofs.Common.{◌≡◌, ℕ, ◌<◌, List, [], ◌∷◌, ◌++◌, length, get_or, set, take, map, Option, Some, None, is_some, slice_get, ap, sym, ◌∙◌, zero, suc, slice_set, refl, arith, remove, swap, zip, option_map}
 use Rattle.std.proofs.lemmas.Bool.{false≢true}
 use Rattle.std.proofs.lemmas.Option.{slice_get-get_or}
 use Rattle.std.proofs.lemmas.List.{get_or-map, map-set, map-append, take-map}
@@ -9,7 +8,6 @@ use Rattle.std.proofs.lemmas.List.Edits.{length-swap}
 use Rattle.micromap_core.proofs.Lists.{map-remove, map-swap}
 use Rattle.micromap_walk.specs.Filled.{items_of, AreFilled}
 pub use Rattle.micromap_walk.proofs.FilledLemmas.{items_of-map, AreFilled-from, length_filled, some_at}
-use Rattle.std.specs.Option.{option_map}
 use Rattle.std.specs.Map.{keys_of, values_of}
 use Rattle.std.proofs.lemmas.Grind.{common_steps}
 use Rattle.micromap_walk.proofs.ZipLemmas.{keys_zip, length_zip, values_zip}

@@ -1,9 +1,7 @@
 -- For callers: the sum of a map's values after a change, and the sum of what a function makes of each value. No law has
 -- a premise. The ruleset `sum_laws` has the laws that a search needs.
-use Rattle.std.proofs.Common.{◌≡◌, ℕ, ◌+◌, ◌≤◌, Bool, List, Option, unwrap_or, refl, ap, sym, ◌∙◌, arith}
-use Rattle.std.specs.List.{sum, sum_by}
+use Rattle.std.proofs.Common.{◌≡◌, ℕ, ◌+◌, ◌≤◌, Bool, List, Option, unwrap_or, refl, ap, sym, ◌∙◌, arith, sum, sum_by, option_map}
 use Rattle.std.specs.Map.{lookup, values_of}
-use Rattle.std.specs.Option.{option_map}
 use Rattle.std.proofs.lemmas.List.{map_push}
 use Rattle.std.proofs.lemmas.List.Sums.{sum_by_push}
 use Rattle.std.proofs.lemmas.Map.Entries.{sum_by-remove_entry, sum_by-set_value}

@@ -1,11 +1,9 @@
 -- For callers: what each change of a map with texts as keys does to the list that has the keys' bytes. The laws hold
 -- for any way `read` of seeing a value: `key_texts` sees values as they are, and `texts` sees them by their bytes.
-use Rattle.std.proofs.Common.{◌≡◌, ◌↔◌, ℕ, Bool, true, false, ◌&&◌, ◌||◌, IsTrue, List, [], ◌∷◌, ◌++◌, codes, length, String, Some, is_some, refl, ap, sym, subst, ◌∙◌, string_bytes, arith}
+use Rattle.std.proofs.Common.{◌≡◌, ◌↔◌, ℕ, Bool, true, false, ◌&&◌, ◌||◌, IsTrue, List, [], ◌∷◌, ◌++◌, codes, length, String, Some, is_some, refl, ap, sym, subst, ◌∙◌, string_bytes, arith, bytes_eq, string_eq}
 use Rattle.std.specs.List.{AllByRecursion, IsDistinct, list_all, list_any}
 use Rattle.std.specs.Map.{keys_of, lookup, lookup_entry, remove_entry, set_value}
 use Rattle.std.specs.Option.{option_eq, option_map}
-use Rattle.std.specs.Str.{bytes_eq}
-use Rattle.std.specs.String.{string_eq}
 use Rattle.std.proofs.lemmas.List.{length-map, map-append}
 use Rattle.std.specs.Fmt.{◌++?◌, comma_space, debug_items}
 use Rattle.micromap_core.specs.Pairs.{at, has, pair, put, take_out, IsUnique}

@@ -1,7 +1,6 @@
 -- What a map is after pairs are put into it one after the other, and what a set is after items are.
-use Rattle.std.specs.Prelude.{◌≡◌, ℕ, ◌+◌, ◌-◌, ◌^◌, Bool, true, not, ◌&&◌, List, [], ◌∷◌, take, Option, IsTrue, unwrap_or}
+use Rattle.std.specs.Prelude.{◌≡◌, ℕ, ◌+◌, ◌-◌, ◌^◌, Bool, true, not, ◌&&◌, List, [], ◌∷◌, take, Option, IsTrue, unwrap_or, fold}
 use Rattle.std.specs.Iterator.Runs.{SomeRun, WholeRun}
-use Rattle.std.specs.List.{fold}
 use Rattle.micromap_core.specs.Pairs.{at, fits, put}
 use Rattle.micromap_core.specs.declared.map.build.Overfull.{Overfull}
 
@@ -80,8 +79,7 @@ module _ {K : Type 0} (eq : K → K → Bool) where
   unfoldable pub counts : List K → List (K × ℕ)
   counts items = fold count_one [] items
 
--- a map into which values are merged: at each item, `step` makes a new value of the one that is stored at the item's key,
--- if any, and of the item's own
+-- a map into which values are merged: `step` makes the new value of the one that is stored, if any, and of the item's
 module _ {K V W : Type 0} (eq : K → K → Bool) (step : Option V → W → V) where
   -- the pairs once one item is merged
   abbrev pub merge_pair : List (K × V) → K × W → List (K × V)

@@ -1,5 +1,4 @@
--- What a closure that gets a `&mut` to a value may be called on, what its calls answered, and what they made of a map's
--- pairs.
+-- What a closure that gets a `&mut` to a value may be called on, and what its calls answered and made of a map's pairs.
 use Rattle.std.specs.Prelude.{◌≡◌, ℕ, Bool, List, [], ◌∷◌, ◌++◌, Some, MatchOption, slice_get, slice_set}
 use Rattle.std.specs.Borrow.{Bor, MutBor}
 use Rattle.std.specs.Fn.{Mut, Called, Takes}
@@ -47,13 +46,9 @@ module _ {F K V R : Type 0} (g : Mut F (Bor K × (MutBor V × Unit {0})) (R × (
     pub called : CalledOnPair f pair.0 pair.1 r value f'
     pub pairs : new ≡ slice_set old index (pair.0, value)
 
-  -- a call of f at the pair p may answer r, and leave q for p, with its key, and f' for f
-  abbrev pub VisitsPair : F → K × V → R → K × V → F → Type 0
-  VisitsPair f p r q f' = CalledOnPair f p.0 p.1 r q.1 f' × (q.0 ≡ p.0)
-
   -- one turn of `update_all` makes t of the closure and the pairs done: what the call leaves for p comes after them
   abbrev pub UpdateAllTurn : F × List (K × V) → K × V → F × List (K × V) → Type 0
-  UpdateAllTurn s p t = (r : R) × (q : K × V) × VisitsPair s.0 p r q t.0 × (t.1 ≡ s.1 ++ q ∷ [])
+  UpdateAllTurn s p t = (r : R) × (w : V) × CalledOnPair s.0 p.0 p.1 r w t.0 × (t.1 ≡ s.1 ++ (p.0, w) ∷ [])
 
   -- f may be called at each pair in turn
   abbrev pub MayUpdateAll : F → List (K × V) → Type 0

@@ -1,5 +1,4 @@
--- What a law requires of an equality, and of a test of keys. The words don't unfold, so that a search finds them by
--- their names.
+-- What a law requires of an equality, and of a test of keys. A search finds the words by their names: none unfolds.
 use Rattle.std.specs.Prelude.{◌≡◌, Bool, true}
 use Rattle.std.specs.Cmp.{IsEquivalence}
 

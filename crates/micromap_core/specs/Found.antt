@@ -1,5 +1,4 @@
--- What each word on pairs is if the first key that passes a test is known, and what it is if no key passes. No contract
--- of a public call cites this file.
+-- What the words on pairs are if the first key that passes a test is known, and if none passes. For inner calls alone.
 use Rattle.std.specs.Prelude.{◌≡◌, ℕ, ◌<◌, Bool, true, false, List, length, Some, None, slice_get, slice_set}
 use Rattle.std.specs.List.{list_any}
 use Rattle.std.specs.Map.{keys_of, lookup, lookup_entry, remove_entry, set_value, set_key}

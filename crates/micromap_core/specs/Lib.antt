@@ -10,10 +10,8 @@ pub mod Print
 pub mod Calls
 pub mod Clones
 pub mod Closures
-pub mod Columns
 pub mod Same
 pub mod SameLaws
-pub mod Slots
 pub mod Stream
 pub mod Texts
 pub mod Found

@@ -1,6 +1,5 @@
--- The conditions that a map and its iterators by value fit in memory. A caller that is generic in key and value requires
--- them of its own callers if it makes a map, drains one or iterates one by value. Where key and value are known, they are
--- computed.
+-- The conditions that a map and its iterators by value fit in memory, computed where key and value are known. A caller
+-- that is generic in them requires them of its own callers if it makes a map, drains one or iterates one by value.
 use Rattle.std.specs.Prelude.{◌<◌, ◌^◌, Bool}
 use Rattle.std.specs.Borrow.{RattleType}
 use Rattle.micromap_core.specs.contracts.map.Map as map

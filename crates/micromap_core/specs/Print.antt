@@ -1,5 +1,4 @@
--- The texts of a set, of a map and of a reading's fault. The text of an item, a key, a value or a source's fault may be
--- unknown.
+-- The texts of a set, a map and a reading's fault. That of an item, a key, a value or a source's fault may be unknown.
 use Rattle.std.specs.Prelude.{ℕ, List, [], Option, Some, codes}
 use Rattle.std.specs.Fmt.{◌++?◌, debug_items}
 use Rattle.micromap_core.specs.declared.stream.ReadFault.{ReadFault}

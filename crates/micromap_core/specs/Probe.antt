@@ -1,8 +1,5 @@
--- The tests of `Text`, and the laws of a probe that compares by an equality. A contract states a call by probe by the
--- probe's test of a key, with the standard library's `lookup`, `lookup_entry`, `set_value` and `remove_entry`.
-use Rattle.std.specs.Prelude.{◌≡◌, ℕ, Bool, true, List, String, nat_eq, string_bytes}
-use Rattle.std.proofs.Common.{sym, ◌∙◌}
-use Rattle.std.specs.Borrow.{Bor}
+-- The tests of `Text`, and the laws of a probe that compares by an equality. A call by probe is stated by its test.
+use Rattle.std.proofs.Common.{sym, ◌∙◌, ◌≡◌, ℕ, Bool, true, List, String, nat_eq, string_bytes, Bor}
 use Rattle.std.specs.Cmp.{IsEquivalence}
 use Rattle.std.specs.Cmp.Lexicographic.{pointwise}
 

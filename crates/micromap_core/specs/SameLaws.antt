@@ -1,11 +1,9 @@
 -- Sameness is an equivalence, of any lists.
-use Rattle.std.specs.Prelude.{◌≡◌, Bool, true, List}
-use Rattle.std.proofs.Common.{ap, get_or, sym, ◌∙◌}
-use Rattle.std.specs.Cmp.{IsEquivalence, equiv, first_so, second_so}
+use Rattle.std.proofs.Common.{ap, get_or, sym, ◌∙◌, ◌≡◌, Bool, true, List}
+use Rattle.std.specs.Cmp.{IsEquivalence, and_equiv, equiv, first_so, on_equiv, second_so}
 use Rattle.std.specs.Cmp.Derive.{both_true}
 use Rattle.std.specs.List.{list_all, list_any}
 use Rattle.std.proofs.Math.Bool.{and_comm}
-use Rattle.std.proofs.lemmas.Cmp.{and_equiv, on_equiv}
 use Rattle.std.proofs.lemmas.List.Folds.{Any-from_list_any}
 use Rattle.std.proofs.lemmas.List.Sums.{AllPass-from_list_all, list_all-from_AllPass}
 use Rattle.std.proofs.lemmas.Map.Made.{All-is_member}
@@ -17,14 +15,11 @@ module _ {X : Type 0} {eq : X → X → Bool} (laws : IsEquivalence eq) where
   abbrev all_in : List X → List X → Bool
   all_in ys xs = list_all (λ x. list_any (eq x) ys) xs
 
-  -- what has an equal item in a list has one in any list that has them all
-  any_in : (x : X) (ys zs : List X) → list_any (eq x) ys ≡ true → all_in zs ys ≡ true → list_any (eq x) zs ≡ true
-  any_in x ys zs found all =
-      let at = Any-from_list_any (eq x) ys found in
-      list_any_congr laws x at.1 zs at.4 ∙ ap (λ y. list_any (eq y) zs) (sym at.3) ∙ AllPass-from_list_all (λ y. list_any (eq y) zs) ys all at.0 at.1 at.2
-
   all_in_trans : (xs ys zs : List X) → all_in ys xs ≡ true → all_in zs ys ≡ true → all_in zs xs ≡ true
-  all_in_trans xs ys zs one two = list_all-from_AllPass (λ x. list_any (eq x) zs) xs (λ i d within. any_in (get_or xs i d) ys zs (AllPass-from_list_all (λ x. list_any (eq x) ys) xs one i d within) two)
+  all_in_trans xs ys zs one two = list_all-from_AllPass (λ x. list_any (eq x) zs) xs (λ i d within.
+      let x = get_or xs i d in
+      let at = Any-from_list_any (eq x) ys (AllPass-from_list_all (λ x. list_any (eq x) ys) xs one i d within) in
+      list_any_congr laws x at.1 zs at.4 ∙ ap (λ y. list_any (eq y) zs) (sym at.3) ∙ AllPass-from_list_all (λ y. list_any (eq y) zs) ys two at.0 at.1 at.2)
 
   pub have_equal_items_equiv : IsEquivalence (have_equal_items eq)
   have_equal_items_equiv =

@@ -5,7 +5,7 @@
 ghost use Rattle.std.specs.Prelude.{◌≡◌, ◌-◌, ◌<◌, ◌≤◌, [], ◌∷◌, ◌++◌, length, take, Some, slice_get, slice_index_or};
 ghost use Rattle.std.specs.Borrow.{sem};
 ghost use Rattle.std.specs.List.{remove, swap};
-ghost use Rattle.micromap_core.specs.Slots.{lends_item_at};
+ghost use Rattle.micromap_core.specs.Lends.{lends_item_at};
 ghost use Rattle.micromap_walk.specs.Filled.{items_of, AreFilled};
 
 mod columns;

@@ -1,6 +1,5 @@
 -- The slots in which a map keeps its keys and its values. None of them is empty.
-use Rattle.std.specs.Prelude.{◌≡◌, ◌≤◌, ℕ, List, drop, length, map, Option, Some}
-use Rattle.std.specs.List.{filter_map}
+use Rattle.std.specs.Prelude.{◌≡◌, ◌≤◌, ℕ, List, drop, length, map, Option, Some, filter_map}
 
 module _ {X : Type 0} where
   -- what stands in the slots, in order

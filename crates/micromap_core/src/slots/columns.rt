@@ -9,7 +9,7 @@ ghost use Rattle.std.specs.Map.Calls.{CallableOnEachPair, RetainsPairs};
 ghost use Rattle.std.specs.Option.{IfSome, option_map};
 ghost use Rattle.micromap_walk.specs.Filled.{items_of, AreFilled};
 ghost use Rattle.micromap_core.specs.Closures.{AcceptsPair, CalledOnPair, VisitsAt};
-ghost use Rattle.micromap_core.specs.Columns.{lends_value_in};
+ghost use Rattle.micromap_core.specs.Lends.{lends_value_in};
 
 use super::Slots;
 use arrayvec::ArrayVec;

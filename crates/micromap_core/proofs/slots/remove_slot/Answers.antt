@@ -1,6 +1,5 @@
-use Rattle.std.proofs.Common.{◌≡◌, ℕ, zero, suc, ◌-◌, ◌<◌, ◌≤◌, List, [], ◌∷◌, ◌++◌, length, take, drop, slice_index_or, slice_set, refl, ap, sym, ◌∙◌, length-append, take-append-drop, arith}
+use Rattle.std.proofs.Common.{◌≡◌, ℕ, zero, suc, ◌-◌, ◌<◌, ◌≤◌, List, [], ◌∷◌, ◌++◌, length, take, drop, slice_index_or, slice_set, refl, ap, sym, ◌∙◌, length-append, take-append-drop, arith, length-take}
 use Rattle.std.specs.List.{insert, refill, remove}
-use Rattle.std.proofs.lemmas.List.{length-take}
 use Rattle.std.proofs.lemmas.List.Edits.{get_or-insert_at, insert_end}
 use Rattle.micromap_core.proofs.Lists.{refill-same, remove_seam}
 use Rattle.micromap_core.proofs.slots.remove_slot.Goals as goal

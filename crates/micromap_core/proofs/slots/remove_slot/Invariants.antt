@@ -1,5 +1,4 @@
-use Rattle.std.specs.Prelude.{◌≡◌, ◌≤◌}
-use Rattle.std.specs.List.{insert}
+use Rattle.std.specs.Prelude.{◌≡◌, ◌≤◌, insert}
 use Rattle.micromap_core.proofs.slots.remove_slot.Given as goal
 
 abbrev pub invariant-loop-at : goal.invariant-loop-at

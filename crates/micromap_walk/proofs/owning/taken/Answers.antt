@@ -1,6 +1,4 @@
-use Rattle.std.proofs.Common.{◌<◌, length, ℕ, arith}
-use Rattle.std.proofs.Math.Nat.{mul-le-mul_right, le_of_lt}
-use Rattle.std.proofs.lemmas.List.{length-set}
+use Rattle.std.proofs.Common.{◌<◌, length, ℕ, arith, mul-le-mul_right, le_of_lt, length-set}
 use Rattle.micromap_walk.proofs.FilledLemmas.{refill_set, taken_some, taken_items, taken_filled}
 use Rattle.micromap_walk.proofs.owning.taken.Goals as goal
 

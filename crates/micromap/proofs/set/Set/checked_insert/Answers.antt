@@ -1,5 +1,4 @@
-use Rattle.std.proofs.Common.{◌||◌, Some, None, is_some, if◌then◌else◌, nat_lt, length, ap, sym, ◌∙◌}
-use Rattle.std.proofs.lemmas.Bool.{lt-ltb}
+use Rattle.std.proofs.Common.{◌||◌, Some, None, is_some, if◌then◌else◌, nat_lt, length, ap, sym, ◌∙◌, lt-ltb}
 use Rattle.micromap.specs.Items.{replace_item, find_item}
 use Rattle.micromap.proofs.ItemLemmas.{any-find, put_item-stored, put_item-room}
 use Rattle.micromap.proofs.SetLaws.{replace_item_new, replace_item_back, find_item_replace_back}

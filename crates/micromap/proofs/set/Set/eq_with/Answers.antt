@@ -1,5 +1,4 @@
-use Rattle.std.proofs.Common.{◌≡◌, ◌≢◌, length, sym, ◌∙◌, rules}
-use Rattle.std.proofs.lemmas.Bool.{ne_eqb}
+use Rattle.std.proofs.Common.{◌≡◌, ◌≢◌, length, sym, ◌∙◌, rules, ne_eqb}
 use Rattle.micromap_core.proofs.DistinctLemmas.{both_sides, not_both_sides}
 use Rattle.micromap.proofs.OperationLaws.{members_answered}
 use Rattle.micromap.proofs.set.Set.eq_with.Goals as goal

@@ -1,6 +1,5 @@
-use Rattle.std.proofs.Common.{◌++◌, length, ap, arith}
+use Rattle.std.proofs.Common.{◌++◌, length, ap, arith, length-append}
 use Rattle.std.specs.Map.Iter.{deref}
-use Rattle.std.proofs.lemmas.List.{length-append}
 use Rattle.micromap.specs.Operations.{difference_left, union, union_left, union_on}
 use Rattle.micromap.proofs.AddedItems.{added_all}
 use Rattle.micromap.proofs.OperationLaws.{IsDistinct-union, length-union, union_turned}

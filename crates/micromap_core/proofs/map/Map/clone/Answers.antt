@@ -1,6 +1,5 @@
-use Rattle.std.proofs.Common.{ap, ◌∙◌, arith}
+use Rattle.std.proofs.Common.{ap, ◌∙◌, arith, take_all}
 use Rattle.std.proofs.lemmas.List.Elements.{same_from_all_zip}
-use Rattle.std.proofs.lemmas.List.{take_all}
 use Rattle.micromap_core.proofs.CloneLemmas.{all_at, clones_all, clones_more, length_clones, unique_clones}
 use Rattle.micromap_core.proofs.Sizes.{columns_fit}
 use Rattle.micromap_core.proofs.map.Map.clone.Goals as goal

@@ -1,5 +1,4 @@
-use Rattle.std.specs.Prelude.{◌≡◌, not}
-use Rattle.std.specs.List.{find}
+use Rattle.std.specs.Prelude.{◌≡◌, not, find}
 use Rattle.micromap_core.specs.Pairs.{has}
 use Rattle.micromap_core.specs.Same.{first_missing}
 use Rattle.micromap_core.proofs.map.Map.first_missing.Given as goal

@@ -1,5 +1,4 @@
-use Rattle.std.proofs.Common.{ap, sym, ◌∙◌}
-use Rattle.std.specs.Option.{option_copied, option_map}
+use Rattle.std.proofs.Common.{ap, sym, ◌∙◌, option_copied, option_map}
 use Rattle.micromap_core.proofs.MapLemmas.{found_at, not_found}
 use Rattle.micromap_core.proofs.StepsLemmas.{steps-bound}
 use Rattle.micromap_core.proofs.map.Map.get_counted.Goals as goal

@@ -1,5 +1,4 @@
-use Rattle.std.proofs.Common.{ap, sym, inl, ◌∙◌}
-use Rattle.std.specs.Option.{option_map}
+use Rattle.std.proofs.Common.{ap, sym, inl, ◌∙◌, option_map}
 use Rattle.micromap_core.proofs.MapLemmas.{with_value_at-put}
 use Rattle.micromap_core.proofs.map.Map.get_mut.Goals as goal
 

@@ -1,5 +1,4 @@
-use Rattle.std.proofs.Common.{ap, sym, inl, ◌∙◌}
-use Rattle.std.specs.Option.{option_map}
+use Rattle.std.proofs.Common.{ap, sym, inl, ◌∙◌, option_map}
 use Rattle.micromap_core.proofs.MapLemmas.{written_at}
 use Rattle.micromap_core.proofs.map.Map.get_mut_by.Goals as goal
 

@@ -1,5 +1,4 @@
-use Rattle.std.proofs.Common.{refl, ap, sym, ◌∙◌}
-use Rattle.std.specs.Option.{option_map}
+use Rattle.std.proofs.Common.{refl, ap, sym, ◌∙◌, option_map}
 use Rattle.micromap_core.proofs.MapLemmas.{written_at}
 use Rattle.micromap_core.proofs.map.Map.index_mut_by.Goals as goal
 

@@ -1,5 +1,4 @@
-use Rattle.std.proofs.Common.{ap, sym, ◌∙◌}
-use Rattle.std.specs.Option.{option_map}
+use Rattle.std.proofs.Common.{ap, sym, ◌∙◌, option_map}
 use Rattle.micromap_core.proofs.MapLemmas.{found_at}
 use Rattle.micromap_core.proofs.map.Map.put_at.Goals as goal
 

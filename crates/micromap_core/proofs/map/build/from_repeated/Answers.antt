@@ -1,5 +1,4 @@
-use Rattle.std.proofs.Common.{◌≡◌, true, [], get_or, ap, ◌∙◌, rules}
-use Rattle.std.proofs.lemmas.List.{take_all}
+use Rattle.std.proofs.Common.{◌≡◌, true, [], get_or, ap, ◌∙◌, rules, take_all}
 use Rattle.micromap_core.specs.Build.{build, pair_fits, put_pair}
 use Rattle.micromap_core.proofs.BuildLemmas.{put_at, pairs_keyed, array_fits, array_fits_at}
 use Rattle.micromap_core.proofs.map.build.from_repeated.Goals as goal

@@ -1,5 +1,4 @@
-use Rattle.std.proofs.Common.{◌≡◌, ℕ, ◌-◌, ◌<◌, ◌≤◌, List, [], ◌∷◌, ◌++◌, length, ap, sym, ◌∙◌, append-nil, append_assoc, length-append, arith, rules}
-use Rattle.std.proofs.lemmas.List.{take_all}
+use Rattle.std.proofs.Common.{◌≡◌, ℕ, ◌-◌, ◌<◌, ◌≤◌, List, [], ◌∷◌, ◌++◌, length, ap, sym, ◌∙◌, append-nil, append_assoc, length-append, arith, rules, take_all}
 use Rattle.arrayvec.specs.Iter.{drain_items}
 use Rattle.micromap_core.proofs.SlotsLemmas.{length_filled}
 use Rattle.micromap_core.proofs.slots.Slots.into_capacity.Goals as goal

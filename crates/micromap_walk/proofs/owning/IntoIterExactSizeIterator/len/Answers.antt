@@ -1,5 +1,4 @@
-use Rattle.std.proofs.Common.{◌-◌, length, ap, sym, ◌∙◌}
-use Rattle.std.proofs.lemmas.List.{length-drop}
+use Rattle.std.proofs.Common.{◌-◌, length, ap, sym, ◌∙◌, length-drop}
 use Rattle.micromap_walk.proofs.FilledLemmas.{left_equal, length_filled}
 use Rattle.micromap_walk.proofs.ZipLemmas.{length_zip}
 use Rattle.micromap_walk.proofs.owning.IntoIterExactSizeIterator.len.Goals as goal

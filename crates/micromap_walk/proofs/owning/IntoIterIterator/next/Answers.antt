@@ -1,5 +1,4 @@
-use Rattle.std.proofs.Common.{◌≤◌, length, refl, sym, ◌∙◌, arith}
-use Rattle.std.proofs.Math.ListN.{drop_of_length-le}
+use Rattle.std.proofs.Common.{◌≤◌, length, refl, sym, ◌∙◌, arith, drop_of_length-le}
 use Rattle.micromap_walk.proofs.Runs.{first_goes}
 use Rattle.micromap_walk.proofs.owning.IntoIterIterator.next.Goals as goal
 

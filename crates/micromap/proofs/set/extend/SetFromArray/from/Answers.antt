@@ -1,5 +1,4 @@
-use Rattle.std.proofs.Common.{◌≡◌, true, [], get_or, ap, ◌∙◌, rules}
-use Rattle.std.proofs.lemmas.List.{take_all}
+use Rattle.std.proofs.Common.{◌≡◌, true, [], get_or, ap, ◌∙◌, rules, take_all}
 use Rattle.micromap_core.proofs.BuildLemmas.{put_at, array_fits, array_fits_at}
 use Rattle.micromap.specs.Extend.{distinct}
 use Rattle.micromap.specs.Items.{put_item, item_fits}

@@ -1,5 +1,4 @@
-use Rattle.std.proofs.Common.{refl, ◌∙◌, arith}
-use Rattle.std.proofs.lemmas.List.{take_all}
+use Rattle.std.proofs.Common.{refl, ◌∙◌, arith, take_all}
 use Rattle.std.proofs.lemmas.Result.{MatchResult-from_err}
 use Rattle.micromap_core.proofs.CloneLemmas.{all_at, clones_all, clones_more, length_clones, unique_clones}
 use Rattle.micromap_core.proofs.Sizes.{columns_fit}

@@ -1,5 +1,4 @@
-use Rattle.std.proofs.Common.{◌≡◌, Some, slice_get, refl, subst, ◌∙◌}
-use Rattle.std.specs.Option.{IfSome}
+use Rattle.std.proofs.Common.{◌≡◌, Some, slice_get, refl, subst, ◌∙◌, IfSome}
 use Rattle.micromap_core.specs.Closures.{AcceptsPair}
 use Rattle.micromap_core.proofs.SlotsLemmas.{get_zip, set_value_zip}
 use Rattle.micromap_core.proofs.slots.columns.Columns.visit_at.Goals as goal
