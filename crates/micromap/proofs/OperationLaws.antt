@@ -1,6 +1,6 @@
 -- The members of an operation on two lists of items are pairwise unequal. An operation that doesn't care which list is
 -- first has equal members if the lists change places. For callers: `same_members`.
-use Rattle.std.proofs.Common.{◌≡◌, ◌+◌, Bool, true, false, not, ◌&&◌, ◌||◌, ◌↔◌, List, [], ◌∷◌, length, filter, if◌then◌else◌, IsTrue, refl, ap, sym, subst, ◌∙◌, arith, length-append}
+use Rattle.std.proofs.Common.{◌≡◌, ◌+◌, Bool, true, false, not, ◌&&◌, ◌||◌, ◌↔◌, List, [], ◌∷◌, length, filter, if◌then◌else◌, IsTrue, refl, ap, sym, ◌∙◌, arith, length-append}
 use Rattle.std.specs.Cmp.{IsEquivalence, both_ways, first_so, second_so}
 use Rattle.std.specs.Cmp.Derive.{both_true}
 use Rattle.std.specs.List.{IsDistinct, list_all}
@@ -11,7 +11,7 @@ use Rattle.std.proofs.lemmas.List.Sums.{list_all-from_AllPass}
 use Rattle.std.proofs.lemmas.Map.Made.{is_member-filter}
 use Rattle.std.proofs.lemmas.Map.Steps.{list_any_congr}
 use Rattle.std.specs.Set.{is_member}
-use Rattle.micromap_core.specs.Same.{have_equal_items}
+use Rattle.micromap_core.specs.Same.{have_equal_items, HaveEqualItems}
 use Rattle.micromap_core.proofs.DistinctLemmas.{IsDistinct-append}
 use Rattle.micromap.specs.Operations.{difference, intersection, symmetric_difference, union, Commutes, HaveEquals, IsDisjoint, IsSubset}
 use Rattle.micromap.proofs.OperationSteps.{length-parts}
@@ -93,15 +93,15 @@ module _ {T : Type 0} {eq : T → T → Bool} (laws : IsEquivalence eq) where
   within_is_member (x ∷ xs) ys each =
       both_true (each x (ap (λ b. b || is_member eq xs x) (laws.refl x))) (within_is_member xs ys (λ q there. each q (ap (λ b. eq q x || b) there ∙ or-true (eq q x))))
 
-  pub same_members : (xs ys : List T) → IsTrue (have_equal_items eq xs ys) ↔ HaveEquals eq xs ys
+  pub same_members : (xs ys : List T) → HaveEqualItems eq xs ys ↔ HaveEquals eq xs ys
   same_members xs ys = (
     λ equal q. both_ways (is_member eq xs q) (is_member eq ys q) (is_member_within xs ys (first_so _ _ equal) q) (is_member_within ys xs (second_so _ _ equal) q),
     λ same. both_true (within_is_member xs ys (λ q there. sym (same q) ∙ there)) (within_is_member ys xs (λ q there. same q ∙ there)),
   )
 
-  -- a comparison's answer says the same
-  pub members_answered : (xs ys : List T) (answer : Bool) → answer ≡ have_equal_items eq xs ys → IsTrue answer ↔ HaveEquals eq xs ys
-  members_answered xs ys answer is = subst (λ b. IsTrue b ↔ HaveEquals eq xs ys) (sym is) (same_members xs ys)
+  -- a comparison's answer says both
+  pub members_answered : (xs ys : List T) (answer : Bool) → answer ≡ have_equal_items eq xs ys → (IsTrue answer ↔ HaveEqualItems eq xs ys) × (IsTrue answer ↔ HaveEquals eq xs ys)
+  members_answered xs ys answer is = rw is ((λ yes. yes, λ yes. yes), same_members xs ys)
 
   is_member_apart : (xs ys : List T) → list_all (λ x. not (is_member eq ys x)) xs ≡ true → (q : T) → is_member eq xs q ≡ true → is_member eq ys q ≡ false
   is_member_apart [] ys all q there = absurd (false≢true there)

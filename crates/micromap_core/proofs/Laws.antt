@@ -11,7 +11,7 @@ use Rattle.std.proofs.lemmas.Map.Entries.{length-keys_of}
 use Rattle.std.proofs.lemmas.Map.Made.{is_some-lookup}
 use Rattle.micromap_core.specs.Equalities.{Lawful}
 use Rattle.micromap_core.specs.Pairs.{has, IsUnique}
-use Rattle.micromap_core.specs.Same.{have_equal_items, has_value, is_same, Same}
+use Rattle.micromap_core.specs.Same.{have_equal_items, HaveEqualItems, has_value, is_same, Same}
 use Rattle.micromap_core.specs.SameLaws.{have_equal_items_equiv, is_same_equiv}
 use Rattle.micromap_core.proofs.DistinctLemmas.{length-filter_members, members_turned, missing_in_shorter}
 use Rattle.micromap_core.proofs.Equalities.{lawful, of_lawful}
@@ -42,7 +42,7 @@ module _ {T : Type 0} (eq : T → T → Bool) (equality : Lawful eq) where
     longer_has_item longer = some_fails (of_lawful eq equality) (is_member eq ys) xs (missing_in_shorter (of_lawful eq equality) xs ys distinct longer)
 
     -- of equally long lists, one side tells of both
-    pub equal_items_from_one_side : length xs ≡ length ys → IsTrue (list_all (is_member eq ys) xs) → IsTrue (have_equal_items eq xs ys)
+    pub equal_items_from_one_side : length xs ≡ length ys → IsTrue (list_all (is_member eq ys) xs) → HaveEqualItems eq xs ys
     equal_items_from_one_side long all = both_true all (members_turned (of_lawful eq equality) xs ys distinct all (omega (arith, long)))
 
 -- of pairs

@@ -10,6 +10,10 @@ use Rattle.micromap_core.specs.Pairs.{at, has}
 abbrev pub have_equal_items : {X : Type 0} → (X → X → Bool) → List X → List X → Bool
 have_equal_items eq first second = list_all (λ x. list_any (eq x) second) first && list_all (λ y. list_any (eq y) first) second
 
+-- each item of either list has an equal one in the other
+abbrev pub HaveEqualItems : {X : Type 0} → (X → X → Bool) → List X → List X → Type 0
+HaveEqualItems eq first second = IsTrue (have_equal_items eq first second)
+
 module _ {K V : Type 0} (eq : K → K → Bool) (same : V → V → Bool) where
   -- whether the keys are equal and the values are
   abbrev pub pair_eq : K × V → K × V → Bool
@@ -20,7 +24,7 @@ module _ {K V : Type 0} (eq : K → K → Bool) (same : V → V → Bool) where
   is_same = have_equal_items pair_eq
 
   abbrev pub Same : List (K × V) → List (K × V) → Type 0
-  Same first second = IsTrue (is_same first second)
+  Same = HaveEqualItems pair_eq
 
   -- whether what the two lists have at the key agrees
   abbrev pub same_at : List (K × V) → List (K × V) → K → Bool

@@ -1,8 +1,8 @@
 //! Comparing two sets, whose capacities may differ.
-ghost use Rattle.std.specs.Prelude.{◌≡◌, ◌↔◌, IsTrue};
+ghost use Rattle.std.specs.Prelude.{◌↔◌, IsTrue};
 ghost use Rattle.std.specs.Cmp.{partial_equiv_from_equiv};
 ghost use Rattle.micromap.specs.Operations.{HaveEquals};
-ghost use Rattle.micromap.specs.Same.{have_equal_items};
+ghost use Rattle.micromap.specs.Same.{have_equal_items, HaveEqualItems};
 ghost use Rattle.micromap.specs.SameLaws.{have_equal_items_equiv};
 
 use super::Set;
@@ -13,7 +13,7 @@ impl<T: Eq, const N: usize> Set<T, N> {
     ///
     /// Compares no item if the lengths differ. Else it costs what `is_subset` costs.
     pub fn eq_with<const M: usize>(&self, other: &Set<T, M>) -> bool
-        ensures answer { result ≡ have_equal_items T.eq self.now other.now }
+        ensures answer { IsTrue result ↔ HaveEqualItems T.eq self.now other.now }
         ensures members { IsTrue result ↔ HaveEquals T.eq self.now other.now }
     {
         // Both have the same number of items, and `other` has each item of this set. So `other` has no other item.

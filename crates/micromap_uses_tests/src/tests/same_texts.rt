@@ -1,10 +1,10 @@
 //! Callers that compare maps and sets of texts, in terms of their bytes.
 #![tactic(auto, using(micromap_core::proofs::TextViews::text_views, micromap::proofs::SetTextViews::set_text_views))]
 
-ghost use Rattle.std.specs.Prelude.{◌≡◌, ◌↔◌, IsTrue, List, ℕ, nat_eq};
+ghost use Rattle.std.specs.Prelude.{◌↔◌, IsTrue, List, ℕ, nat_eq};
 ghost use Rattle.std.specs.Str.{bytes_eq};
 ghost use Rattle.micromap.specs.Operations.{HaveEquals};
-ghost use Rattle.micromap.specs.Same.{Same, have_equal_items, same_at};
+ghost use Rattle.micromap.specs.Same.{HaveEqualItems, Same, same_at};
 ghost use Rattle.micromap.specs.Texts.{item_texts, key_texts, texts};
 
 use micromap::{Map, Set};
@@ -36,7 +36,7 @@ fn have_same_words<const N: usize, const M: usize>(
     one: &Set<String, N>,
     other: &Set<String, M>,
 ) -> bool
-    ensures same { result ≡ have_equal_items bytes_eq (item_texts one.now) (item_texts other.now) }
+    ensures same { IsTrue result ↔ HaveEqualItems bytes_eq (item_texts one.now) (item_texts other.now) }
     ensures each { IsTrue result ↔ HaveEquals bytes_eq (item_texts one.now) (item_texts other.now) }
 {
     one.eq_with(other)

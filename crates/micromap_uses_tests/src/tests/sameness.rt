@@ -11,7 +11,7 @@ ghost use Rattle.micromap.specs.Calls.{Call};
 ghost use Rattle.micromap.specs.Fair.{AnswersAgree, IsFair};
 ghost use Rattle.micromap.specs.Operations.{intersection};
 ghost use Rattle.micromap.specs.Pairs.{fits, has};
-ghost use Rattle.micromap.specs.Same.{Same, has_value, have_equal_items};
+ghost use Rattle.micromap.specs.Same.{HaveEqualItems, Same, has_value};
 
 use micromap::{Map, Set};
 use micromap_uses::board::{Board, Square};
@@ -148,14 +148,14 @@ fn as_long<const N: usize, const M: usize>(first: &Map<u8, u8, N>, second: &Map<
 
 // Whether the two sets have the same items, by one side of the comparison.
 fn have_same_items<const N: usize, const M: usize>(first: &Set<u8, N>, second: &Set<u8, M>) -> bool
-    ensures { OnTrue result (IsTrue (have_equal_items nat_eq first.now second.now)) }
+    ensures { OnTrue result (HaveEqualItems nat_eq first.now second.now) }
 {
     first.len() == second.len() && first.is_subset(second)
 }
 
 // Whether three sets have the same items, by two comparisons.
 fn share_items<const N: usize>(first: &Set<u8, N>, second: &Set<u8, N>, third: &Set<u8, N>) -> bool
-    ensures { OnTrue result (IsTrue (have_equal_items nat_eq first.now third.now)) }
+    ensures { OnTrue result (HaveEqualItems nat_eq first.now third.now) }
 {
     first.eq_with(second) && second.eq_with(third)
 }
