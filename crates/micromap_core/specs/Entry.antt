@@ -77,6 +77,17 @@ module _ {K V : Type 0} where
     pub taken : entry_taken d ≡ entry_taken e
     pub sound : IsSound eq d
 
+  -- d is the entry e once the value that its key has, if any, is modified: `modifies` takes the old value and the new one
+  pub record IsModified (eq : K → K → Bool) (modifies : Option V → Option V → Type 0) (e d : EntryIn K (List (K × V))) : Type 0 where
+    pub same_map : (entry_map_ref d).ghost_name ≡ (entry_map_ref e).ghost_name
+    pub pairs : entry_pairs d ≡ option_map_or (entry_put e) (entry_value d) (entry_pairs e)
+    pub occupied : is_occupied d ≡ is_occupied e
+    pub key : entry_key d ≡ entry_key e
+    pub value : modifies (entry_value e) (entry_value d)
+    pub puts : (v : V) → entry_put d v ≡ entry_put e v
+    pub taken : entry_taken d ≡ entry_taken e
+    pub sound : IsSound eq d
+
   -- o once v is its value
   abbrev pub with_entry_value : OccupiedIn (List (K × V)) → V → OccupiedIn (List (K × V))
   with_entry_value o v = record o { map = record o.map { now = entry_put (Occupied o) v } }

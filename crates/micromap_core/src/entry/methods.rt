@@ -3,9 +3,9 @@
 ghost use Rattle.std.specs.Prelude.{◌≡◌, Some, None, IsTrue, unwrap_or};
 ghost use Rattle.std.specs.Borrow.{sem, Bor, MutBor};
 ghost use Rattle.std.specs.Map.Calls.{ModifiesValue};
-ghost use Rattle.std.specs.Option.{UnwrapsOrElse, option_map_or};
+ghost use Rattle.std.specs.Option.{UnwrapsOrElse};
 ghost use Rattle.micromap_core.specs.Pairs.{IsContent};
-ghost use Rattle.micromap_core.specs.Entry.{Occupied, AnswersOfKey, entry_map_ref, entry_pairs, is_occupied, entry_key, entry_value, entry_put, entry_taken, entry_has_room, IsSound, IsEntryOf, IsWritten, entry_lends};
+ghost use Rattle.micromap_core.specs.Entry.{Occupied, AnswersOfKey, entry_key, entry_value, entry_has_room, IsSound, IsEntryOf, IsWritten, IsModified, entry_lends};
 
 use super::{Entry, EntryIn, OccupiedEntry, OccupiedIn, VacantIn};
 use crate::Map;
@@ -64,15 +64,7 @@ impl<'a, K: Eq, V, const N: usize> EntryIn<'a, K, Map<K, V, N>> {
     pub fn and_modify<F: FnOnce(&mut V)>(self, f: F) -> Self
         requires sound { IsSound K.eq self }
         requires callable { (p : MutBor V) → entry_value self ≡ Some p.now → F.pre f p }
-        ensures same_map { (entry_map_ref result).ghost_name ≡ (entry_map_ref self.entry).ghost_name }
-        ensures pairs { entry_pairs result
-            ≡ option_map_or (entry_put self.entry) (entry_value result) (entry_pairs self.entry) }
-        ensures occupied { is_occupied result ≡ is_occupied self.entry }
-        ensures key { entry_key result ≡ entry_key self.entry }
-        ensures value { ModifiesValue F.FnOnce f (entry_value self.entry) (entry_value result) }
-        ensures puts { (v : V) → entry_put result v ≡ entry_put self.entry v }
-        ensures taken { entry_taken result ≡ entry_taken self.entry }
-        ensures sound { IsSound K.eq result }
+        ensures { IsModified K.eq (ModifiesValue F.FnOnce f) self.entry result }
     {
         match self {
             EntryIn::Occupied(mut entry) => {
