@@ -10,18 +10,14 @@ use Rattle.micromap_core.specs.Build.{all_fit, build, pair_fits, put_pair}
 use Rattle.micromap_core.specs.Pairs.{fits, has, IsContent, IsUnique}
 use Rattle.micromap_core.specs.declared.stream.ReadFault.{ReadFault}
 use Rattle.micromap_core.specs.declared.stream.ReadFault.TheVariants.{Source, TooMany}
-use Rattle.micromap_core.specs.Stream.{Faultless, Faults, TakesBeginning, MapReads}
+use Rattle.micromap_core.specs.Stream.{Stream, stream_of, Faultless, Faults, TakesBeginning, MapReads}
 use Rattle.micromap_core.proofs.BuildLemmas.{has_put_more, few_distinct, many_distinct, pairs_keyed}
 use Rattle.micromap_core.proofs.DistinctLemmas.{new_behind}
 use Rattle.micromap_core.proofs.MapLaws.{put_new}
 
--- no fault, and then a call with none or with one
-module _ {S E : Type 0} {faults : S → ℕ} {last_fault : S → Option E} {old now new : S} (so_far : Faultless faults last_fault old now) where
-  pub still_faultless : Faultless faults last_fault now new → Faultless faults last_fault old new
-  still_faultless step = record { count = step.count ∙ so_far.count; last = step.last ∙ so_far.last }
-
-  first_fault : {e : E} → Faults faults last_fault now new e → Faults faults last_fault old new e
-  first_fault step = record { count = step.count ∙ ap suc so_far.count; last = step.last }
+-- no fault, and then a call with none
+pub still_faultless : {S E : Type 0} {faults : S → ℕ} {last_fault : S → Option E} {old now new : S} → Faultless faults last_fault old now → Faultless faults last_fault now new → Faultless faults last_fault old new
+still_faultless so_far step = record { count = step.count ∙ so_far.count; last = step.last ∙ so_far.last }
 
 -- of the entries these are left, and those before them were appended to old
 pub record Writing {X : Type 0} (old entries left now : List X) : Type 0 where
@@ -70,11 +66,15 @@ module _ {K V S E : Type 0} (eq : K → K → Bool) (N : ℕ) (left : S → List
   pub reading_begins : Reading old []
   reading_begins = record { before = []; split = refl; fit = refl; made = refl; faultless = record { count = refl; last = refl } }
 
+  -- the source as a stream
+  abbrev stream : S → Stream (K × V) E
+  stream = stream_of left faults last_fault
+
   -- what a reading answers says how far it came, and without an error of the source the entries are read back
   abbrev Reads : S → Result (List (K × V)) (ReadFault E) → Type 0
-  Reads new r = MapReads eq N left faults last_fault old new r × (IsContent eq N (left old) → faults new ≡ faults old → r ≡ Ok (left old))
+  Reads new r = MapReads eq N (stream old) (stream new) r × (IsContent eq N (left old) → faults new ≡ faults old → r ≡ Ok (left old))
 
-  read_back : IsEquivalence eq → (new : S) (r : Result (List (K × V)) (ReadFault E)) → MapReads eq N left faults last_fault old new r → Reads new r
+  read_back : IsEquivalence eq → (new : S) (r : Result (List (K × V)) (ReadFault E)) → MapReads eq N (stream old) (stream new) r → Reads new r
   read_back laws new (Ok map) reads = (reads, λ content none. ap Ok (reads.made ∙ built_in_turn laws [] (left old) content.unique))
   read_back laws new (Err (Source fault)) reads = (reads, λ content none. absurd (omega (arith, reads.fault_is.count, none)))
   read_back laws new (Err TooMany) reads =
@@ -92,17 +92,21 @@ module _ {K V S E : Type 0} {eq : K → K → Bool} {N : ℕ} {left : S → List
 
   -- the ends
   module _ (laws : IsEquivalence eq) (new : S) where
+    -- so the stream has had no fault
+    ends_faultless : Faultless faults last_fault now new → Faultless (λ s. s.faults) (λ s. s.last_fault) (stream_of left faults last_fault old) (stream_of left faults last_fault new)
+    ends_faultless step = record { count = step.count ∙ reading.faultless.count; last = step.last ∙ reading.faultless.last }
+
     pub read_misfit : (x : K × V) → left now ≡ x ∷ left new → Faultless faults last_fault now new → fits eq N map x.0 ≡ false → Reads eq N left faults last_fault old new (Err TooMany)
     read_misfit x next step refused =
         let misfit : IsTrue (not (fits eq N (build eq reading.before) x.0)) = ap not (ap (λ c. fits eq N c x.0) (sym reading.made) ∙ refused) in
-        read_back eq N left faults last_fault old laws new (Err TooMany) (record { before = reading.before; item = x; split = seam new x next; fit = reading.fit; misfit = misfit; many = many_distinct laws (pairs_keyed eq N) reading.before x misfit; faultless = still_faultless reading.faultless step })
+        read_back eq N left faults last_fault old laws new (Err TooMany) (record { before = reading.before; item = x; split = seam new x next; fit = reading.fit; misfit = misfit; many = many_distinct laws (pairs_keyed eq N) reading.before x misfit; faultless = ends_faultless step })
 
     pub read_whole : (left now ≡ []) × (left new ≡ []) → Faultless faults last_fault now new → IsContent eq N map → Reads eq N left faults last_fault old new (Ok map)
     read_whole end step content =
         let all : reading.before ≡ left old = sym (reading.split ∙ ap (λ l. reading.before ++ l) end.0 ∙ append-nil reading.before) in
         let fit = subst (λ l. IsTrue (all_fit eq N l)) all reading.fit in
-        read_back eq N left faults last_fault old laws new (Ok map) (record { fit = fit; few = few_distinct laws (pairs_keyed eq N) (left old) fit; made = reading.made ∙ ap (build eq) all; emptied = end.1; content = content; faultless = still_faultless reading.faultless step })
+        read_back eq N left faults last_fault old laws new (Ok map) (record { fit = fit; few = few_distinct laws (pairs_keyed eq N) (left old) fit; made = reading.made ∙ ap (build eq) all; emptied = end.1; content = content; faultless = ends_faultless step })
 
     pub read_fault : (fault : E) → left new ≡ left now → Faults faults last_fault now new fault → Reads eq N left faults last_fault old new (Err (Source fault))
     read_fault fault kept step =
-        read_back eq N left faults last_fault old laws new (Err (Source fault)) (record { before = reading.before; split = rw kept reading.split; fit = reading.fit; fault_is = first_fault reading.faultless step })
+        read_back eq N left faults last_fault old laws new (Err (Source fault)) (record { before = reading.before; split = rw kept reading.split; fit = reading.fit; fault_is = record { count = step.count ∙ ap suc reading.faultless.count; last = step.last } })

@@ -17,6 +17,10 @@ pub record Stream (X E : Type 0) : Type 0 where
   pub faults : ℕ
   pub last_fault : Option E
 
+-- a sink or source as a stream, by the ghost members of its trait
+abbrev pub stream_of : {S X E : Type 0} → (S → List X) → (S → ℕ) → (S → Option E) → S → Stream X E
+stream_of entries faults last_fault s = record { entries = entries s; faults = faults s; last_fault = last_fault s }
+
 module _ {S E : Type 0} (faults : S → ℕ) (last_fault : S → Option E) (old new : S) where
   -- no fault came between old and new
   pub record Faultless : Type 0 where
@@ -32,33 +36,33 @@ module _ {S E : Type 0} (faults : S → ℕ) (last_fault : S → Option E) (old 
 abbrev pub TakesBeginning : {X : Type 0} → List X → List X → List X → Type 0
 TakesBeginning old entries new = (n : ℕ) × (n < length entries) × (new ≡ old ++ take n entries)
 
--- a reading of a map of capacity N from a source, old before it and new after it
-module _ {K V S E : Type 0} (eq : K → K → Bool) (N : ℕ) (left : S → List (K × V)) (faults : S → ℕ) (last_fault : S → Option E) (old new : S) where
+-- a reading of a map of capacity N from a source, which is old before it and new after it
+module _ {K V E : Type 0} (eq : K → K → Bool) (N : ℕ) (old new : Stream (K × V) E) where
   -- to the end: all entries fit a new map, and the map has them
   pub record ReadsWhole (map : List (K × V)) : Type 0 where
-    pub fit : IsTrue (all_fit eq N (left old))
-    pub few : distinct_count eq (keys_of (left old)) ≤ N
-    pub made : map ≡ build eq (left old)
-    pub emptied : left new ≡ []
+    pub fit : IsTrue (all_fit eq N old.entries)
+    pub few : distinct_count eq (keys_of old.entries) ≤ N
+    pub made : map ≡ build eq old.entries
+    pub emptied : new.entries ≡ []
     pub content : IsContent eq N map
-    pub faultless : Faultless faults last_fault old new
+    pub faultless : Faultless (λ s. s.faults) (λ s. s.last_fault) old new
 
   -- up to this error of the source: the entries taken before it fit a new map
   pub record ReadsToFault (fault : E) : Type 0 where
     pub before : List (K × V)
-    pub split : left old ≡ before ++ left new
+    pub split : old.entries ≡ before ++ new.entries
     pub fit : IsTrue (all_fit eq N before)
-    pub fault_is : Faults faults last_fault old new fault
+    pub fault_is : Faults (λ s. s.faults) (λ s. s.last_fault) old new fault
 
   -- up to the first entry that doesn't fit, which was taken last
   pub record ReadsTooMany : Type 0 where
     pub before : List (K × V)
     pub item : K × V
-    pub split : left old ≡ before ++ item ∷ left new
+    pub split : old.entries ≡ before ++ item ∷ new.entries
     pub fit : IsTrue (all_fit eq N before)
     pub misfit : IsTrue (not (fits eq N (build eq before) item.0))
     pub many : N < distinct_count eq (keys_of (before ++ item ∷ []))
-    pub faultless : Faultless faults last_fault old new
+    pub faultless : Faultless (λ s. s.faults) (λ s. s.last_fault) old new
 
   -- a reading of a map: what it returns says how far it came
   abbrev pub MapReads : Result (List (K × V)) (ReadFault E) → Type 0

@@ -3,7 +3,7 @@ ghost use Rattle.std.specs.Prelude.{◌≡◌, ◌<◌, ◌++◌, Ok, OnOk, IfOk
 ghost use Rattle.std.specs.Map.{keys_of};
 ghost use Rattle.micromap.specs.ItemEntries.{entries_of, SetReads};
 ghost use Rattle.micromap.specs.Items.{IsItems};
-ghost use Rattle.micromap.specs.Stream.{most_faults, Faultless, Faults, TakesBeginning};
+ghost use Rattle.micromap.specs.Stream.{most_faults, stream_of, Faultless, Faults, TakesBeginning};
 
 use super::Set;
 use crate::Map;
@@ -33,7 +33,8 @@ impl<T: Eq + Drop, const N: usize> Set<T, N> {
     /// taken. After an `Err` the items taken are dropped. Makes one scan for each item.
     pub fn read_entries<S: EntrySource<T, ()>>(source: &mut S) -> Result<Self, ReadFault<S::Error>>
         requires { S.faults source.old < most_faults }
-        ensures reads { SetReads T.eq N S.left S.faults S.last_fault source.old source.new result }
+        ensures reads { let stream = stream_of S.left S.faults S.last_fault in
+            SetReads T.eq N (stream source.old) (stream source.new) result }
         ensures content { IfOk result (IsItems T.eq N) }
         ensures round_trip { let items = keys_of (S.left source.old) in
             IsItems T.eq N items → S.faults source.new ≡ S.faults source.old → result ≡ Ok items }

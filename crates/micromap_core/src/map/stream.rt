@@ -1,7 +1,7 @@
 //! Writing a map's pairs to a sink, and reading a map from a source.
 ghost use Rattle.std.specs.Prelude.{◌≡◌, ◌<◌, ◌++◌, Ok, OnOk, IfErr, OnErr};
 ghost use Rattle.micromap_core.specs.Pairs.{IsContent};
-ghost use Rattle.micromap_core.specs.Stream.{most_faults, Faultless, Faults, TakesBeginning, MapReads};
+ghost use Rattle.micromap_core.specs.Stream.{most_faults, stream_of, Faultless, Faults, TakesBeginning, MapReads};
 
 use super::Map;
 use crate::stream::{EntrySink, EntrySource, ReadFault};
@@ -33,7 +33,8 @@ impl<K: Eq + Drop, V: Drop, const N: usize> Map<K, V, N> {
     /// for each pair.
     pub fn read_entries<S: EntrySource<K, V>>(source: &mut S) -> Result<Self, ReadFault<S::Error>>
         requires { S.faults source.old < most_faults }
-        ensures reads { MapReads K.eq N S.left S.faults S.last_fault source.old source.new result }
+        ensures reads { let stream = stream_of S.left S.faults S.last_fault in
+            MapReads K.eq N (stream source.old) (stream source.new) result }
         ensures round_trip { IsContent K.eq N (S.left source.old)
             → S.faults source.new ≡ S.faults source.old → result ≡ Ok (S.left source.old) }
     {
