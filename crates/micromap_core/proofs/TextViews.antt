@@ -5,6 +5,7 @@ use Rattle.std.specs.List.{AllByRecursion, IsDistinct, list_all, list_any}
 use Rattle.std.specs.Map.{keys_of, lookup, lookup_entry, remove_entry, set_value}
 use Rattle.std.specs.Option.{option_eq, option_map}
 use Rattle.std.proofs.lemmas.List.{length-map, map-append}
+use Rattle.std.proofs.lemmas.Slice.Eq.{bytes_eq-Decides}
 use Rattle.std.specs.Fmt.{◌++?◌, comma_space, debug_items}
 use Rattle.micromap_core.specs.Pairs.{at, has, pair, put, take_out, IsUnique}
 use Rattle.micromap_core.specs.Print.{map_text, pair_text}
@@ -12,8 +13,8 @@ use Rattle.micromap_core.specs.Probe.{is_text}
 use Rattle.micromap_core.specs.Same.{is_same, pair_eq, same_at}
 use Rattle.micromap_core.specs.Texts.{key_texts, texts, texts_by}
 use Rattle.micromap_core.proofs.Equalities.{probes_text}
-use Rattle.micromap_core.proofs.MapLemmas.{by_test}
-use Rattle.micromap_core.proofs.MapLaws.{matched_test}
+use Rattle.micromap_core.proofs.MapLemmas.{by_test, lookup-entry}
+use Rattle.micromap_core.proofs.MapLaws.{matched_test, pair_key}
 use Rattle.micromap_core.proofs.TextLemmas.{map_text_known}
 
 module _ {Z V W : Type 0} (read : V → W) where
@@ -81,6 +82,14 @@ module _ {Z V W : Type 0} (read : V → W) where
   pub length_texts : (pairs : List (String Z × V)) → length (texts_by read pairs) ≡ length pairs
   unfolding texts_by
   length_texts pairs = length-map pairs (λ (p : String Z × V). (string_bytes p.0, read p.1))
+
+-- the pair that a text finds has that text as its key, and the value that the text finds
+pub pair_matched : {Z V : Type 0} (bs : List ℕ) (pairs : List (String Z × V)) → (lookup_entry (is_text bs) pairs ≡ lookup_entry (is_text bs) pairs) × ((p : String Z × V) → lookup_entry (is_text bs) pairs ≡ Some p → string_bytes p.0 ≡ bs) × (lookup (is_text bs) pairs ≡ option_map (λ (e : String Z × V). e.1) (lookup_entry (is_text bs) pairs))
+pair_matched bs pairs = (
+  refl,
+  λ p found. sym ((bytes_eq-Decides bs (string_bytes p.0)).0 (pair_key (λ k key. is_text bs key) pairs p.0 p found)),
+  lookup-entry (is_text bs) pairs,
+)
 
 -- no text at all
 pub texts_empty : {V W : Type 0} (Z : Type 0) (read : V → W) → texts_by {Z = Z} read [] ≡ []
@@ -159,4 +168,4 @@ items-texts lead (e ∷ es) = ap (λ rest. Some lead ++? pair_text (λ (k : List
 pub text_of_texts : {Y Z : Type 0} (pairs : List (String Y × String Z)) → (map_text (λ name. Some name) (λ value. Some value) (texts pairs) ≡ map_text (λ k. Some (string_bytes k)) (λ v. Some (string_bytes v)) pairs) × (is_some (map_text (λ k. Some (string_bytes k)) (λ v. Some (string_bytes v)) pairs) ≡ true)
 text_of_texts pairs = (ap (λ items. Some (codes "{") ++? items ++? Some (codes "}")) (sym (items-texts [] pairs)), map_text_known (λ k. Some (string_bytes k)) (λ v. Some (string_bytes v)) (λ k. refl) (λ v. refl) pairs)
 
-pub ruleset text_views = (texts_empty, at_key_texts, at_texts, pair_texts, matched_texts, texts_put_matched, texts_take_out_matched, texts_put, texts_take_out, has_texts, unique_texts, length_texts, same_texts, each_text, each_key, same_both_texts, each_both_text, each_both_key, text_of_texts)
+pub ruleset text_views = (texts_empty, at_key_texts, at_texts, pair_texts, pair_matched, matched_texts, texts_put_matched, texts_take_out_matched, texts_put, texts_take_out, has_texts, unique_texts, length_texts, same_texts, each_text, each_key, same_both_texts, each_both_text, each_both_key, text_of_texts)

@@ -14,6 +14,7 @@ mod headers;
 mod keys;
 mod laws;
 mod merged;
+mod moved;
 mod permissions;
 mod same_texts;
 mod sameness;

@@ -1,0 +1,27 @@
+//! Texts that go from one collection to another: a pair that moves between two maps, and clones.
+ghost use Rattle.std.specs.Prelude.{◌≡◌, ◌+◌, ◌^◌, ◌-◌, None, is_some, if◌then◌else◌, min, unwrap_or};
+ghost use Rattle.std.specs.Option.{option_map_or};
+ghost use Rattle.std.specs.Str.{bytes_eq};
+ghost use Rattle.micromap.specs.Pairs.{at, fits, put, take_out};
+ghost use Rattle.micromap.specs.Texts.{key_texts};
+
+use micromap::{Map, Text};
+
+// Moves the amount of a name from one map to another, where it is added.
+fn transfer<const N: usize, const M: usize>(
+    from: &mut Map<String, u64, N>,
+    to: &mut Map<String, u64, M>,
+    name: &str,
+) -> Option<u64>
+    ensures answer { result ≡ (if fits bytes_eq M (key_texts to.old) name.now then at bytes_eq (key_texts from.old) name.now else None) }
+    ensures from { key_texts from.new ≡ (if is_some result then take_out bytes_eq (key_texts from.old) name.now else key_texts from.old) }
+    ensures to { key_texts to.new ≡ option_map_or (λ amount. put bytes_eq (key_texts to.old) name.now (min (unwrap_or (at bytes_eq (key_texts to.old) name.now) 0 + amount) (2 ^ 64 - 1))) result (key_texts to.old) }
+{
+    if !to.fits_by(&Text(name)) {
+        return None;
+    }
+    let (key, amount) = from.remove_entry_by(&Text(name))?;
+    let total = to.entry(key).or_insert(0);
+    *total = total.saturating_add(amount);
+    Some(amount)
+}
