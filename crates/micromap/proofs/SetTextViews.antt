@@ -1,6 +1,6 @@
 -- For callers: what each change of a set of texts does to the list of the texts' bytes.
 use Rattle.std.proofs.Common.{◌≡◌, ◌↔◌, ℕ, Bool, true, false, ◌&&◌, ◌||◌, inl, inr, List, [], ◌∷◌, length, map, String, is_some, refl, ap, sym, subst, ◌∙◌, string_bytes, arith, bytes_eq, option_map, string_eq}
-use Rattle.std.specs.List.{AllByRecursion, IsDistinct, find, list_all, list_any}
+use Rattle.std.specs.List.{AllByRecursion, AllZip, IsDistinct, find, list_all, list_any}
 use Rattle.std.specs.Set.{swap_key, is_member, remove_key}
 use Rattle.std.proofs.lemmas.Bool.{cases_Bool}
 use Rattle.std.proofs.lemmas.List.{length-map, map-append}
@@ -70,6 +70,14 @@ module _ {Z : Type 0} where
     pub is_member_made : (x : String Z) (bs : List ℕ) → string_bytes x ≡ bs → (is_member bytes_eq (item_texts items) bs ≡ is_member bytes_eq (item_texts items) bs) × (is_member string_eq items x ≡ is_member bytes_eq (item_texts items) bs)
     is_member_made x bs is = (refl, sym (is_member_item_texts items (string_bytes x)) ∙ ap (is_member bytes_eq (item_texts items)) is)
 
+-- clones of items have the same texts
+pub item_texts_clone : {Z : Type 0} (items copy : List (String Z)) → AllZip (λ (x y : String Z). string_bytes y ≡ string_bytes x) items copy → item_texts copy ≡ item_texts items
+unfolding item_texts
+item_texts_clone [] [] clones = refl
+item_texts_clone [] (y ∷ ys) clones = absurd clones
+item_texts_clone (x ∷ xs) [] clones = absurd clones
+item_texts_clone (x ∷ xs) (y ∷ ys) clones = λ i. clones.0 i ∷ item_texts_clone xs ys clones.1 i
+
 -- either no item passes a test, or one does
 by_items : {T : Type 0} (test : T → Bool) (items : List T) (P : Type 0) → (list_any test items ≡ false → P) → ((x : T) → test x ≡ true → P) → P
 by_items test [] P none some = none refl
@@ -111,4 +119,4 @@ module _ {Z : Type 0} where
     pub each_text_item : HaveEquals bytes_eq (item_texts a) (item_texts b) → (x : String Z) → is_member string_eq a x ≡ is_member string_eq b x
     each_text_item = each_item_texts.1
 
-pub ruleset set_text_views = (item_texts_empty, is_member_item_texts, unique_item_texts, item_texts_replace_item, length_item_texts, item_texts_put_item, item_texts_take_item, item_texts_remove_key, find_item_item_texts, matched_item_texts, is_member_made, same_item_texts, each_item_text, each_text_item)
+pub ruleset set_text_views = (item_texts_empty, is_member_item_texts, unique_item_texts, item_texts_replace_item, length_item_texts, item_texts_put_item, item_texts_take_item, item_texts_clone, item_texts_remove_key, find_item_item_texts, matched_item_texts, is_member_made, same_item_texts, each_item_text, each_text_item)

@@ -1,6 +1,6 @@
 -- For callers: loops over a map that build another one, or put its pairs into another. The ruleset `loop_laws` has what
 -- the search needs beside `map_laws`.
-use Rattle.std.proofs.Common.{◌≡◌, ℕ, ◌<◌, ◌≤◌, Bool, true, false, ◌||◌, List, [], ◌∷◌, ◌++◌, drop, length, is_some, ap, subst, ◌∙◌, append_assoc, arith, lt-ltb}
+use Rattle.std.proofs.Common.{◌≡◌, ℕ, ◌<◌, ◌≤◌, Bool, true, false, ◌||◌, List, [], ◌∷◌, ◌++◌, drop, length, map, is_some, refl, ap, sym, subst, ◌∙◌, append_assoc, arith, lt-ltb}
 use Rattle.std.specs.List.{IsDistinct}
 use Rattle.std.specs.Map.{keys_of}
 use Rattle.std.proofs.Math.Bool.{or-true}
@@ -44,6 +44,14 @@ module _ {K V : Type 0} (eq : K → K → Bool) where
   pub copied_next : (done rest : List (K × V)) (k : K) (v : V) → Lawful eq → IsUnique eq (done ++ (k, v) ∷ rest) → put eq done k v ++ rest ≡ done ++ (k, v) ∷ rest
   copied_next done rest k v laws unique = put_first_of_rest done rest k v (has_done done rest (k, v) laws unique)
 
+  -- pairs whose values alone are mapped have unequal keys still
+  keys_map : {W : Type 0} (f : K × V → K × W) (pairs : List (K × V)) → ((p : K × V) → (f p).0 ≡ p.0) → keys_of (map f pairs) ≡ keys_of pairs
+  keys_map f [] kept = refl
+  keys_map f (p ∷ pairs) kept = λ i. kept p i ∷ keys_map f pairs kept i
+
+  pub unique_map : {W : Type 0} (f : K × V → K × W) (pairs : List (K × V)) → ((p : K × V) → (f p).0 ≡ p.0) → IsUnique eq pairs → IsUnique eq (map f pairs)
+  unique_map f pairs kept unique = subst (IsDistinct eq) (sym (keys_map f pairs kept)) unique
+
   -- pairs with unequal keys are built as they are
   pub build_unique : (pairs : List (K × V)) → Lawful eq → IsUnique eq pairs → build eq pairs ≡ pairs
   build_unique pairs laws unique = built_in_turn (of_lawful eq laws) [] pairs unique
@@ -53,4 +61,4 @@ module _ {K V : Type 0} (eq : K → K → Bool) where
   length_le_put_all pairs [] = omega arith
   length_le_put_all pairs (p ∷ items) = grind (arith, length_put eq pairs p.0 p.1, length_le_put_all (put eq pairs p.0 p.1) items)
 
-pub ruleset loop_laws = (has_first, has_drop, fits_room, copied_next, build_unique, length_le_put_all)
+pub ruleset loop_laws = (has_first, has_drop, fits_room, copied_next, unique_map, build_unique, length_le_put_all)

@@ -1,7 +1,7 @@
 -- For callers: what each change of a map with texts as keys does to the list that has the keys' bytes. The laws hold
 -- for any way `read` of seeing a value: `key_texts` sees values as they are, and `texts` sees them by their bytes.
 use Rattle.std.proofs.Common.{◌≡◌, ◌↔◌, ℕ, Bool, true, false, ◌&&◌, ◌||◌, IsTrue, List, [], ◌∷◌, ◌++◌, codes, length, String, Some, is_some, refl, ap, sym, subst, ◌∙◌, string_bytes, arith, bytes_eq, string_eq}
-use Rattle.std.specs.List.{AllByRecursion, IsDistinct, list_all, list_any}
+use Rattle.std.specs.List.{AllByRecursion, AllZip, IsDistinct, list_all, list_any}
 use Rattle.std.specs.Map.{keys_of, lookup, lookup_entry, remove_entry, set_value}
 use Rattle.std.specs.Option.{option_eq, option_map}
 use Rattle.std.proofs.lemmas.List.{length-map, map-append}
@@ -91,6 +91,14 @@ pair_matched bs pairs = (
   lookup-entry (is_text bs) pairs,
 )
 
+-- clones of pairs have the same texts: a `String`'s clone has its bytes, and so has a value's if `read` sees bytes
+pub texts_clone : {Z V W : Type 0} (read : V → W) (pairs copy : List (String Z × V)) → AllZip (λ (p q : String Z × V). (string_bytes q.0 ≡ string_bytes p.0) × (read q.1 ≡ read p.1)) pairs copy → texts_by read copy ≡ texts_by read pairs
+unfolding texts_by
+texts_clone read [] [] clones = refl
+texts_clone read [] (q ∷ qs) clones = absurd clones
+texts_clone read (p ∷ ps) [] clones = absurd clones
+texts_clone read (p ∷ ps) (q ∷ qs) clones = λ i. (clones.0.0 i, clones.0.1 i) ∷ texts_clone read ps qs clones.1 i
+
 -- no text at all
 pub texts_empty : {V W : Type 0} (Z : Type 0) (read : V → W) → texts_by {Z = Z} read [] ≡ []
 unfolding texts_by
@@ -168,4 +176,4 @@ items-texts lead (e ∷ es) = ap (λ rest. Some lead ++? pair_text (λ (k : List
 pub text_of_texts : {Y Z : Type 0} (pairs : List (String Y × String Z)) → (map_text (λ name. Some name) (λ value. Some value) (texts pairs) ≡ map_text (λ k. Some (string_bytes k)) (λ v. Some (string_bytes v)) pairs) × (is_some (map_text (λ k. Some (string_bytes k)) (λ v. Some (string_bytes v)) pairs) ≡ true)
 text_of_texts pairs = (ap (λ items. Some (codes "{") ++? items ++? Some (codes "}")) (sym (items-texts [] pairs)), map_text_known (λ k. Some (string_bytes k)) (λ v. Some (string_bytes v)) (λ k. refl) (λ v. refl) pairs)
 
-pub ruleset text_views = (texts_empty, at_key_texts, at_texts, pair_texts, pair_matched, matched_texts, texts_put_matched, texts_take_out_matched, texts_put, texts_take_out, has_texts, unique_texts, length_texts, same_texts, each_text, each_key, same_both_texts, each_both_text, each_both_key, text_of_texts)
+pub ruleset text_views = (texts_empty, at_key_texts, at_texts, pair_texts, pair_matched, matched_texts, texts_put_matched, texts_take_out_matched, texts_put, texts_take_out, texts_clone, has_texts, unique_texts, length_texts, same_texts, each_text, each_key, same_both_texts, each_both_text, each_both_key, text_of_texts)

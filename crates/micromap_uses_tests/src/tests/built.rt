@@ -2,7 +2,7 @@
 //! another.
 #![tactic(auto, using(micromap::proofs::Rules::caller, micromap_core::proofs::LoopLaws::loop_laws, micromap::proofs::SetLoopLaws::set_loop_laws))]
 
-ghost use Rattle.std.specs.Prelude.{◌≡◌, ◌<◌, IfOk, IsFalse, filter, length, nat_eq, nat_lt};
+ghost use Rattle.std.specs.Prelude.{◌≡◌, ◌<◌, ◌+◌, IfOk, IsFalse, filter, length, map, min, nat_eq, nat_lt};
 ghost use Rattle.std.specs.Bool.{OnTrue};
 ghost use Rattle.std.specs.Map.{keys_of};
 ghost use Rattle.micromap.specs.Build.{put_all};
@@ -36,6 +36,30 @@ fn keys_over<const N: usize>(map: &Map<u8, u8, N>, limit: u8) -> Set<u8, N>
         }
     }
     keys
+}
+
+// The pairs whose value is over the limit, in their order.
+fn pairs_over<const N: usize>(map: &Map<u8, u8, N>, limit: u8) -> Map<u8, u8, N>
+    ensures { result ≡ filter (λ p. nat_lt limit p.1) map.now }
+{
+    let mut kept = Map::new();
+    for (key, value) in map {
+        if *value > limit {
+            kept.insert(*key, *value);
+        }
+    }
+    kept
+}
+
+// Each key with twice its value, in their order.
+fn doubled<const N: usize>(amounts: &Map<u8, u8, N>) -> Map<u8, u8, N>
+    ensures { result ≡ map (λ p. (p.0, min (p.1 + p.1) 255)) amounts.now }
+{
+    let mut doubled = Map::new();
+    for (key, value) in amounts {
+        doubled.insert(*key, value.saturating_add(*value));
+    }
+    doubled
 }
 
 // Adds the pairs of another map, up to the first that doesn't fit. If one doesn't, they would be more than `N`.

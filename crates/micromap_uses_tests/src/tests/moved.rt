@@ -1,11 +1,12 @@
 //! Texts that go from one collection to another: a pair that moves between two maps, and clones.
-ghost use Rattle.std.specs.Prelude.{◌≡◌, ◌+◌, ◌^◌, ◌-◌, None, is_some, if◌then◌else◌, min, unwrap_or};
+ghost use Rattle.std.specs.Prelude.{◌≡◌, ◌+◌, ◌^◌, ◌-◌, IfOk, None, is_some, if◌then◌else◌, min, unwrap_or};
 ghost use Rattle.std.specs.Option.{option_map_or};
 ghost use Rattle.std.specs.Str.{bytes_eq};
 ghost use Rattle.micromap.specs.Pairs.{at, fits, put, take_out};
-ghost use Rattle.micromap.specs.Texts.{key_texts};
+ghost use Rattle.micromap.specs.Texts.{item_texts, key_texts, texts};
 
-use micromap::{Map, Text};
+use micromap::{Map, Set, Text};
+use std::alloc::AllocError;
 
 // Moves the amount of a name from one map to another, where it is added.
 fn transfer<const N: usize, const M: usize>(
@@ -24,4 +25,28 @@ fn transfer<const N: usize, const M: usize>(
     let total = to.entry(key).or_insert(0);
     *total = total.saturating_add(amount);
     Some(amount)
+}
+
+// A copy of a map of texts, which has the same texts.
+fn copied<const N: usize>(map: &Map<String, u64, N>) -> Result<Map<String, u64, N>, AllocError>
+    ensures { IfOk result (λ copy. key_texts copy ≡ key_texts map.now) }
+{
+    map.clone()
+}
+
+// The same of a map of texts to texts.
+fn copied_texts<const N: usize>(
+    map: &Map<String, String, N>,
+) -> Result<Map<String, String, N>, AllocError>
+    ensures { IfOk result (λ copy. texts copy ≡ texts map.now) }
+{
+    let copy = map.clone()?;
+    Ok(copy)
+}
+
+// The same of a set of words.
+fn copied_words<const N: usize>(words: &Set<String, N>) -> Result<Set<String, N>, AllocError>
+    ensures { IfOk result (λ copy. item_texts copy ≡ item_texts words.now) }
+{
+    words.clone()
 }
