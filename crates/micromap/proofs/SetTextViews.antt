@@ -16,6 +16,11 @@ pub item_texts_empty : (Z : Type 0) → item_texts {Z = Z} [] ≡ []
 unfolding item_texts
 item_texts_empty Z = refl
 
+-- the first item
+pub item_texts_first : {Z : Type 0} (x : String Z) (behind : List (String Z)) → item_texts (x ∷ behind) ≡ string_bytes x ∷ item_texts behind
+unfolding item_texts
+item_texts_first x behind = refl
+
 module _ {Z : Type 0} where
   apart-texts : (x : String Z) (items : List (String Z)) → AllByRecursion (λ y. string_eq x y ≡ false) items → AllByRecursion (λ y. bytes_eq (string_bytes x) y ≡ false) (map string_bytes items)
   apart-texts x [] apart = tt
@@ -119,4 +124,4 @@ module _ {Z : Type 0} where
     pub each_text_item : HaveEquals bytes_eq (item_texts a) (item_texts b) → (x : String Z) → is_member string_eq a x ≡ is_member string_eq b x
     each_text_item = each_item_texts.1
 
-pub ruleset set_text_views = (item_texts_empty, is_member_item_texts, unique_item_texts, item_texts_replace_item, length_item_texts, item_texts_put_item, item_texts_take_item, item_texts_clone, item_texts_remove_key, find_item_item_texts, matched_item_texts, is_member_made, same_item_texts, each_item_text, each_text_item)
+pub ruleset set_text_views = (item_texts_empty, item_texts_first, is_member_item_texts, unique_item_texts, item_texts_replace_item, length_item_texts, item_texts_put_item, item_texts_take_item, item_texts_clone, item_texts_remove_key, find_item_item_texts, matched_item_texts, is_member_made, same_item_texts, each_item_text, each_text_item)

@@ -19,6 +19,7 @@ mod permissions;
 mod same_texts;
 mod sameness;
 mod scopes;
+mod spelled;
 mod stock;
 mod texts;
 mod votes;
