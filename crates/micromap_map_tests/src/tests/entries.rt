@@ -294,3 +294,13 @@ fn an_entry_drops_its_key(rt: HostRuntime) {
     drop(map);
     assert_eq!(rt; counts.drops.get(), 6);
 }
+
+#[test]
+fn a_closure_is_called_on_the_value_of_an_occupied_entry_alone(rt: HostRuntime) {
+    let mut map: Map<u8, u8, 2> = Map::from([(1, 10), (2, 20)]);
+    let mut seen = 0u8;
+    map.entry(1).and_modify(|value| seen = *value);
+    assert_eq!(rt; seen, 10);
+    map.entry(3).and_modify(|_| seen = 1);
+    assert_eq!(rt; seen, 10);
+}

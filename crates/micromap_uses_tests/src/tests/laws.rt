@@ -202,3 +202,11 @@ fn unnote<const N: usize>(words: &mut Set<String, N>, word: &str) -> bool
     words.take_by(&Text(word));
     was_there
 }
+
+// Caps each value, and returns whether a key is stored, as it was before.
+fn capped<const N: usize>(map: &mut Map<u8, u8, N>, most: u8, key: &u8) -> bool
+    ensures { result ≡ has nat_eq map.old key.now }
+{
+    map.update_all(|_, value| *value = (*value).min(most));
+    map.contains_key(key)
+}

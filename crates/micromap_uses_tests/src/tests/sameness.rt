@@ -160,6 +160,13 @@ fn share_items<const N: usize>(first: &Set<u8, N>, second: &Set<u8, N>, third: &
     first.eq_with(second) && second.eq_with(third)
 }
 
+// Whether the first set has all items of the second. Then what the second has, the first has.
+fn includes<const N: usize, const M: usize>(first: &Set<u8, N>, second: &Set<u8, M>) -> bool
+    ensures { OnTrue result ((x : _) → IsTrue (is_member nat_eq second.now x) → IsTrue (is_member nat_eq first.now x)) }
+{
+    first.is_superset(second)
+}
+
 // Whether the first set is longer. Then it has an item that the second lacks.
 fn has_more_items<const N: usize, const M: usize>(first: &Set<u8, N>, second: &Set<u8, M>) -> bool
     ensures { OnTrue result ((x : _) × (is_member nat_eq first.now x ≡ true) × (is_member nat_eq second.now x ≡ false)) }
@@ -220,5 +227,6 @@ fn sets_are_told_apart_by_their_lengths(rt: HostRuntime) {
     assert!(rt; !have_same_items(&one, &turned));
     assert!(rt; share_items(&first, &turned, &first));
     assert!(rt; has_more_items(&first, &one));
+    assert!(rt; includes(&first, &one));
     assert!(rt; holds_common::<1, 2, 1>(&first, &one));
 }
