@@ -1,6 +1,6 @@
 -- For callers: loops that build a set, or put its items into another. The ruleset `set_loop_laws` has what the search
 -- needs beside `set_laws`.
-use Rattle.std.proofs.Common.{◌≡◌, ◌≤◌, Bool, false, List, [], ◌∷◌, ◌++◌, length, refl, ap, sym, ◌∙◌, append_assoc, arith, append-nil}
+use Rattle.std.proofs.Common.{◌≡◌, ◌≤◌, Bool, false, not, List, [], ◌∷◌, ◌++◌, filter, length, refl, ap, sym, ◌∙◌, append_assoc, arith, append-nil}
 use Rattle.std.specs.List.{AllByRecursion, IsDistinct}
 use Rattle.std.specs.Set.{is_member}
 use Rattle.std.proofs.lemmas.Map.Entries.{length-keys_of}
@@ -9,10 +9,10 @@ use Rattle.micromap_core.specs.Equalities.{Lawful}
 use Rattle.micromap_core.proofs.DistinctLemmas.{new_behind}
 use Rattle.micromap_core.proofs.Equalities.{of_lawful}
 use Rattle.micromap.specs.Extend.{put_all_items}
-use Rattle.micromap.specs.Items.{put_item}
+use Rattle.micromap.specs.Items.{put_item, take_item}
 use Rattle.micromap.specs.Operations.{difference, union}
 use Rattle.micromap.proofs.ItemLemmas.{keys_put_item, keys_put_all_items}
-use Rattle.micromap.proofs.SetLaws.{is_member_put_item, length_put_item, put_item_back, put_item_new}
+use Rattle.micromap.proofs.SetLaws.{is_member_put_item, items_take_item, length_put_item, put_item_back, put_item_new}
 
 module _ {T : Type 0} (eq : T → T → Bool) where
   -- items that are done and items that are left: a new one goes between them
@@ -41,4 +41,16 @@ module _ {T : Type 0} (eq : T → T → Bool) where
       let apart = new_apart xs ys y laws (IsDistinct-head eq y ys distinct) in
       grind (arith, next, apart, put_item_back eq xs y, put_item_first_of_rest xs (difference eq ys xs) y)
 
-pub ruleset set_loop_laws = (keys_put_item, keys_put_all_items, length-keys_of, copied_item_next, length_le_put_all_items, put_all_items_union)
+  -- an item that is taken out is one that a difference leaves out
+  left_out : (xs ys : List T) (x : T) → Lawful eq → difference eq (filter (λ y. not (eq x y)) xs) ys ≡ difference eq xs (x ∷ ys)
+  left_out [] ys x laws = refl
+  left_out (z ∷ xs) ys x laws = grind (arith, left_out xs ys x laws, (of_lawful eq laws).symm x z)
+
+  pub difference_take_item : (xs ys : List T) (x : T) → Lawful eq → IsDistinct eq xs → difference eq (take_item eq xs x) ys ≡ difference eq xs (x ∷ ys)
+  difference_take_item xs ys x laws distinct = ap (λ l. difference eq l ys) (items_take_item eq xs x laws distinct) ∙ left_out xs ys x laws
+
+  pub difference_none : (xs : List T) → difference eq xs [] ≡ xs
+  difference_none [] = refl
+  difference_none (x ∷ xs) = ap (λ l. x ∷ l) (difference_none xs)
+
+pub ruleset set_loop_laws = (keys_put_item, keys_put_all_items, length-keys_of, copied_item_next, length_le_put_all_items, put_all_items_union, difference_take_item, difference_none)

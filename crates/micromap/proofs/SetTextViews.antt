@@ -124,4 +124,17 @@ module _ {Z : Type 0} where
     pub each_text_item : HaveEquals bytes_eq (item_texts a) (item_texts b) → (x : String Z) → is_member string_eq a x ≡ is_member string_eq b x
     each_text_item = each_item_texts.1
 
+-- whether each text of one set is in the other
+module _ {Z : Type 0} where
+  all-texts : (test : List ℕ → Bool) (items : List (String Z)) → list_all test (item_texts items) ≡ list_all (λ x. test (string_bytes x)) items
+  unfolding item_texts
+  all-texts test [] = refl
+  all-texts test (x ∷ items) = ap (λ b. test (string_bytes x) && b) (all-texts test items)
+
+  members-texts : (b : List (String Z)) → is_member string_eq b ≡ (λ x. is_member bytes_eq (item_texts b) (string_bytes x))
+  members-texts b = λ i x. sym (is_member_item_texts b (string_bytes x)) i
+
+  pub subset_texts : (a b : List (String Z)) → list_all (is_member bytes_eq (item_texts b)) (item_texts a) ≡ list_all (is_member string_eq b) a
+  subset_texts a b = all-texts (is_member bytes_eq (item_texts b)) a ∙ ap (λ (member : String Z → Bool). list_all member a) (sym (members-texts b))
+
 pub ruleset set_text_views = (item_texts_empty, item_texts_first, is_member_item_texts, unique_item_texts, item_texts_replace_item, length_item_texts, item_texts_put_item, item_texts_take_item, item_texts_clone, item_texts_remove_key, find_item_item_texts, matched_item_texts, is_member_made, same_item_texts, each_item_text, each_text_item)

@@ -6,7 +6,7 @@ ghost use Rattle.std.specs.Prelude.{◌≡◌, ◌<◌, ◌+◌, IfOk, IsFalse, 
 ghost use Rattle.std.specs.Bool.{OnTrue};
 ghost use Rattle.std.specs.Map.{keys_of};
 ghost use Rattle.micromap.specs.Build.{put_all};
-ghost use Rattle.micromap.specs.Operations.{union};
+ghost use Rattle.micromap.specs.Operations.{difference, union};
 ghost use Rattle.micromap.specs.Pairs.{has};
 
 use micromap::{Map, Set};
@@ -88,6 +88,15 @@ fn add_all_items<const N: usize, const M: usize>(set: &mut Set<u8, N>, other: &S
         set.insert(*item);
     }
     true
+}
+
+// Removes the items of another set.
+fn remove_all_items<const N: usize, const M: usize>(set: &mut Set<u8, N>, other: &Set<u8, M>)
+    ensures { set.new ≡ difference nat_eq set.old other.now }
+{
+    for item in other {
+        set.remove(item);
+    }
 }
 
 // Drops the first pair. A key that was missing still is.

@@ -1,7 +1,9 @@
 //! Callers that compare maps and sets of texts, in terms of their bytes.
-#![tactic(auto, using(micromap_core::proofs::TextViews::text_views, micromap::proofs::SetTextViews::set_text_views))]
+#![tactic(auto, using(micromap_core::proofs::TextViews::text_views, micromap::proofs::SetTextViews::set_text_views, micromap::proofs::SetTextViews::subset_texts))]
 
-ghost use Rattle.std.specs.Prelude.{◌↔◌, IsTrue, List, ℕ, nat_eq};
+ghost use Rattle.std.specs.Prelude.{◌≡◌, ◌↔◌, IsTrue, List, ℕ, nat_eq};
+ghost use Rattle.std.specs.List.{list_all};
+ghost use Rattle.std.specs.Set.{is_member};
 ghost use Rattle.std.specs.Str.{bytes_eq};
 ghost use Rattle.micromap.specs.Operations.{HaveEquals};
 ghost use Rattle.micromap.specs.Same.{HaveEqualItems, Same, same_at};
@@ -40,4 +42,14 @@ fn have_same_words<const N: usize, const M: usize>(
     ensures each { IsTrue result ↔ HaveEquals bytes_eq (item_texts one.now) (item_texts other.now) }
 {
     one.eq_with(other)
+}
+
+// Whether each word of one set is in the other.
+fn has_words_of<const N: usize, const M: usize>(
+    one: &Set<String, N>,
+    other: &Set<String, M>,
+) -> bool
+    ensures { result ≡ list_all (is_member bytes_eq (item_texts other.now)) (item_texts one.now) }
+{
+    one.is_subset(other)
 }
