@@ -1,11 +1,12 @@
 -- For callers: a set has one item for each distinct item that was put. `CountLaws` says the same of a map's keys. The
 -- ruleset `item_counts` is for a set that is built in a loop.
-use Rattle.std.proofs.Common.{◌≡◌, ℕ, ◌+◌, ◌<◌, ◌≤◌, ◌||◌, Bool, false, List, [], ◌++◌, ◌∷◌, drop, length, map, get_or, take, Option, Result, IfErr, if◌then◌else◌, refl, ap, sym, subst, ◌∙◌, append_assoc, arith}
+use Rattle.std.proofs.Common.{◌≡◌, ℕ, ◌+◌, ◌<◌, ◌≤◌, ◌||◌, Bool, false, List, [], ◌++◌, drop, length, map, get_or, take, Option, Result, IfErr, if◌then◌else◌, refl, ap, sym, ◌∙◌, append_assoc, arith}
 use Rattle.std.specs.Iterator.Runs.{EveryRun, ItemsAre, SomeRun}
 use Rattle.std.specs.List.{list_any, IsDistinct}
 use Rattle.std.specs.Set.{is_member, distinct_count}
 use Rattle.std.proofs.lemmas.Bool.{leb-false, not-true}
-use Rattle.std.proofs.lemmas.List.{map-append, map-id, take-map, take_all, take_more, take-append-drop}
+use Rattle.std.proofs.lemmas.Grind.{common_steps}
+use Rattle.std.proofs.lemmas.List.{length-map, map-id, take-map, take_all, take_more, take-append-drop}
 use Rattle.std.proofs.lemmas.List.Folds.{list_any-append}
 use Rattle.std.proofs.lemmas.List.Sums.{fold_more, fold_push}
 use Rattle.std.proofs.lemmas.Map.Made.{length-from_keys}
@@ -55,22 +56,6 @@ module _ {T : Type 0} (eq : T → T → Bool) where
       let longer = ap length (distinct_take xs i d within) ∙ length_put_item eq (distinct eq (take i xs)) (get_or xs i d) ∙ ap (λ b. if b then length (distinct eq (take i xs)) else length (distinct eq (take i xs)) + 1) new in
       omega (arith, built, longer, distinct_prefix eq xs (i + 1) laws)
 
-  -- the same of items that a function reads
-  module _ {X : Type 0} (read : X → T) (xs : List X) (i : ℕ) (d : X) (within : i < length xs) where
-    distinct_take_map : distinct eq (map read (take (i + 1) xs)) ≡ put_item eq (distinct eq (map read (take i xs))) (read (get_or xs i d))
-    distinct_take_map =
-        ap (λ l. distinct eq (map read l)) (take_more xs i d within)
-        ∙ ap (distinct eq) (map-append read (take i xs) (get_or xs i d ∷ []))
-        ∙ fold_push (put_item eq) [] (map read (take i xs)) (read (get_or xs i d))
-
-    distinct_beyond_map : Lawful eq → is_member eq (distinct eq (map read (take i xs))) (read (get_or xs i d)) ≡ false → length (distinct eq (map read (take i xs))) < distinct_count eq (map read xs)
-    distinct_beyond_map laws new =
-        let now = distinct eq (map read (take i xs)) in
-        let built = length_distinct (map read (take (i + 1) xs)) laws in
-        let longer = ap length distinct_take_map ∙ length_put_item eq now (read (get_or xs i d)) ∙ ap (λ b. if b then length now else length now + 1) new in
-        let grown : distinct_count eq (map read (take (i + 1) xs)) ≤ distinct_count eq (map read xs) = subst (λ l. distinct_count eq l ≤ distinct_count eq (map read xs)) (take-map read (i + 1) xs) (distinct_prefix eq (map read xs) (i + 1) laws) in
-        omega (arith, built, longer, grown)
-
   -- items one of which doesn't fit a new set of capacity N have more than N distinct ones
   misfit_many_items : (N : ℕ) (xs : List T) (at : ℕ) → Lawful eq → ItemMisfitIn eq N [] xs at → N < distinct_count eq xs
   misfit_many_items N xs at laws misfit =
@@ -95,12 +80,15 @@ module _ {T : Type 0} (eq : T → T → Bool) where
 
   -- of a set that is built of the first so many items that a function reads
   pub each_distinct_take_map : {X : Type 0} (read : X → T) (xs : List X) (i : ℕ) → Lawful eq → (distinct eq (map read (take i xs)) ≡ distinct eq (map read (take i xs))) × (length xs ≤ i → distinct eq (map read (take i xs)) ≡ distinct eq (map read xs)) × ((d : X) → i < length xs → distinct eq (map read (take (i + 1) xs)) ≡ put_item eq (distinct eq (map read (take i xs))) (read (get_or xs i d))) × ((d : X) → i < length xs → is_member eq (distinct eq (map read (take i xs))) (read (get_or xs i d)) ≡ false → length (distinct eq (map read (take i xs))) < distinct_count eq (map read xs))
-  each_distinct_take_map read xs i laws = (
-    refl,
-    λ over. ap (λ l. distinct eq (map read l)) (take_all i xs over),
-    λ d within. distinct_take_map read xs i d within,
-    λ d within new. distinct_beyond_map read xs i d within laws new,
-  )
+  each_distinct_take_map read xs i laws =
+      let all = each_distinct_take (map read xs) i laws in
+      let first = take-map read i xs in
+      let long = length-map xs read in (
+        refl,
+        λ over. grind (arith, common_steps, all.1, first, long, over),
+        λ d within. grind (arith, common_steps, all.2 (read d), first, take-map read (i + 1) xs, long, within),
+        λ d within new. grind (arith, common_steps, all.3 (read d), first, long, within, new),
+      )
 
   -- of a set to which the first so many items are added
   pub each_put_all_items_take : (items xs : List T) (i : ℕ) → Lawful eq → IsDistinct eq items → (put_all_items eq items (take i xs) ≡ put_all_items eq items (take i xs)) × (length xs ≤ i → put_all_items eq items (take i xs) ≡ put_all_items eq items xs) × ((d : T) → i < length xs → put_all_items eq items (take (i + 1) xs) ≡ put_item eq (put_all_items eq items (take i xs)) (get_or xs i d)) × ((d : T) → i < length xs → is_member eq (put_all_items eq items (take i xs)) (get_or xs i d) ≡ false → length (put_all_items eq items (take i xs)) < length (put_all_items eq items xs))

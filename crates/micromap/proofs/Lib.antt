@@ -27,4 +27,5 @@ pub use Rattle.micromap_core.proofs.MergeLaws
 pub use Rattle.micromap_core.proofs.MisfitLemmas
 pub use Rattle.micromap_core.proofs.SumLaws
 pub use Rattle.micromap_core.proofs.TextLemmas
+pub use Rattle.micromap_core.proofs.TextLoops
 pub use Rattle.micromap_core.proofs.TextViews

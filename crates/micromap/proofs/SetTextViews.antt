@@ -1,16 +1,18 @@
 -- For callers: what each change of a set of texts does to the list of the texts' bytes.
-use Rattle.std.proofs.Common.{◌≡◌, ◌↔◌, ℕ, Bool, true, false, ◌&&◌, ◌||◌, inl, inr, List, [], ◌∷◌, length, map, String, is_some, refl, ap, sym, subst, ◌∙◌, string_bytes, arith, bytes_eq, option_map, string_eq}
+use Rattle.std.proofs.Common.{◌≡◌, ◌↔◌, ℕ, Bool, true, false, ◌&&◌, ◌||◌, not, inl, inr, List, [], ◌∷◌, filter, length, map, Result, IfOk, String, is_some, refl, ap, sym, subst, ◌∙◌, string_bytes, arith, bytes_eq, option_map, string_eq}
 use Rattle.std.specs.List.{AllByRecursion, AllZip, IsDistinct, find, list_all, list_any}
 use Rattle.std.specs.Set.{swap_key, is_member, remove_key}
 use Rattle.std.proofs.lemmas.Bool.{cases_Bool}
+use Rattle.std.proofs.lemmas.Grind.{common_steps}
 use Rattle.std.proofs.lemmas.List.{length-map, map-append}
+use Rattle.std.proofs.lemmas.Result.{IfOk-weaker}
 use Rattle.micromap_core.specs.Probe.{is_text}
 use Rattle.micromap_core.specs.Same.{have_equal_items}
 use Rattle.micromap_core.specs.Texts.{item_texts}
 use Rattle.micromap_core.proofs.Equalities.{of_probes, probes_text, same_test}
 use Rattle.micromap.proofs.ItemLemmas.{any-find}
 use Rattle.micromap.specs.Items.{put_item, replace_item, find_item, take_item}
-use Rattle.micromap.specs.Operations.{HaveEquals}
+use Rattle.micromap.specs.Operations.{difference, intersection, HaveEquals}
 
 pub item_texts_empty : (Z : Type 0) → item_texts {Z = Z} [] ≡ []
 unfolding item_texts
@@ -124,17 +126,34 @@ module _ {Z : Type 0} where
     pub each_text_item : HaveEquals bytes_eq (item_texts a) (item_texts b) → (x : String Z) → is_member string_eq a x ≡ is_member string_eq b x
     each_text_item = each_item_texts.1
 
--- whether each text of one set is in the other
+-- the texts of one set that are in another, or aren't
 module _ {Z : Type 0} where
   all-texts : (test : List ℕ → Bool) (items : List (String Z)) → list_all test (item_texts items) ≡ list_all (λ x. test (string_bytes x)) items
   unfolding item_texts
   all-texts test [] = refl
   all-texts test (x ∷ items) = ap (λ b. test (string_bytes x) && b) (all-texts test items)
 
-  members-texts : (b : List (String Z)) → is_member string_eq b ≡ (λ x. is_member bytes_eq (item_texts b) (string_bytes x))
-  members-texts b = λ i x. sym (is_member_item_texts b (string_bytes x)) i
+  item_texts_filter : (test : List ℕ → Bool) (items : List (String Z)) → item_texts (filter (λ x. test (string_bytes x)) items) ≡ filter test (item_texts items)
+  unfolding item_texts
+  item_texts_filter test [] = refl
+  item_texts_filter test (x ∷ items) = grind (arith, common_steps, item_texts_filter test items)
 
-  pub subset_texts : (a b : List (String Z)) → list_all (is_member bytes_eq (item_texts b)) (item_texts a) ≡ list_all (is_member string_eq b) a
-  subset_texts a b = all-texts (is_member bytes_eq (item_texts b)) a ∙ ap (λ (member : String Z → Bool). list_all member a) (sym (members-texts b))
+  module _ (a b : List (String Z)) where
+    there : is_member string_eq b ≡ (λ x. is_member bytes_eq (item_texts b) (string_bytes x))
+    there = λ i x. sym (is_member_item_texts b (string_bytes x)) i
+
+    pub subset_texts : list_all (is_member bytes_eq (item_texts b)) (item_texts a) ≡ list_all (is_member string_eq b) a
+    subset_texts = all-texts (is_member bytes_eq (item_texts b)) a ∙ ap (λ (test : String Z → Bool). list_all test a) (sym there)
+
+    pub disjoint_texts : list_all (λ x. not (is_member bytes_eq (item_texts b) x)) (item_texts a) ≡ list_all (λ x. not (is_member string_eq b x)) a
+    disjoint_texts = all-texts (λ x. not (is_member bytes_eq (item_texts b) x)) a ∙ ap (λ (test : String Z → Bool). list_all (λ x. not (test x)) a) (sym there)
+
+    -- what `sub` and `bitand` return, from their clause `clones`
+    module _ {E : Type 0} (r : Result (List (String Z)) E) where
+      pub sub_texts : IfOk r (AllZip (λ (x y : String Z). string_bytes y ≡ string_bytes x) (difference string_eq a b)) → IfOk r (λ new. item_texts new ≡ difference bytes_eq (item_texts a) (item_texts b))
+      sub_texts = IfOk-weaker r _ _ (λ new clones. item_texts_clone (difference string_eq a b) new clones ∙ ap (λ (test : String Z → Bool). item_texts (filter (λ x. not (test x)) a)) there ∙ item_texts_filter (λ x. not (is_member bytes_eq (item_texts b) x)) a)
+
+      pub bitand_texts : IfOk r (AllZip (λ (x y : String Z). string_bytes y ≡ string_bytes x) (intersection string_eq a b)) → IfOk r (λ new. item_texts new ≡ intersection bytes_eq (item_texts a) (item_texts b))
+      bitand_texts = IfOk-weaker r _ _ (λ new clones. item_texts_clone (intersection string_eq a b) new clones ∙ ap (λ (test : String Z → Bool). item_texts (filter test a)) there ∙ item_texts_filter (is_member bytes_eq (item_texts b)) a)
 
 pub ruleset set_text_views = (item_texts_empty, item_texts_first, is_member_item_texts, unique_item_texts, item_texts_replace_item, length_item_texts, item_texts_put_item, item_texts_take_item, item_texts_clone, item_texts_remove_key, find_item_item_texts, matched_item_texts, is_member_made, same_item_texts, each_item_text, each_text_item)

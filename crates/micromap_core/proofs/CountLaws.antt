@@ -1,12 +1,12 @@
 -- For callers: how many distinct keys a list has with one more, how many keys a map has after a list is put into it,
 -- and what a counter has. The ruleset `count_laws` is for a counter, and for a map into which a loop puts a list.
-use Rattle.std.proofs.Common.{◌≡◌, ℕ, ◌+◌, ◌<◌, ◌≤◌, ◌||◌, Bool, true, false, List, [], ◌∷◌, ◌++◌, length, get_or, take, drop, unwrap_or, cond, if◌then◌else◌, refl, ap, sym, subst, ◌∙◌, append_assoc, arith}
+use Rattle.std.proofs.Common.{◌≡◌, ℕ, ◌+◌, ◌<◌, ◌≤◌, ◌||◌, Bool, true, false, List, [], ◌∷◌, ◌++◌, length, map, get_or, take, drop, unwrap_or, cond, if◌then◌else◌, refl, ap, sym, subst, ◌∙◌, append_assoc, arith}
 use Rattle.std.specs.List.{count_by, fold, list_any}
 use Rattle.std.specs.Map.{keys_of}
 use Rattle.std.specs.Set.{distinct_count, is_member}
 use Rattle.std.proofs.Math.Bool.{or-false}
 use Rattle.std.proofs.lemmas.Grind.{common_steps}
-use Rattle.std.proofs.lemmas.List.{append-nil, length-take, map-append, take_all, take_more, take-append-drop}
+use Rattle.std.proofs.lemmas.List.{append-nil, length-map, length-take, map-append, take_all, take_more, take-append-drop, take-map}
 use Rattle.std.proofs.lemmas.List.Folds.{list_any-append}
 use Rattle.std.proofs.lemmas.List.Sums.{count_by-le-length, fold_more, fold_push}
 use Rattle.std.proofs.lemmas.Map.Entries.{length-keys_of}
@@ -134,4 +134,17 @@ module _ {K : Type 0} (eq : K → K → Bool) where
     λ d within new. counts_beyond items i d within laws new,
   )
 
-pub ruleset count_laws = (counts_none, each_counts, each_counts_take, each_put_all_take)
+  -- of the first so many items that a function reads
+  pub each_counts_take_map : {X : Type 0} (read : X → K) (items : List X) (i : ℕ) → Lawful eq → (counts eq (map read (take i items)) ≡ counts eq (map read (take i items))) × (length items ≤ i → counts eq (map read (take i items)) ≡ counts eq (map read items)) × ((q : K) → unwrap_or (at eq (counts eq (map read (take i items))) q) 0 ≤ length items) × ((d : X) → i < length items → counts eq (map read (take (i + 1) items)) ≡ count_one eq (counts eq (map read (take i items))) (read (get_or items i d))) × ((d : X) → i < length items → has eq (counts eq (map read (take i items))) (read (get_or items i d)) ≡ false → length (counts eq (map read (take i items))) < distinct_count eq (map read items))
+  each_counts_take_map read items i laws =
+      let all = each_counts_take (map read items) i laws in
+      let first = take-map read i items in
+      let long = length-map items read in (
+        refl,
+        λ over. grind (arith, common_steps, all.1, first, long, over),
+        λ q. grind (arith, common_steps, all.2 q, first, long),
+        λ d within. grind (arith, common_steps, all.3 (read d), first, take-map read (i + 1) items, long, within),
+        λ d within new. grind (arith, common_steps, all.4 (read d), first, long, within, new),
+      )
+
+pub ruleset count_laws = (counts_none, each_counts, each_counts_take, each_counts_take_map, each_put_all_take)

@@ -22,4 +22,5 @@ pub mod StepsLemmas
 pub mod StreamLemmas
 pub mod SumLaws
 pub mod TextLemmas
+pub mod TextLoops
 pub mod TextViews

@@ -7,7 +7,8 @@ use Rattle.std.specs.Map.{keys_of, values_of}
 use Rattle.std.specs.Set.{distinct_count}
 use Rattle.std.proofs.iter.runs.Consumers.{total_runs}
 use Rattle.std.proofs.iter.runs.Made.{run_of_turn}
-use Rattle.std.proofs.lemmas.List.{length_push, map-append, nil_from_length, take_all, take_at, take_more, take-append-drop, take-map}
+use Rattle.std.proofs.lemmas.Grind.{common_steps}
+use Rattle.std.proofs.lemmas.List.{length-map, length_push, map-append, nil_from_length, take_all, take_at, take_more, take-append-drop, take-map}
 use Rattle.std.proofs.lemmas.List.Folds.{fold-map, list_any-append}
 use Rattle.std.proofs.lemmas.List.Sums.{fold-append, fold_more, fold_push}
 use Rattle.std.proofs.lemmas.Map.Entries.{length-keys_of}
@@ -95,21 +96,6 @@ module _ {K V W : Type 0} (eq : K → K → Bool) (step : Option V → W → V) 
     pub merged_push_map : (x : X) → merged eq step pairs (map read (items ++ x ∷ [])) ≡ merge_pair eq step (merged eq step pairs (map read items)) (read x)
     merged_push_map x = ap (merged eq step pairs) (map-append read items (x ∷ [])) ∙ merged_push pairs (map read items) (read x)
 
-    module _ (i : ℕ) where
-      merged_take_map : (d : X) → i < length items → merged eq step pairs (map read (take (i + 1) items)) ≡ merge_pair eq step (merged eq step pairs (map read (take i items))) (read (get_or items i d))
-      merged_take_map d within =
-          ap (λ l. merged eq step pairs (map read l)) (take_more items i d within)
-          ∙ ap (merged eq step pairs) (map-append read (take i items) (get_or items i d ∷ []))
-          ∙ merged_push pairs (map read (take i items)) (read (get_or items i d))
-
-      merged_beyond_map : (d : X) → i < length items → Lawful eq → IsUnique eq pairs → has eq (merged eq step pairs (map read (take i items))) (read (get_or items i d)).0 ≡ false → length (merged eq step pairs (map read (take i items))) < length (merged eq step pairs (map read items))
-      merged_beyond_map d within laws unique new =
-          let now = merged eq step pairs (map read (take i items)) in
-          let item = read (get_or items i d) in
-          let more = ap length (merged_take_map d within) ∙ length_put eq now item.0 (step (at eq now item.0) item.1) in
-          let grown : length (merged eq step pairs (map read (take (i + 1) items))) ≤ length (merged eq step pairs (map read items)) = subst (λ l. length (merged eq step pairs l) ≤ length (merged eq step pairs (map read items))) (take-map read (i + 1) items) (merged_grows pairs (map read items) (i + 1) laws unique) in
-          grind (arith, new, more, grown)
-
   -- whether each item passes a test when it is merged
   module _ (test : List (K × V) → K × W → Bool) (pairs : List (K × V)) where
     pub all_merge_none : all_merge eq step test pairs [] ≡ true
@@ -122,12 +108,6 @@ module _ {K V W : Type 0} (eq : K → K → Bool) (step : Option V → W → V) 
 
     all_merge_take : (items : List (K × W)) (i : ℕ) (d : K × W) → i < length items → all_merge eq step test pairs (take (i + 1) items) ≡ (all_merge eq step test pairs (take i items) && test (merged eq step pairs (take i items)) (get_or items i d))
     all_merge_take items i d within = ap (all_merge eq step test pairs) (take_more items i d within) ∙ all_merge_push (take i items) (get_or items i d)
-
-    all_merge_take_map : {X : Type 0} (read : X → K × W) (items : List X) (i : ℕ) (d : X) → i < length items → all_merge eq step test pairs (map read (take (i + 1) items)) ≡ (all_merge eq step test pairs (map read (take i items)) && test (merged eq step pairs (map read (take i items))) (read (get_or items i d)))
-    all_merge_take_map read items i d within =
-        ap (λ l. all_merge eq step test pairs (map read l)) (take_more items i d within)
-        ∙ ap (all_merge eq step test pairs) (map-append read (take i items) (get_or items i d ∷ []))
-        ∙ all_merge_push (map read (take i items)) (read (get_or items i d))
 
   -- items all fit exactly if there are at most as many keys as the capacity
   pub all_merge_fits : (N : ℕ) (pairs : List (K × V)) (items : List (K × W)) → Lawful eq → IsUnique eq pairs → length pairs ≤ N → all_merge eq step (λ now item. fits eq N now item.0) pairs items ≡ nat_le (length (merged eq step pairs items)) N
@@ -188,12 +168,15 @@ module _ {K V W : Type 0} (eq : K → K → Bool) (step : Option V → W → V) 
   )
 
   pub each_merged_take_map : {X : Type 0} (read : X → K × W) (pairs : List (K × V)) (items : List X) (i : ℕ) → (merged eq step pairs (map read (take i items)) ≡ merged eq step pairs (map read (take i items))) × (length items ≤ i → merged eq step pairs (map read (take i items)) ≡ merged eq step pairs (map read items)) × ((d : X) → i < length items → merged eq step pairs (map read (take (i + 1) items)) ≡ merge_pair eq step (merged eq step pairs (map read (take i items))) (read (get_or items i d))) × (Lawful eq → IsUnique eq pairs → (d : X) → i < length items → has eq (merged eq step pairs (map read (take i items))) (read (get_or items i d)).0 ≡ false → length (merged eq step pairs (map read (take i items))) < length (merged eq step pairs (map read items)))
-  each_merged_take_map read pairs items i = (
-    refl,
-    λ over. ap (λ l. merged eq step pairs (map read l)) (take_all i items over),
-    λ d within. merged_take_map read pairs items i d within,
-    λ laws unique d within new. merged_beyond_map read pairs items i d within laws unique new,
-  )
+  each_merged_take_map read pairs items i =
+      let all = each_merged_take pairs (map read items) i in
+      let first = take-map read i items in
+      let long = length-map items read in (
+        refl,
+        λ over. grind (arith, common_steps, all.1, first, long, over),
+        λ d within. grind (arith, common_steps, all.2 (read d), first, take-map read (i + 1) items, long, within),
+        λ laws unique d within new. grind (arith, common_steps, all.3 laws unique (read d), first, long, within, new),
+      )
 
   pub each_all_merge_take : (test : List (K × V) → K × W → Bool) (pairs : List (K × V)) (items : List (K × W)) (i : ℕ) → (all_merge eq step test pairs (take i items) ≡ all_merge eq step test pairs (take i items)) × (length items ≤ i → all_merge eq step test pairs (take i items) ≡ all_merge eq step test pairs items) × ((d : K × W) → i < length items → all_merge eq step test pairs (take (i + 1) items) ≡ (all_merge eq step test pairs (take i items) && test (merged eq step pairs (take i items)) (get_or items i d)))
   each_all_merge_take test pairs items i = (
@@ -203,11 +186,14 @@ module _ {K V W : Type 0} (eq : K → K → Bool) (step : Option V → W → V) 
   )
 
   pub each_all_merge_take_map : {X : Type 0} (read : X → K × W) (test : List (K × V) → K × W → Bool) (pairs : List (K × V)) (items : List X) (i : ℕ) → (all_merge eq step test pairs (map read (take i items)) ≡ all_merge eq step test pairs (map read (take i items))) × (length items ≤ i → all_merge eq step test pairs (map read (take i items)) ≡ all_merge eq step test pairs (map read items)) × ((d : X) → i < length items → all_merge eq step test pairs (map read (take (i + 1) items)) ≡ (all_merge eq step test pairs (map read (take i items)) && test (merged eq step pairs (map read (take i items))) (read (get_or items i d))))
-  each_all_merge_take_map read test pairs items i = (
-    refl,
-    λ over. ap (λ l. all_merge eq step test pairs (map read l)) (take_all i items over),
-    λ d within. all_merge_take_map test pairs read items i d within,
-  )
+  each_all_merge_take_map read test pairs items i =
+      let all = each_all_merge_take test pairs (map read items) i in
+      let first = take-map read i items in
+      let long = length-map items read in (
+        refl,
+        λ over. grind (arith, common_steps, all.1, first, long, over),
+        λ d within. grind (arith, common_steps, all.2 (read d), first, take-map read (i + 1) items, long, within),
+      )
 
 -- two cases: a list that is put, and a counter
 module _ {K : Type 0} (eq : K → K → Bool) where

@@ -91,7 +91,8 @@ pair_matched bs pairs = (
   lookup-entry (is_text bs) pairs,
 )
 
--- clones of pairs have the same texts: a `String`'s clone has its bytes, and so has a value's if `read` sees bytes
+-- clones of pairs have the same texts: a `String`'s clone has its bytes, and so has a value's if `read` sees bytes. A
+-- search that has this law tries it at each two lists of texts, so it is named beside the ruleset
 pub texts_clone : {Z V W : Type 0} (read : V → W) (pairs copy : List (String Z × V)) → AllZip (λ (p q : String Z × V). (string_bytes q.0 ≡ string_bytes p.0) × (read q.1 ≡ read p.1)) pairs copy → texts_by read copy ≡ texts_by read pairs
 unfolding texts_by
 texts_clone read [] [] clones = refl
@@ -176,4 +177,4 @@ items-texts lead (e ∷ es) = ap (λ rest. Some lead ++? pair_text (λ (k : List
 pub text_of_texts : {Y Z : Type 0} (pairs : List (String Y × String Z)) → (map_text (λ name. Some name) (λ value. Some value) (texts pairs) ≡ map_text (λ k. Some (string_bytes k)) (λ v. Some (string_bytes v)) pairs) × (is_some (map_text (λ k. Some (string_bytes k)) (λ v. Some (string_bytes v)) pairs) ≡ true)
 text_of_texts pairs = (ap (λ items. Some (codes "{") ++? items ++? Some (codes "}")) (sym (items-texts [] pairs)), map_text_known (λ k. Some (string_bytes k)) (λ v. Some (string_bytes v)) (λ k. refl) (λ v. refl) pairs)
 
-pub ruleset text_views = (texts_empty, at_key_texts, at_texts, pair_texts, pair_matched, matched_texts, texts_put_matched, texts_take_out_matched, texts_put, texts_take_out, texts_clone, has_texts, unique_texts, length_texts, same_texts, each_text, each_key, same_both_texts, each_both_text, each_both_key, text_of_texts)
+pub ruleset text_views = (texts_empty, at_key_texts, at_texts, pair_texts, pair_matched, matched_texts, texts_put_matched, texts_take_out_matched, texts_put, texts_take_out, has_texts, unique_texts, length_texts, same_texts, each_text, each_key, same_both_texts, each_both_text, each_both_key, text_of_texts)

@@ -28,6 +28,7 @@ fn transfer<const N: usize, const M: usize>(
 }
 
 // A copy of a map of texts, which has the same texts.
+#[tactic(auto, using(micromap_core::proofs::TextViews::text_views, micromap_core::proofs::TextViews::texts_clone))]
 fn copied<const N: usize>(map: &Map<String, u64, N>) -> Result<Map<String, u64, N>, AllocError>
     ensures { IfOk result (λ copy. key_texts copy ≡ key_texts map.now) }
 {
@@ -35,6 +36,7 @@ fn copied<const N: usize>(map: &Map<String, u64, N>) -> Result<Map<String, u64, 
 }
 
 // The same of a map of texts to texts.
+#[tactic(auto, using(micromap_core::proofs::TextViews::text_views, micromap_core::proofs::TextViews::texts_clone))]
 fn copied_texts<const N: usize>(
     map: &Map<String, String, N>,
 ) -> Result<Map<String, String, N>, AllocError>

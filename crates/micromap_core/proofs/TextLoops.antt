@@ -1,0 +1,46 @@
+-- For callers: loops over a map of texts, and a map of texts that a loop counts or builds, seen by their texts. The
+-- ruleset `text_loops` is for such a loop, beside `map_laws` and `text_views`.
+use Rattle.std.proofs.Common.{◌≡◌, ℕ, Bool, List, [], ◌∷◌, ◌++◌, filter, map, String, refl, ap, sym, ◌∙◌, append-nil, arith, bytes_eq, string_bytes, string_eq}
+use Rattle.std.specs.Map.{values_of}
+use Rattle.std.proofs.lemmas.Grind.{common_steps}
+use Rattle.micromap_core.specs.Pairs.{at, put, IsUnique}
+use Rattle.micromap_core.specs.Texts.{key_texts, texts_by}
+use Rattle.micromap_core.proofs.Equalities.{lawful_bytes}
+use Rattle.micromap_core.proofs.LoopLaws.{copied_next}
+use Rattle.micromap_core.proofs.TextViews.{at_key_texts, texts_put}
+
+module _ {Z V W : Type 0} (read : V → W) where
+  -- the first pair, and the end
+  pub texts_first : (p : String Z × V) (behind : List (String Z × V)) → texts_by read (p ∷ behind) ≡ (string_bytes p.0, read p.1) ∷ texts_by read behind
+  unfolding texts_by
+  texts_first p behind = refl
+
+  pub texts_end : (pairs : List (String Z × V)) → texts_by read pairs ++ [] ≡ texts_by read pairs
+  texts_end pairs = append-nil (texts_by read pairs)
+
+module _ {Z V : Type 0} where
+  -- a text that is put between the pairs that are done and those that are left
+  pub texts_next : (done : List (String Z × V)) (rest : List (List ℕ × V)) (k : String Z) (v : V) → IsUnique bytes_eq (key_texts done ++ (string_bytes k, v) ∷ rest) → key_texts (put string_eq done k v) ++ rest ≡ key_texts done ++ (string_bytes k, v) ∷ rest
+  texts_next done rest k v unique = ap (λ l. l ++ rest) (texts_put (λ v. v) k done v) ∙ copied_next bytes_eq (key_texts done) rest (string_bytes k) v lawful_bytes unique
+
+  -- what a key finds is what its text finds
+  pub at_key : (pairs : List (String Z × V)) (k : String Z) → at string_eq pairs k ≡ at bytes_eq (key_texts pairs) (string_bytes k)
+  at_key pairs k = sym (at_key_texts pairs (string_bytes k))
+
+  -- the values, the pairs whose value passes a test, and the pairs with other values
+  pub values_texts : (pairs : List (String Z × V)) → values_of (key_texts pairs) ≡ values_of pairs
+  unfolding texts_by
+  values_texts [] = refl
+  values_texts (p ∷ pairs) = ap (λ l. p.1 ∷ l) (values_texts pairs)
+
+  pub texts_filter : (test : V → Bool) (pairs : List (String Z × V)) → key_texts (filter (λ p. test p.1) pairs) ≡ filter (λ p. test p.1) (key_texts pairs)
+  unfolding texts_by
+  texts_filter test [] = refl
+  texts_filter test (p ∷ pairs) = grind (arith, common_steps, texts_filter test pairs)
+
+  pub texts_map : {W : Type 0} (h : V → W) (pairs : List (String Z × V)) → key_texts (map (λ p. (p.0, h p.1)) pairs) ≡ map (λ p. (p.0, h p.1)) (key_texts pairs)
+  unfolding texts_by
+  texts_map h [] = refl
+  texts_map h (p ∷ pairs) = ap (λ l. (string_bytes p.0, h p.1) ∷ l) (texts_map h pairs)
+
+pub ruleset text_loops = (texts_first, texts_end, texts_next, at_key, values_texts, texts_filter, texts_map)
