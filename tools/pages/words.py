@@ -5,7 +5,6 @@ MEANINGS = """
 All P xs | `P` holds of each element
 AllZip R xs ys | the lists have the same length, and `R` holds of the elements at each index
 array values | the JSON array of these values
-object members | the JSON object of these members
 at_most n | `n`, as the bound of a number of items
 Bor T | a `&T`, and `it.now` is what it points to
 CallableOnEachPair T Q f pairs | `Q` holds at each pair, of the closure as calls `T` on the pairs before it leave `f`
