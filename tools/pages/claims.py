@@ -40,6 +40,7 @@ of those that it tried on the call's functions.
 |---|---|---|"""
 ROWS = "\n| Clauses | What is wrong in the body | Refused at |\n|---|---|---|"
 UNKNOWN = "not recorded"
+OF_TRAIT = "its body is an implementation's"
 Edit = collections.namedtuple("Edit", "path wrong claims")  # claims: pairs of a call and the names of its clauses
 
 
@@ -134,4 +135,5 @@ class Claims:
         for call, found in calls.items():
             clause = next(iter(found.values()))
             names = ", ".join(it for it in found if it)
-            yield f"| {self.linked(call, clause)} | {names} | {self.tried.get(call, UNKNOWN)} |"
+            untried = OF_TRAIT if clause.item.kind == "trait" else UNKNOWN
+            yield f"| {self.linked(call, clause)} | {names} | {self.tried.get(call, untried)} |"
