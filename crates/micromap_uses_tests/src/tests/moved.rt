@@ -1,4 +1,6 @@
 //! Texts that go from one collection to another: a pair that moves between two maps, and clones.
+#![tactic(auto, using(micromap::proofs::Rules::caller, micromap_core::proofs::TextViews::texts_clone))]
+
 ghost use Rattle.std.specs.Prelude.{◌≡◌, ◌+◌, ◌^◌, ◌-◌, IfOk, None, is_some, if◌then◌else◌, min, unwrap_or};
 ghost use Rattle.std.specs.Option.{option_map_or};
 ghost use Rattle.std.specs.Str.{bytes_eq};
@@ -28,7 +30,6 @@ fn transfer<const N: usize, const M: usize>(
 }
 
 // A copy of a map of texts, which has the same texts.
-#[tactic(auto, using(micromap_core::proofs::TextViews::text_views, micromap_core::proofs::TextViews::texts_clone))]
 fn copied<const N: usize>(map: &Map<String, u64, N>) -> Result<Map<String, u64, N>, AllocError>
     ensures { IfOk result (λ copy. key_texts copy ≡ key_texts map.now) }
 {
@@ -36,7 +37,6 @@ fn copied<const N: usize>(map: &Map<String, u64, N>) -> Result<Map<String, u64, 
 }
 
 // The same of a map of texts to texts.
-#[tactic(auto, using(micromap_core::proofs::TextViews::text_views, micromap_core::proofs::TextViews::texts_clone))]
 fn copied_texts<const N: usize>(
     map: &Map<String, String, N>,
 ) -> Result<Map<String, String, N>, AllocError>

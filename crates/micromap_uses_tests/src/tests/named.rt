@@ -101,7 +101,6 @@ fn counted<const N: usize>(
             return Ok(None);
         }
     }
-    let _content = counted.len();
     Ok(Some(counted))
 }
 

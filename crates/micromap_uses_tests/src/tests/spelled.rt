@@ -44,6 +44,5 @@ fn set_of<const N: usize>(
             set.insert(String::from_str(alloc, name)?);
         }
     }
-    let _content = set.len();
     Ok(Some(set))
 }
