@@ -5,6 +5,8 @@ import re
 
 
 NONE = "none could be judged"
+# What `rt plant` prints as let through, though it is right: `==` is symmetric.
+RIGHT = {"Self::same::<K>(self, second, first)"}
 
 
 def place_of(said):
@@ -53,8 +55,9 @@ def plants_of(text, calls):
 
 def summary(kinds):
     """What came of the bodies that were tried on a call, in a few words."""
-    passed, refused = kinds["proves"] + kinds["no-ensures"], sorted(kinds["refused"], key=lambda it: (len(it), it))
+    passed = [it for it in kinds["proves"] + kinds["no-ensures"] if it not in RIGHT]
+    refused = sorted(kinds["refused"], key=lambda it: (len(it), it))
     said = ["let through: " + ", ".join(f"`{it}`" for it in passed)] if passed else []
     said += [f"{len(refused)} refused, as `{refused[0] or '{}'}`"] if refused else []
-    said += ["only the right one could be judged"] if kinds["same"] and not said else []
+    said += ["only the right one could be judged"] if (kinds["same"] or RIGHT & {*kinds["proves"]}) and not said else []
     return "; ".join(said) or NONE
