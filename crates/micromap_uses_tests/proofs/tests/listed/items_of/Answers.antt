@@ -3,12 +3,10 @@ use Rattle.micromap.proofs.ItemCounts.{many_items_in}
 use Rattle.micromap.proofs.MisfitLemmas.{built_in, copied_items}
 use Rattle.micromap_uses_tests.proofs.tests.listed.items_of.Goals as goal
 
-pub returns-clause-built : goal.returns-clause-built
-returns-clause-built g c =
+pub returns : goal.returns
+returns g c =
     let items = copied_items _ _ c.iter.ensures.runs c.copied.ensures.source c.iter.ensures.rest in
-    built_in _ _ _ _ _ items.0 items.1 c.try_from_iter.ensures.runs
-
-pub returns-clause-many : goal.returns-clause-many
-returns-clause-many g c =
-    let items = copied_items _ _ c.iter.ensures.runs c.copied.ensures.source c.iter.ensures.rest in
-    many_items_in _ _ _ _ _ lawful_nat items.0 items.1 c.try_from_iter.ensures.stops
+    record {
+      built = built_in _ _ _ _ _ items.0 items.1 c.try_from_iter.ensures.runs;
+      many = many_items_in _ _ _ _ _ lawful_nat items.0 items.1 c.try_from_iter.ensures.stops;
+    }
