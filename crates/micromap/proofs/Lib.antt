@@ -14,6 +14,7 @@ pub mod RetainItems
 pub mod Rules
 pub mod SetLaws
 pub mod SetLoopLaws
+pub mod SetTextLoops
 pub mod SetTextViews
 pub use Rattle.micromap_core.proofs.ClosureLemmas
 pub use Rattle.micromap_core.proofs.CountLaws

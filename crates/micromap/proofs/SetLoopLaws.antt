@@ -1,18 +1,19 @@
--- For callers: loops that build a set, or put its items into another. The ruleset `set_loop_laws` has what the search
--- needs beside `set_laws`.
+-- For callers: loops that build a set, or put its items into another. The ruleset `set_loop_laws` is all that such a loop
+-- needs, over a set, an operation on two sets, or a map's keys.
 use Rattle.std.proofs.Common.{◌≡◌, ◌≤◌, Bool, false, not, List, [], ◌∷◌, ◌++◌, filter, length, refl, ap, sym, ◌∙◌, append_assoc, arith, append-nil}
 use Rattle.std.specs.List.{AllByRecursion, IsDistinct}
 use Rattle.std.specs.Set.{is_member}
+use Rattle.std.proofs.lemmas.List.{length-append}
 use Rattle.std.proofs.lemmas.Map.Entries.{length-keys_of}
 use Rattle.std.proofs.lemmas.Map.Keys.{IsDistinct-head, IsDistinct-tail}
 use Rattle.micromap_core.specs.Equalities.{Lawful}
-use Rattle.micromap_core.proofs.DistinctLemmas.{new_behind}
-use Rattle.micromap_core.proofs.Equalities.{of_lawful}
+use Rattle.micromap_core.proofs.DistinctLemmas.{IsDistinct-filter, new_behind}
+use Rattle.micromap_core.proofs.Equalities.{equalities, of_lawful}
 use Rattle.micromap.specs.Extend.{put_all_items}
 use Rattle.micromap.specs.Items.{put_item, take_item}
 use Rattle.micromap.specs.Operations.{difference, union}
 use Rattle.micromap.proofs.ItemLemmas.{keys_put_item, keys_put_all_items}
-use Rattle.micromap.proofs.SetLaws.{is_member_put_item, items_take_item, length_put_item, put_item_back, put_item_new}
+use Rattle.micromap.proofs.SetLaws.{is_member_put_item, items_take_item, length_put_item, not_fits, put_item_back, put_item_new}
 
 module _ {T : Type 0} (eq : T → T → Bool) where
   -- items that are done and items that are left: a new one goes between them
@@ -53,4 +54,4 @@ module _ {T : Type 0} (eq : T → T → Bool) where
   difference_none [] = refl
   difference_none (x ∷ xs) = ap (λ l. x ∷ l) (difference_none xs)
 
-pub ruleset set_loop_laws = (keys_put_item, keys_put_all_items, length-keys_of, copied_item_next, length_le_put_all_items, put_all_items_union, difference_take_item, difference_none)
+pub ruleset set_loop_laws = (keys_put_item, keys_put_all_items, length-keys_of, copied_item_next, IsDistinct-filter, not_fits, length_put_item, length_le_put_all_items, put_all_items_union, difference_take_item, difference_none, length-append, equalities)

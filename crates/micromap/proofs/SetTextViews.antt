@@ -1,10 +1,10 @@
 -- For callers: what each change of a set of texts does to the list of the texts' bytes.
-use Rattle.std.proofs.Common.{◌≡◌, ◌↔◌, ℕ, Bool, true, false, ◌&&◌, ◌||◌, not, inl, inr, List, [], ◌∷◌, filter, length, map, Result, IfOk, String, is_some, refl, ap, sym, subst, ◌∙◌, string_bytes, arith, bytes_eq, option_map, string_eq}
+use Rattle.std.proofs.Common.{◌≡◌, ◌↔◌, ℕ, Bool, true, false, ◌&&◌, ◌||◌, not, inl, inr, List, [], ◌∷◌, drop, filter, length, map, slice_get, Result, IfOk, String, is_some, refl, ap, sym, subst, ◌∙◌, string_bytes, arith, bytes_eq, option_map, string_eq}
 use Rattle.std.specs.List.{AllByRecursion, AllZip, IsDistinct, find, list_all, list_any}
 use Rattle.std.specs.Set.{swap_key, is_member, remove_key}
 use Rattle.std.proofs.lemmas.Bool.{cases_Bool}
 use Rattle.std.proofs.lemmas.Grind.{common_steps}
-use Rattle.std.proofs.lemmas.List.{length-map, map-append}
+use Rattle.std.proofs.lemmas.List.{drop-map, length-map, map-append}
 use Rattle.std.proofs.lemmas.Result.{IfOk-weaker}
 use Rattle.micromap_core.specs.Probe.{is_text}
 use Rattle.micromap_core.specs.Same.{have_equal_items}
@@ -53,10 +53,20 @@ module _ {Z : Type 0} where
   find_item_item_texts [] bs = refl
   find_item_item_texts (y ∷ items) bs = grind (arith, find_item_item_texts items bs)
 
+  pub item_texts_front : (items : List (String Z)) → slice_get (item_texts items) 0 ≡ option_map string_bytes (slice_get items 0)
+  unfolding item_texts
+  item_texts_front [] = refl
+  item_texts_front (x ∷ items) = refl
+
   module _ (items : List (String Z)) where
     pub length_item_texts : length (item_texts items) ≡ length items
     unfolding item_texts
     length_item_texts = length-map items string_bytes
+
+    -- the first item, and those behind it
+    pub item_texts_drop : item_texts (drop 1 items) ≡ drop 1 (item_texts items)
+    unfolding item_texts
+    item_texts_drop = sym (drop-map _ 1 items)
 
     pub item_texts_put_item : (x : String Z) → item_texts (put_item string_eq items x) ≡ put_item bytes_eq (item_texts items) (string_bytes x)
     unfolding item_texts put_item
@@ -148,12 +158,18 @@ module _ {Z : Type 0} where
     pub disjoint_texts : list_all (λ x. not (is_member bytes_eq (item_texts b) x)) (item_texts a) ≡ list_all (λ x. not (is_member string_eq b x)) a
     disjoint_texts = all-texts (λ x. not (is_member bytes_eq (item_texts b) x)) a ∙ ap (λ (test : String Z → Bool). list_all (λ x. not (test x)) a) (sym there)
 
+    pub difference_texts : item_texts (difference string_eq a b) ≡ difference bytes_eq (item_texts a) (item_texts b)
+    difference_texts = ap (λ (test : String Z → Bool). item_texts (filter (λ x. not (test x)) a)) there ∙ item_texts_filter (λ x. not (is_member bytes_eq (item_texts b) x)) a
+
+    pub intersection_texts : item_texts (intersection string_eq a b) ≡ intersection bytes_eq (item_texts a) (item_texts b)
+    intersection_texts = ap (λ (test : String Z → Bool). item_texts (filter test a)) there ∙ item_texts_filter (is_member bytes_eq (item_texts b)) a
+
     -- what `sub` and `bitand` return, from their clause `clones`
     module _ {E : Type 0} (r : Result (List (String Z)) E) where
       pub sub_texts : IfOk r (AllZip (λ (x y : String Z). string_bytes y ≡ string_bytes x) (difference string_eq a b)) → IfOk r (λ new. item_texts new ≡ difference bytes_eq (item_texts a) (item_texts b))
-      sub_texts = IfOk-weaker r _ _ (λ new clones. item_texts_clone (difference string_eq a b) new clones ∙ ap (λ (test : String Z → Bool). item_texts (filter (λ x. not (test x)) a)) there ∙ item_texts_filter (λ x. not (is_member bytes_eq (item_texts b) x)) a)
+      sub_texts = IfOk-weaker r _ _ (λ new clones. item_texts_clone (difference string_eq a b) new clones ∙ difference_texts)
 
       pub bitand_texts : IfOk r (AllZip (λ (x y : String Z). string_bytes y ≡ string_bytes x) (intersection string_eq a b)) → IfOk r (λ new. item_texts new ≡ intersection bytes_eq (item_texts a) (item_texts b))
-      bitand_texts = IfOk-weaker r _ _ (λ new clones. item_texts_clone (intersection string_eq a b) new clones ∙ ap (λ (test : String Z → Bool). item_texts (filter test a)) there ∙ item_texts_filter (is_member bytes_eq (item_texts b)) a)
+      bitand_texts = IfOk-weaker r _ _ (λ new clones. item_texts_clone (intersection string_eq a b) new clones ∙ intersection_texts)
 
-pub ruleset set_text_views = (item_texts_empty, item_texts_first, is_member_item_texts, unique_item_texts, item_texts_replace_item, length_item_texts, item_texts_put_item, item_texts_take_item, item_texts_clone, item_texts_remove_key, find_item_item_texts, matched_item_texts, is_member_made, same_item_texts, each_item_text, each_text_item)
+pub ruleset set_text_views = (item_texts_empty, item_texts_first, is_member_item_texts, unique_item_texts, item_texts_replace_item, item_texts_front, item_texts_drop, length_item_texts, item_texts_put_item, item_texts_take_item, item_texts_clone, item_texts_remove_key, find_item_item_texts, matched_item_texts, is_member_made, same_item_texts, each_item_text, each_text_item)

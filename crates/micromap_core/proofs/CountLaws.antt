@@ -11,7 +11,7 @@ use Rattle.std.proofs.lemmas.List.Folds.{list_any-append}
 use Rattle.std.proofs.lemmas.List.Sums.{count_by-le-length, fold_more, fold_push}
 use Rattle.std.proofs.lemmas.Map.Entries.{length-keys_of}
 use Rattle.std.proofs.lemmas.Map.Made.{is_some-lookup, length-from_keys}
-use Rattle.micromap_core.specs.Build.{put_all, count_one, counts, put_pair}
+use Rattle.micromap_core.specs.Build.{build, put_all, count_one, counts, put_pair}
 use Rattle.micromap_core.specs.Equalities.{Lawful}
 use Rattle.micromap_core.specs.Pairs.{at, has, put, IsUnique}
 use Rattle.micromap_core.proofs.BuildLemmas.{keys-fold, pairs_keyed}
@@ -69,6 +69,21 @@ module _ {K V : Type 0} (eq : K → K → Bool) where
     λ d within. fold_more (put_pair eq) pairs items i d within,
     λ d within new. put_all_beyond pairs items i d within laws unique new,
   )
+
+  -- of the first so many items, as a function reads them
+  pub each_put_all_take_map : {X : Type 0} (read : X → K × V) (pairs : List (K × V)) (items : List X) (i : ℕ) → Lawful eq → IsUnique eq pairs → (put_all eq pairs (map read (take i items)) ≡ put_all eq pairs (map read (take i items))) × (length items ≤ i → put_all eq pairs (map read (take i items)) ≡ put_all eq pairs (map read items)) × ((d : X) → i < length items → put_all eq pairs (map read (take (i + 1) items)) ≡ put eq (put_all eq pairs (map read (take i items))) (read (get_or items i d)).0 (read (get_or items i d)).1) × ((d : X) → i < length items → has eq (put_all eq pairs (map read (take i items))) (read (get_or items i d)).0 ≡ false → length (put_all eq pairs (map read (take i items))) < length (put_all eq pairs (map read items)))
+  each_put_all_take_map read pairs items i laws unique =
+      let all = each_put_all_take pairs (map read items) i laws unique in
+      let first = take-map read i items in
+      let long = length-map items read in (
+        refl,
+        λ over. grind (arith, common_steps, all.1, first, long, over),
+        λ d within. grind (arith, common_steps, all.2 (read d), first, take-map read (i + 1) items, long, within),
+        λ d within new. grind (arith, common_steps, all.3 (read d), first, long, within, new),
+      )
+
+  pub each_build_take_map : {X : Type 0} (read : X → K × V) (items : List X) (i : ℕ) → Lawful eq → (build eq (map read (take i items)) ≡ build eq (map read (take i items))) × (length items ≤ i → build eq (map read (take i items)) ≡ build eq (map read items)) × ((d : X) → i < length items → build eq (map read (take (i + 1) items)) ≡ put eq (build eq (map read (take i items))) (read (get_or items i d)).0 (read (get_or items i d)).1) × ((d : X) → i < length items → has eq (build eq (map read (take i items))) (read (get_or items i d)).0 ≡ false → length (build eq (map read (take i items))) < length (build eq (map read items)))
+  each_build_take_map read items i laws = each_put_all_take_map read [] items i laws (unique_empty V eq)
 
 -- a counter
 module _ {K : Type 0} (eq : K → K → Bool) where
@@ -147,4 +162,4 @@ module _ {K : Type 0} (eq : K → K → Bool) where
         λ d within new. grind (arith, common_steps, all.4 (read d), first, long, within, new),
       )
 
-pub ruleset count_laws = (counts_none, each_counts, each_counts_take, each_counts_take_map, each_put_all_take)
+pub ruleset count_laws = (counts_none, each_counts, each_counts_take, each_counts_take_map, each_put_all_take, each_put_all_take_map, each_build_take_map)

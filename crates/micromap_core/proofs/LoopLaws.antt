@@ -1,18 +1,18 @@
--- For callers: loops over a map that build another one, or put its pairs into another. The ruleset `loop_laws` has what
--- the search needs beside `map_laws`.
+-- For callers: loops over a map that build another one, or put its pairs into another. The ruleset `loop_laws` is all that
+-- such a loop needs.
 use Rattle.std.proofs.Common.{◌≡◌, ℕ, ◌<◌, ◌≤◌, Bool, true, false, ◌||◌, List, [], ◌∷◌, ◌++◌, drop, length, map, is_some, refl, ap, sym, subst, ◌∙◌, append_assoc, arith, lt-ltb}
 use Rattle.std.specs.List.{IsDistinct}
 use Rattle.std.specs.Map.{keys_of}
 use Rattle.std.proofs.Math.Bool.{or-true}
-use Rattle.std.proofs.lemmas.List.{map-append}
+use Rattle.std.proofs.lemmas.List.{length-append, map-append}
 use Rattle.std.proofs.lemmas.Map.Keys.{IsDistinct-tail}
-use Rattle.std.proofs.lemmas.Map.Made.{is_some-lookup}
+use Rattle.std.proofs.lemmas.Map.Made.{IsDistinct-keys_filter, is_some-lookup}
 use Rattle.micromap_core.specs.Build.{build, put_all}
 use Rattle.micromap_core.specs.Equalities.{Lawful}
 use Rattle.micromap_core.specs.Pairs.{fits, has, put, IsUnique}
 use Rattle.micromap_core.proofs.DistinctLemmas.{new_behind}
-use Rattle.micromap_core.proofs.Equalities.{of_lawful}
-use Rattle.micromap_core.proofs.MapLaws.{at_first, length_put, put_new}
+use Rattle.micromap_core.proofs.Equalities.{equalities, of_lawful}
+use Rattle.micromap_core.proofs.MapLaws.{at_first, length_put, not_fits, put_new}
 use Rattle.micromap_core.proofs.StreamLemmas.{built_in_turn}
 
 module _ {K V : Type 0} (eq : K → K → Bool) where
@@ -61,4 +61,4 @@ module _ {K V : Type 0} (eq : K → K → Bool) where
   length_le_put_all pairs [] = omega arith
   length_le_put_all pairs (p ∷ items) = grind (arith, length_put eq pairs p.0 p.1, length_le_put_all (put eq pairs p.0 p.1) items)
 
-pub ruleset loop_laws = (has_first, has_drop, fits_room, copied_next, unique_map, build_unique, length_le_put_all)
+pub ruleset loop_laws = (has_first, has_drop, fits_room, not_fits, copied_next, unique_map, IsDistinct-keys_filter, build_unique, length_put, length_le_put_all, length-append, equalities)

@@ -256,6 +256,12 @@ module _ {K V : Type 0} (test : K → Bool) (pairs : List (K × V)) where
         (λ n. subst (IsUnique eq) (sym n.taken) unique)
         (λ i f. subst (IsUnique eq) (sym f.taken) (IsUnique-remove eq (of_lawful eq laws) pairs unique i f.pair f.here))
 
+-- a value that is written at a key which is then removed
+module _ {K V : Type 0} (test : K → Bool) where
+  pub remove_entry_set_value : (pairs : List (K × V)) (v : V) → remove_entry test (set_value test pairs v) ≡ remove_entry test pairs
+  remove_entry_set_value [] v = refl
+  remove_entry_set_value (e ∷ pairs) v = grind (arith, remove_entry_set_value pairs v)
+
 -- the same of a text, which is found from the words alone
 pub lookup_remove_text : {Z V : Type 0} (bytes : List ℕ) (pairs : List (String Z × V)) → IsUnique string_eq pairs → lookup (is_text bytes) (remove_entry (is_text bytes) pairs) ≡ None
 lookup_remove_text {Z} bytes pairs unique = lookup_remove_entry (is_text bytes) pairs string_eq (probes_text Z bytes) unique
@@ -290,4 +296,4 @@ module _ {K V : Type 0} (eq : K → K → Bool) (pairs items : List (K × V)) wh
   pub each_put_all : Lawful eq → (put_all eq pairs items ≡ put_all eq pairs items) × ((q : K) → at eq (put_all eq pairs items) q ≡ option_or (at eq (reverse items) q) (at eq pairs q)) × (IsUnique eq items → (q : K) → at eq (put_all eq pairs items) q ≡ option_or (at eq items q) (at eq pairs q)) × ((q : K) → has eq (put_all eq pairs items) q ≡ (has eq items q || has eq pairs q))
   each_put_all laws = (refl, λ q. at_put_all eq pairs items q laws, λ unequal q. at_put_all_unequal eq pairs items q laws unequal, λ q. has_put_all eq pairs items q laws)
 
-pub ruleset map_laws = (pair_key, keys_put, put_new, put_stored, not_fits, at_first, has_behind, take_out_first, lookup_put_all, lookup_put_all_unequal, is_some-lookup, pair_put, lookup_put, pair_put_key, lookup_put_key, pair_take_out, lookup_take_out, pair_build, lookup_build, pair_filter, lookup_filter, length_put, length_put_key, length_take_out, keys_take_out, length_build, unique_put, unique_put_key, unique_take_out, unique_build, IsDistinct-keys_filter, put_back, put_again, take_out_missing, set_value_missing, remove_entry_missing, length-set_value, length-remove_entry, lookup-set, keys_remove_entry, lookup_remove_entry, lookup_remove_text, unique_set_value, unique_remove_entry, each_put, each_put_key, each_take_out, each_put_all, at_walked, has_walked, equalities)
+pub ruleset map_laws = (pair_key, keys_put, put_new, put_stored, not_fits, at_first, has_behind, take_out_first, lookup_put_all, lookup_put_all_unequal, is_some-lookup, pair_put, lookup_put, pair_put_key, lookup_put_key, pair_take_out, lookup_take_out, pair_build, lookup_build, pair_filter, lookup_filter, length_put, length_put_key, length_take_out, keys_take_out, length_build, unique_put, unique_put_key, unique_take_out, unique_build, IsDistinct-keys_filter, put_back, put_again, take_out_missing, set_value_missing, remove_entry_missing, length-set_value, length-remove_entry, lookup-set, keys_remove_entry, lookup_remove_entry, lookup_remove_text, remove_entry_set_value, unique_set_value, unique_remove_entry, each_put, each_put_key, each_take_out, each_put_all, at_walked, has_walked, equalities)

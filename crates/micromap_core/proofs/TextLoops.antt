@@ -1,13 +1,16 @@
 -- For callers: loops over a map of texts, and a map of texts that a loop counts or builds, seen by their texts. The
--- ruleset `text_loops` is for such a loop, beside `map_laws` and `text_views`.
+-- ruleset `text_loops` is all that a loop over a map of texts needs.
 use Rattle.std.proofs.Common.{◌≡◌, ℕ, Bool, List, [], ◌∷◌, ◌++◌, filter, map, String, refl, ap, sym, ◌∙◌, append-nil, arith, bytes_eq, string_bytes, string_eq}
-use Rattle.std.specs.Map.{values_of}
+use Rattle.std.specs.Map.{keys_of, values_of}
 use Rattle.std.proofs.lemmas.Grind.{common_steps}
+use Rattle.std.proofs.lemmas.List.{length-append}
+use Rattle.std.proofs.lemmas.Map.Made.{IsDistinct-keys_filter}
 use Rattle.micromap_core.specs.Pairs.{at, put, IsUnique}
-use Rattle.micromap_core.specs.Texts.{key_texts, texts_by}
-use Rattle.micromap_core.proofs.Equalities.{lawful_bytes}
-use Rattle.micromap_core.proofs.LoopLaws.{copied_next}
-use Rattle.micromap_core.proofs.TextViews.{at_key_texts, texts_put}
+use Rattle.micromap_core.specs.Texts.{item_texts, key_texts, texts_by}
+use Rattle.micromap_core.proofs.Equalities.{equalities, lawful_bytes}
+use Rattle.micromap_core.proofs.LoopLaws.{copied_next, unique_map}
+use Rattle.micromap_core.proofs.MapLaws.{length_put, not_fits}
+use Rattle.micromap_core.proofs.TextViews.{at_key_texts, has_texts, length_texts, texts_empty, texts_put, unique_texts}
 
 module _ {Z V W : Type 0} (read : V → W) where
   -- the first pair, and the end
@@ -27,20 +30,30 @@ module _ {Z V : Type 0} where
   pub at_key : (pairs : List (String Z × V)) (k : String Z) → at string_eq pairs k ≡ at bytes_eq (key_texts pairs) (string_bytes k)
   at_key pairs k = sym (at_key_texts pairs (string_bytes k))
 
-  -- the values, the pairs whose value passes a test, and the pairs with other values
+  -- the keys, and the values
+  pub keys_texts : (pairs : List (String Z × V)) → keys_of (key_texts pairs) ≡ item_texts (keys_of pairs)
+  unfolding texts_by item_texts
+  keys_texts [] = refl
+  keys_texts (p ∷ pairs) = ap (λ l. string_bytes p.0 ∷ l) (keys_texts pairs)
+
   pub values_texts : (pairs : List (String Z × V)) → values_of (key_texts pairs) ≡ values_of pairs
   unfolding texts_by
   values_texts [] = refl
   values_texts (p ∷ pairs) = ap (λ l. p.1 ∷ l) (values_texts pairs)
 
-  pub texts_filter : (test : V → Bool) (pairs : List (String Z × V)) → key_texts (filter (λ p. test p.1) pairs) ≡ filter (λ p. test p.1) (key_texts pairs)
+  -- the pairs that pass a test of the text and the value, and of the value alone
+  pub texts_filter_by : (test : List ℕ → V → Bool) (pairs : List (String Z × V)) → key_texts (filter (λ p. test (string_bytes p.0) p.1) pairs) ≡ filter (λ p. test p.0 p.1) (key_texts pairs)
   unfolding texts_by
-  texts_filter test [] = refl
-  texts_filter test (p ∷ pairs) = grind (arith, common_steps, texts_filter test pairs)
+  texts_filter_by test [] = refl
+  texts_filter_by test (p ∷ pairs) = grind (arith, common_steps, texts_filter_by test pairs)
 
+  pub texts_filter : (test : V → Bool) (pairs : List (String Z × V)) → key_texts (filter (λ p. test p.1) pairs) ≡ filter (λ p. test p.1) (key_texts pairs)
+  texts_filter test pairs = texts_filter_by (λ k v. test v) pairs
+
+  -- the pairs with other values
   pub texts_map : {W : Type 0} (h : V → W) (pairs : List (String Z × V)) → key_texts (map (λ p. (p.0, h p.1)) pairs) ≡ map (λ p. (p.0, h p.1)) (key_texts pairs)
   unfolding texts_by
   texts_map h [] = refl
   texts_map h (p ∷ pairs) = ap (λ l. (string_bytes p.0, h p.1) ∷ l) (texts_map h pairs)
 
-pub ruleset text_loops = (texts_first, texts_end, texts_next, at_key, values_texts, texts_filter, texts_map)
+pub ruleset text_loops = (texts_empty, texts_first, texts_end, texts_next, texts_put, has_texts, at_key, values_texts, texts_filter, texts_map, unique_texts, unique_map, IsDistinct-keys_filter, not_fits, length_texts, length_put, length-append, equalities)

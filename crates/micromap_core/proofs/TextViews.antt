@@ -1,10 +1,10 @@
 -- For callers: what each change of a map with texts as keys does to the list that has the keys' bytes. The laws hold
 -- for any way `read` of seeing a value: `key_texts` sees values as they are, and `texts` sees them by their bytes.
-use Rattle.std.proofs.Common.{◌≡◌, ◌↔◌, ℕ, Bool, true, false, ◌&&◌, ◌||◌, IsTrue, List, [], ◌∷◌, ◌++◌, codes, length, String, Some, is_some, refl, ap, sym, subst, ◌∙◌, string_bytes, arith, bytes_eq, string_eq}
+use Rattle.std.proofs.Common.{◌≡◌, ◌↔◌, ℕ, Bool, true, false, ◌&&◌, ◌||◌, IsTrue, List, [], ◌∷◌, ◌++◌, codes, drop, length, slice_get, String, Option, Some, is_some, refl, ap, sym, subst, ◌∙◌, string_bytes, arith, bytes_eq, string_eq}
 use Rattle.std.specs.List.{AllByRecursion, AllZip, IsDistinct, list_all, list_any}
 use Rattle.std.specs.Map.{keys_of, lookup, lookup_entry, remove_entry, set_value}
 use Rattle.std.specs.Option.{option_eq, option_map}
-use Rattle.std.proofs.lemmas.List.{length-map, map-append}
+use Rattle.std.proofs.lemmas.List.{drop-map, length-map, map-append}
 use Rattle.std.proofs.lemmas.Slice.Eq.{bytes_eq-Decides}
 use Rattle.std.specs.Fmt.{◌++?◌, comma_space, debug_items}
 use Rattle.micromap_core.specs.Pairs.{at, has, pair, put, take_out, IsUnique}
@@ -78,6 +78,16 @@ module _ {Z V W : Type 0} (read : V → W) where
   unfolding texts_by IsDistinct
   unique_texts [] unique = tt
   unique_texts (e ∷ es) unique = (apart e.0 es unique.0, unique_texts es unique.1)
+
+  -- the first pair, and those behind it
+  pub texts_front : (pairs : List (String Z × V)) → slice_get (texts_by read pairs) 0 ≡ option_map (λ (p : String Z × V). (string_bytes p.0, read p.1)) (slice_get pairs 0)
+  unfolding texts_by
+  texts_front [] = refl
+  texts_front (p ∷ pairs) = refl
+
+  pub texts_drop : (pairs : List (String Z × V)) → texts_by read (drop 1 pairs) ≡ drop 1 (texts_by read pairs)
+  unfolding texts_by
+  texts_drop pairs = sym (drop-map _ 1 pairs)
 
   pub length_texts : (pairs : List (String Z × V)) → length (texts_by read pairs) ≡ length pairs
   unfolding texts_by
@@ -168,13 +178,20 @@ module _ {Y Z : Type 0} (a b : List (String Y × String Z)) where
   pub each_both_key : ((bs : List ℕ) → IsTrue (same_at bytes_eq bytes_eq (texts a) (texts b) bs)) → (k : String Y) → IsTrue (same_at string_eq string_eq a b k)
   each_both_key = each_both_texts.1
 
--- what is printed of texts: the text that a map prints is that of its texts, and is known
-items-texts : {Y Z : Type 0} (lead : List ℕ) (pairs : List (String Y × String Z)) → debug_items (pair_text (λ (k : String Y). Some (string_bytes k)) (λ (v : String Z). Some (string_bytes v))) lead pairs ≡ debug_items (pair_text (λ (k : List ℕ). Some k) (λ (v : List ℕ). Some v)) lead (texts pairs)
-unfolding texts_by
-items-texts lead [] = refl
-items-texts lead (e ∷ es) = ap (λ rest. Some lead ++? pair_text (λ (k : List ℕ). Some k) (λ (v : List ℕ). Some v) (string_bytes e.0, string_bytes e.1) ++? rest) (items-texts comma_space es)
+-- what is printed of texts: the text that a map prints is that of its texts, and is known if its values' texts are
+module _ {Z V W : Type 0} (read : V → W) (value_text : W → Option (List ℕ)) where
+  items-texts : (lead : List ℕ) (pairs : List (String Z × V)) → debug_items (pair_text (λ (k : String Z). Some (string_bytes k)) (λ v. value_text (read v))) lead pairs ≡ debug_items (pair_text (λ (k : List ℕ). Some k) value_text) lead (texts_by read pairs)
+  unfolding texts_by
+  items-texts lead [] = refl
+  items-texts lead (e ∷ es) = ap (λ rest. Some lead ++? pair_text (λ (k : List ℕ). Some k) value_text (string_bytes e.0, read e.1) ++? rest) (items-texts comma_space es)
+
+  printed : (pairs : List (String Z × V)) → map_text (λ name. Some name) value_text (texts_by read pairs) ≡ map_text (λ k. Some (string_bytes k)) (λ v. value_text (read v)) pairs
+  printed pairs = ap (λ items. Some (codes "{") ++? items ++? Some (codes "}")) (sym (items-texts [] pairs))
 
 pub text_of_texts : {Y Z : Type 0} (pairs : List (String Y × String Z)) → (map_text (λ name. Some name) (λ value. Some value) (texts pairs) ≡ map_text (λ k. Some (string_bytes k)) (λ v. Some (string_bytes v)) pairs) × (is_some (map_text (λ k. Some (string_bytes k)) (λ v. Some (string_bytes v)) pairs) ≡ true)
-text_of_texts pairs = (ap (λ items. Some (codes "{") ++? items ++? Some (codes "}")) (sym (items-texts [] pairs)), map_text_known (λ k. Some (string_bytes k)) (λ v. Some (string_bytes v)) (λ k. refl) (λ v. refl) pairs)
+text_of_texts pairs = (printed string_bytes (λ v. Some v) pairs, map_text_known (λ k. Some (string_bytes k)) (λ v. Some (string_bytes v)) (λ k. refl) (λ v. refl) pairs)
 
-pub ruleset text_views = (texts_empty, at_key_texts, at_texts, pair_texts, pair_matched, matched_texts, texts_put_matched, texts_take_out_matched, texts_put, texts_take_out, has_texts, unique_texts, length_texts, same_texts, each_text, each_key, same_both_texts, each_both_text, each_both_key, text_of_texts)
+pub text_of_key_texts : {Z V : Type 0} (value_text : V → Option (List ℕ)) (pairs : List (String Z × V)) → (map_text (λ name. Some name) value_text (key_texts pairs) ≡ map_text (λ k. Some (string_bytes k)) value_text pairs) × (((v : V) → is_some (value_text v) ≡ true) → is_some (map_text (λ k. Some (string_bytes k)) value_text pairs) ≡ true)
+text_of_key_texts value_text pairs = (printed (λ v. v) value_text pairs, λ known. map_text_known (λ k. Some (string_bytes k)) value_text (λ k. refl) known pairs)
+
+pub ruleset text_views = (texts_empty, at_key_texts, at_texts, pair_texts, pair_matched, matched_texts, texts_put_matched, texts_take_out_matched, texts_put, texts_take_out, has_texts, unique_texts, texts_front, texts_drop, length_texts, same_texts, each_text, each_key, same_both_texts, each_both_text, each_both_key, text_of_texts, text_of_key_texts)

@@ -8,6 +8,7 @@ mod counts;
 mod entered;
 mod folded;
 mod frame;
+mod gathered;
 mod generic;
 mod graph;
 mod headers;

@@ -56,6 +56,7 @@ pub fn set_from_json<const N: usize>(alloc: Global, text: &str) -> Result<Set<St
     }
 }
 
+// The value that the text writes.
 fn read(alloc: Global, text: &str) -> Result<Value, JsonFault>
     ensures value { IfOk result (λ value. ok_or (value_of text.now) BadText ≡ Ok (view value)) }
     ensures fault { IfErr result (IsFault (ok_or (value_of text.now) BadText)) }
@@ -93,6 +94,7 @@ fn map_of_members<const N: usize>(
     }
 }
 
+// The whole number that the value is, if it is one.
 fn whole_of(value: Value) -> Option<i64>
     ensures { result ≡ whole_number (view value) }
 {
@@ -130,6 +132,7 @@ fn set_of_elements<const N: usize>(elements: Vec<Value>) -> Result<Set<String, N
     }
 }
 
+// The text that the value is, if it is one.
 fn text_of(value: Value) -> Option<String>
     ensures { option_map (λ text. string_bytes text) result ≡ as_str (view value) }
 {

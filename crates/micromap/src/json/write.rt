@@ -53,6 +53,7 @@ pub fn set_to_json<const N: usize>(alloc: Global, set: &Set<String, N>) -> Resul
     Ok(Value::Array(elements).to_string(alloc)?)
 }
 
+// The whole number as a value.
 fn value_of(n: i64) -> Value
     ensures value { view result ≡ number (of_integer n) }
     ensures whole { whole_number (view result) ≡ Some n }

@@ -23,6 +23,7 @@ impl<T: Eq, const N: usize> Set<T, N> {
     pub fn iter(&self) -> Iter<'_, T>
         ensures answer { result ≡ self.now }
         ensures runs { ShowsInOrder (deref {X = T}) }
+        ensures content { IsItems T.eq N self.now }
     {
         hint_at_most(self.len(), N);
         self.map.keys()
@@ -71,7 +72,6 @@ impl<'a, T: Eq, const N: usize> IntoIterator for &'a Set<T, N> {
     ghost into_iter_gives = { λ s walk. (walk ≡ s.now) × ShowsInOrder (deref {X = T}) × IsItems T.eq N s.now };
 
     fn into_iter(self) -> Iter<'a, T> {
-        let _content = self.len();
         self.iter()
     }
 }

@@ -19,7 +19,9 @@ impl<K: Eq, V, const N: usize> Map<K, V, N> {
     pub fn iter(&self) -> Iter<'_, K, V>
         ensures answer { result ≡ self.now }
         ensures runs { ShowsInOrder (deref_pair {K = K} {X = V}) }
+        ensures content { IsContent K.eq N self.now }
     {
+        let _content = self.len();
         let (keys, values) = self.pairs.as_slices();
         Iter::over(keys, values)
     }
@@ -29,7 +31,9 @@ impl<K: Eq, V, const N: usize> Map<K, V, N> {
     pub fn keys(&self) -> Keys<'_, K, V>
         ensures answer { result ≡ keys_of self.now }
         ensures runs { ShowsInOrder (deref {X = K}) }
+        ensures content { IsContent K.eq N self.now }
     {
+        let _content = self.len();
         Keys::over(self.pairs.keys())
     }
 
@@ -38,7 +42,9 @@ impl<K: Eq, V, const N: usize> Map<K, V, N> {
     pub fn values(&self) -> Values<'_, K, V>
         ensures answer { result ≡ values_of self.now }
         ensures runs { ShowsInOrder (deref {X = V}) }
+        ensures content { IsContent K.eq N self.now }
     {
+        let _content = self.len();
         Values::over(self.pairs.values())
     }
 
@@ -114,7 +120,6 @@ impl<'a, K: Eq, V, const N: usize> IntoIterator for &'a Map<K, V, N> {
     ghost into_iter_gives = { λ m walk. (walk ≡ m.now) × ShowsInOrder (deref_pair {K = K} {X = V}) × IsContent K.eq N m.now };
 
     fn into_iter(self) -> Iter<'a, K, V> {
-        let _content = self.len();
         self.iter()
     }
 }

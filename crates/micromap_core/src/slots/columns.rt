@@ -206,7 +206,7 @@ impl<K: Drop, V: Drop, const N: usize> Columns<K, V, N> {
         (key, value)
     }
 
-    /// Removes and drops the last pair.
+    // Removes and drops the last pair.
     #[inline]
     fn drop_last(&mut self)
         requires { 0 < length self.old }
@@ -216,7 +216,7 @@ impl<K: Drop, V: Drop, const N: usize> Columns<K, V, N> {
         self.values.drop_last();
     }
 
-    /// Keeps the first `len` pairs, and drops the others, from the end.
+    // Keeps the first `len` pairs, and drops the others, from the end.
     #[inline]
     fn truncate(&mut self, len: usize)
         ensures { self.new ≡ take len self.old }

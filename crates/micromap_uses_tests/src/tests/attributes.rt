@@ -1,4 +1,6 @@
 //! A list of three attributes.
+#![tactic(auto)]
+
 use micromap::Map;
 use micromap_uses::attributes::{Attributes, remove, rename, set, text, value_or};
 use std::alloc::Global;

@@ -1,10 +1,10 @@
-//! Loops over a map or a set that build another collection: a copy, the keys that pass a test, one map or set added to
-//! another.
-#![tactic(auto, using(micromap::proofs::Rules::caller, micromap_core::proofs::LoopLaws::loop_laws, micromap::proofs::SetLoopLaws::set_loop_laws))]
+//! Loops over a map, a set or an operation on two sets that build another collection, or add to one.
+#![tactic(auto, using(micromap_core::proofs::LoopLaws::loop_laws, micromap::proofs::SetLoopLaws::set_loop_laws))]
 
-ghost use Rattle.std.specs.Prelude.{◌≡◌, ◌<◌, ◌+◌, IfOk, IsFalse, filter, length, map, min, nat_eq, nat_lt};
+ghost use Rattle.std.specs.Prelude.{◌≡◌, ◌↔◌, ◌<◌, ◌+◌, IfOk, IsFalse, IsNone, filter, length, map, min, nat_eq, nat_lt};
 ghost use Rattle.std.specs.Bool.{OnTrue};
 ghost use Rattle.std.specs.Map.{keys_of};
+ghost use Rattle.std.specs.Option.{IfSome};
 ghost use Rattle.micromap.specs.Build.{put_all};
 ghost use Rattle.micromap.specs.Operations.{difference, union};
 ghost use Rattle.micromap.specs.Pairs.{has};
@@ -99,6 +99,37 @@ fn remove_all_items<const N: usize, const M: usize>(set: &mut Set<u8, N>, other:
     }
 }
 
+// The items over the limit, in their order.
+fn items_over<const N: usize>(items: &Set<u8, N>, limit: u8) -> Set<u8, N>
+    ensures { result ≡ filter (λ x. nat_lt limit x) items.now }
+{
+    let mut kept = Set::new();
+    for item in items {
+        if *item > limit {
+            kept.insert(*item);
+        }
+    }
+    kept
+}
+
+// The items of two sets, or `None` if there are more than `N`.
+fn all_items<const N: usize, const M: usize, const L: usize>(
+    one: &Set<u8, M>,
+    other: &Set<u8, L>,
+) -> Option<Set<u8, N>>
+    ensures items { IfSome result (λ items. items ≡ union nat_eq one.now other.now) }
+    ensures refused { IsNone result ↔ (N < length (union nat_eq one.now other.now)) }
+{
+    let mut items = Set::new();
+    for item in one.union(other) {
+        if !items.fits(item) {
+            return None;
+        }
+        items.insert(*item);
+    }
+    Some(items)
+}
+
 // Drops the first pair. A key that was missing still is.
 fn drop_first<K: Eq + Drop, V: Drop, const N: usize>(map: &mut Map<K, V, N>, missing: &K)
     requires { IsFalse (has K.eq map.now missing.now) }
@@ -107,11 +138,27 @@ fn drop_first<K: Eq + Drop, V: Drop, const N: usize>(map: &mut Map<K, V, N>, mis
     map.pop_first();
 }
 
-#[test]
-fn loops_build_other_collections(rt: HostRuntime) {
-    let mut map = Map::from([(1, 10), (2, 20), (3, 30)]);
-    assert!(rt; keys_over(&map, 15).iter().eq(&[2, 3]));
-    assert!(rt; add_all(&mut map, &Map::from([(2, 21), (1, 11)])));
-    assert!(rt; !add_all(&mut map, &Map::from([(4, 40)])));
-    assert!(rt; map.drain().eq([(1, 11), (2, 21), (3, 30)]));
+#[tactic(auto)]
+mod tests {
+    use super::*;
+
+    #[test]
+    fn loops_build_other_collections(rt: HostRuntime) {
+        let mut map = Map::from([(1, 10), (2, 20), (3, 30)]);
+        assert!(rt; keys_over(&map, 15).iter().eq(&[2, 3]));
+        assert!(rt; add_all(&mut map, &Map::from([(2, 21), (1, 11)])));
+        assert!(rt; !add_all(&mut map, &Map::from([(4, 40)])));
+        assert!(rt; map.drain().eq([(1, 11), (2, 21), (3, 30)]));
+    }
+
+    #[test]
+    fn items_of_two_sets_are_refused_beyond_the_room(rt: HostRuntime) {
+        let one = Set::from([1, 2]);
+        let other = Set::from([2, 3]);
+        assert!(rt;
+            all_items::<3, 2, 2>(&one, &other).is_some_and(|items| items.iter().eq(&[2, 3, 1]))
+        );
+        assert!(rt; all_items::<2, 2, 2>(&one, &other).is_none());
+        assert!(rt; items_over(&one, 1).iter().eq(&[2]));
+    }
 }

@@ -56,34 +56,39 @@ fn have_keys_in_order<const N: usize, const M: usize>(
     first.keys().eq(second.keys())
 }
 
-#[test]
-fn a_merged_map_has_the_second_values(rt: HostRuntime) {
-    let mut first: Map<u8, u8, 2> = Map::new();
-    first.checked_insert(1, 10);
-    assert!(rt; merge(&mut first, Map::from([(2, 20), (1, 11)])).is_ok());
-    assert!(rt; first.drain().eq([(1, 11), (2, 20)]));
-    assert!(rt; merge(&mut first, Map::from([(3, 30), (4, 40), (5, 50)])).is_err());
-    assert!(rt; first.is_empty());
-}
+#[tactic(auto)]
+mod tests {
+    use super::*;
 
-#[test]
-fn a_map_is_restricted_to_a_set(rt: HostRuntime) {
-    let mut map = Map::from([(1, 10), (2, 20), (3, 30)]);
-    let mut set = Set::new();
-    for item in [3, 1] {
-        set.checked_insert(item);
+    #[test]
+    fn a_merged_map_has_the_second_values(rt: HostRuntime) {
+        let mut first: Map<u8, u8, 2> = Map::new();
+        first.checked_insert(1, 10);
+        assert!(rt; merge(&mut first, Map::from([(2, 20), (1, 11)])).is_ok());
+        assert!(rt; first.drain().eq([(1, 11), (2, 20)]));
+        assert!(rt; merge(&mut first, Map::from([(3, 30), (4, 40), (5, 50)])).is_err());
+        assert!(rt; first.is_empty());
     }
-    restrict(&mut map, &set);
-    assert!(rt; have_keys_in_order(&map, &Map::from([(1, 0), (3, 0)])));
-    assert!(rt; !have_keys_in_order(&map, &Map::from([(3, 0), (1, 0)])));
-}
 
-#[test]
-fn a_member_has_its_group(rt: HostRuntime) {
-    let mut groups: Map<u8, Set<u8, 2>, 2> = Map::new();
-    groups.checked_insert(7, Set::from([1, 2]));
-    groups.checked_insert(8, Set::from([2, 3]));
-    assert_eq!(rt; group_of(&groups, 2), Some(7));
-    assert_eq!(rt; group_of(&groups, 3), Some(8));
-    assert_eq!(rt; group_of(&groups, 4), None);
+    #[test]
+    fn a_map_is_restricted_to_a_set(rt: HostRuntime) {
+        let mut map = Map::from([(1, 10), (2, 20), (3, 30)]);
+        let mut set = Set::new();
+        for item in [3, 1] {
+            set.checked_insert(item);
+        }
+        restrict(&mut map, &set);
+        assert!(rt; have_keys_in_order(&map, &Map::from([(1, 0), (3, 0)])));
+        assert!(rt; !have_keys_in_order(&map, &Map::from([(3, 0), (1, 0)])));
+    }
+
+    #[test]
+    fn a_member_has_its_group(rt: HostRuntime) {
+        let mut groups: Map<u8, Set<u8, 2>, 2> = Map::new();
+        groups.checked_insert(7, Set::from([1, 2]));
+        groups.checked_insert(8, Set::from([2, 3]));
+        assert_eq!(rt; group_of(&groups, 2), Some(7));
+        assert_eq!(rt; group_of(&groups, 3), Some(8));
+        assert_eq!(rt; group_of(&groups, 4), None);
+    }
 }

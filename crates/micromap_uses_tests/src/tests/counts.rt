@@ -70,26 +70,33 @@ fn collected_pairs<const N: usize>(pairs: Vec<(u8, u8)>) -> Result<Map<u8, u8, N
     Map::try_from_iter(pairs.into_iter())
 }
 
-#[test]
-fn members_beyond_the_room_are_refused(rt: HostRuntime) {
-    let first = Set::from([1, 2]);
-    let second = Set::from([2, 3]);
-    assert!(rt; common_items::<2, 2, 1>(&first, &second).is_ok_and(|set| set.iter().eq(&[2])));
-    assert!(rt; common_items::<2, 2, 0>(&first, &second).is_err());
-    assert!(rt; first_items::<2, 2, 1>(&first, &second).is_ok_and(|set| set.iter().eq(&[1])));
-    assert!(rt; first_items::<2, 2, 0>(&first, &second).is_err());
-    assert!(rt; single_items::<2, 2, 2>(&first, &second).is_ok_and(|set| set.iter().eq(&[1, 3])));
-    assert!(rt; single_items::<2, 2, 1>(&first, &second).is_err());
-}
+#[tactic(auto)]
+mod tests {
+    use super::*;
 
-#[test]
-fn distinct_items_beyond_the_room_are_refused(rt: HostRuntime) -> Result<(), AllocError> {
-    assert!(rt; distinct_items::<2>(&[5, 4, 5]).is_some_and(|set| set.iter().eq(&[5, 4])));
-    assert!(rt; distinct_items::<2>(&[5, 4, 5, 6]).is_none());
-    assert!(rt; distinct_items::<0>(&[]).is_some());
-    let items = vec![in rt.alloc(); 5, 4, 5]?;
-    assert!(rt; collected_items::<1>(items).is_err());
-    let pairs = vec![in rt.alloc(); (5, 1), (4, 2)]?;
-    assert!(rt; collected_pairs::<1>(pairs).is_err());
-    Ok(())
+    #[test]
+    fn members_beyond_the_room_are_refused(rt: HostRuntime) {
+        let first = Set::from([1, 2]);
+        let second = Set::from([2, 3]);
+        assert!(rt; common_items::<2, 2, 1>(&first, &second).is_ok_and(|set| set.iter().eq(&[2])));
+        assert!(rt; common_items::<2, 2, 0>(&first, &second).is_err());
+        assert!(rt; first_items::<2, 2, 1>(&first, &second).is_ok_and(|set| set.iter().eq(&[1])));
+        assert!(rt; first_items::<2, 2, 0>(&first, &second).is_err());
+        assert!(rt;
+            single_items::<2, 2, 2>(&first, &second).is_ok_and(|set| set.iter().eq(&[1, 3]))
+        );
+        assert!(rt; single_items::<2, 2, 1>(&first, &second).is_err());
+    }
+
+    #[test]
+    fn distinct_items_beyond_the_room_are_refused(rt: HostRuntime) -> Result<(), AllocError> {
+        assert!(rt; distinct_items::<2>(&[5, 4, 5]).is_some_and(|set| set.iter().eq(&[5, 4])));
+        assert!(rt; distinct_items::<2>(&[5, 4, 5, 6]).is_none());
+        assert!(rt; distinct_items::<0>(&[]).is_some());
+        let items = vec![in rt.alloc(); 5, 4, 5]?;
+        assert!(rt; collected_items::<1>(items).is_err());
+        let pairs = vec![in rt.alloc(); (5, 1), (4, 2)]?;
+        assert!(rt; collected_pairs::<1>(pairs).is_err());
+        Ok(())
+    }
 }

@@ -120,35 +120,40 @@ fn raise_then_read<const N: usize>(
     map.get(other).copied()
 }
 
-#[test]
-fn an_entry_is_matched_with_guards(rt: HostRuntime) {
-    let mut map: Map<u8, u8, 2> = Map::from([(1, 10), (2, 20)]);
-    assert!(rt; raise_any(&mut map, 1, 15, 16));
-    assert!(rt; !raise_any(&mut map, 1, 15, 17));
-    assert!(rt; !raise_any(&mut map, 3, 15, 18));
-    assert_eq!(rt; map.get(&2), Some(&20));
-    assert_eq!(rt; raise_then_read(&mut map, 2, 29, &1), Some(16));
-    assert_eq!(rt; map.get(&2), Some(&21));
-}
+#[tactic(auto)]
+mod tests {
+    use super::*;
 
-#[test]
-fn an_entry_counts_and_adds(rt: HostRuntime) {
-    let mut counts: Map<char, u8, 1> = Map::new();
-    assert!(rt; count_once(&mut counts, 'a'));
-    assert!(rt; count_once(&mut counts, 'a'));
-    assert!(rt; !count_once(&mut counts, 'b'));
-    assert_eq!(rt; counts.get(&'a'), Some(&2));
-    let mut stock: Map<u8, u64, 1> = Map::new();
-    assert!(rt; add_up(&mut stock, 1, 30, 40));
-    assert!(rt; !add_up(&mut stock, 1, 20, 40));
-    assert_eq!(rt; stock.get(&1), Some(&30));
-}
+    #[test]
+    fn an_entry_is_matched_with_guards(rt: HostRuntime) {
+        let mut map: Map<u8, u8, 2> = Map::from([(1, 10), (2, 20)]);
+        assert!(rt; raise_any(&mut map, 1, 15, 16));
+        assert!(rt; !raise_any(&mut map, 1, 15, 17));
+        assert!(rt; !raise_any(&mut map, 3, 15, 18));
+        assert_eq!(rt; map.get(&2), Some(&20));
+        assert_eq!(rt; raise_then_read(&mut map, 2, 29, &1), Some(16));
+        assert_eq!(rt; map.get(&2), Some(&21));
+    }
 
-#[test]
-fn a_name_is_raised(rt: HostRuntime) -> Result<(), AllocError> {
-    let mut map: Map<String, u8, 1> = Map::new();
-    assert!(rt; raise_text(&mut map, String::from_str(rt.alloc(), "a")?, 5, 4));
-    assert!(rt; !raise_text(&mut map, String::from_str(rt.alloc(), "b")?, 5, 4));
-    assert_eq!(rt; map.get_by(&Text("a")), Some(&4));
-    Ok(())
+    #[test]
+    fn an_entry_counts_and_adds(rt: HostRuntime) {
+        let mut counts: Map<char, u8, 1> = Map::new();
+        assert!(rt; count_once(&mut counts, 'a'));
+        assert!(rt; count_once(&mut counts, 'a'));
+        assert!(rt; !count_once(&mut counts, 'b'));
+        assert_eq!(rt; counts.get(&'a'), Some(&2));
+        let mut stock: Map<u8, u64, 1> = Map::new();
+        assert!(rt; add_up(&mut stock, 1, 30, 40));
+        assert!(rt; !add_up(&mut stock, 1, 20, 40));
+        assert_eq!(rt; stock.get(&1), Some(&30));
+    }
+
+    #[test]
+    fn a_name_is_raised(rt: HostRuntime) -> Result<(), AllocError> {
+        let mut map: Map<String, u8, 1> = Map::new();
+        assert!(rt; raise_text(&mut map, String::from_str(rt.alloc(), "a")?, 5, 4));
+        assert!(rt; !raise_text(&mut map, String::from_str(rt.alloc(), "b")?, 5, 4));
+        assert_eq!(rt; map.get_by(&Text("a")), Some(&4));
+        Ok(())
+    }
 }

@@ -45,13 +45,18 @@ fn age_of<const N: usize>(ages: &Map<String, u8, N>, name: &str) -> Option<u8>
     ages.get_by(&AnyCase(name)).copied()
 }
 
-#[test]
-fn a_name_is_found_in_any_case(rt: HostRuntime) {
-    let mut ages: Map<String, u8, 2> = Map::new();
-    if let Ok(name) = String::from_str(rt.alloc(), "ada") {
-        ages.checked_insert(name, 36);
+#[tactic(auto)]
+mod tests {
+    use super::*;
+
+    #[test]
+    fn a_name_is_found_in_any_case(rt: HostRuntime) {
+        let mut ages: Map<String, u8, 2> = Map::new();
+        if let Ok(name) = String::from_str(rt.alloc(), "ada") {
+            ages.checked_insert(name, 36);
+        }
+        assert_eq!(rt; age_of(&ages, "Ada"), Some(36));
+        assert_eq!(rt; age_of(&ages, "ADA"), Some(36));
+        assert_eq!(rt; age_of(&ages, "Adam"), None);
     }
-    assert_eq!(rt; age_of(&ages, "Ada"), Some(36));
-    assert_eq!(rt; age_of(&ages, "ADA"), Some(36));
-    assert_eq!(rt; age_of(&ages, "Adam"), None);
 }

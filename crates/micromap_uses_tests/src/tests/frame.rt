@@ -1,4 +1,6 @@
 //! A frame with two variables, and a small expression over them.
+#![tactic(auto)]
+
 use micromap::Map;
 use micromap_uses::frame::{Expression, Frame, assign, update};
 use std::alloc::{AllocError, Global};

@@ -260,40 +260,47 @@ fn no_words() -> Set<String, 4>
     Set::new()
 }
 
-#[test]
-fn the_first_gives_way(rt: HostRuntime) {
-    let mut map: Map<u8, char, 2> = Map::new();
-    map.checked_insert(2, 'b');
-    map.checked_insert(3, 'c');
-    assert!(rt; take_first(&mut map) == Some((2, 'b')));
-    assert!(rt; first_drained(&mut map) == Some((3, 'c')));
-    let mut set: Set<u8, 2> = Set::new();
-    assert!(rt; add_newest(&mut set, 1).is_none());
-    assert!(rt; add_newest(&mut set, 2).is_none());
-    assert!(rt; add_newest(&mut set, 3) == Some(1));
-    assert!(rt; first_item(set) == Some(2));
-}
+#[tactic(auto)]
+mod tests {
+    use super::*;
 
-#[test]
-fn what_does_not_fit_is_refused(rt: HostRuntime) {
-    let mut map: Map<u8, u8, 2> = Map::new();
-    assert!(rt; append(&mut map, 1, 10));
-    assert!(rt; !append(&mut map, 1, 11));
-    assert!(rt; put_each_then_read(&mut map, &[(2, 20), (1, 12), (2, 21)], &2) == Some(Some(21)));
-    assert!(rt; !put_each(&mut map, &[(1, 13), (3, 30)]));
-    assert!(rt; !put_or_refuse(&mut map, 3, 30));
-    assert!(rt; is_among_keys(&map, &2));
-    let mut set: Set<u8, 2> = Set::new();
-    assert!(rt; add_each(&mut set, &[1, 2, 1]));
-    assert!(rt; !add_each(&mut set, &[3]));
-}
+    #[test]
+    fn the_first_gives_way(rt: HostRuntime) {
+        let mut map: Map<u8, char, 2> = Map::new();
+        map.checked_insert(2, 'b');
+        map.checked_insert(3, 'c');
+        assert!(rt; take_first(&mut map) == Some((2, 'b')));
+        assert!(rt; first_drained(&mut map) == Some((3, 'c')));
+        let mut set: Set<u8, 2> = Set::new();
+        assert!(rt; add_newest(&mut set, 1).is_none());
+        assert!(rt; add_newest(&mut set, 2).is_none());
+        assert!(rt; add_newest(&mut set, 3) == Some(1));
+        assert!(rt; first_item(set) == Some(2));
+    }
 
-#[test]
-fn what_differs_is_counted_in_any_capacity(rt: HostRuntime) {
-    assert_eq!(rt;
-        count_keys::<u8, char, 2>(&[(1, 'a'), (2, 'b'), (1, 'c')]),
-        Some(2)
-    );
-    assert_eq!(rt; count_keys::<u8, char, 1>(&[(1, 'a'), (2, 'b')]), None);
-    assert_eq!(rt; count_items::<char, 2>(&['a', 'b', 'a']), Some(2));
+    #[test]
+    fn what_does_not_fit_is_refused(rt: HostRuntime) {
+        let mut map: Map<u8, u8, 2> = Map::new();
+        assert!(rt; append(&mut map, 1, 10));
+        assert!(rt; !append(&mut map, 1, 11));
+        assert!(rt;
+            put_each_then_read(&mut map, &[(2, 20), (1, 12), (2, 21)], &2) == Some(Some(21))
+        );
+        assert!(rt; !put_each(&mut map, &[(1, 13), (3, 30)]));
+        assert!(rt; !put_or_refuse(&mut map, 3, 30));
+        assert!(rt; is_among_keys(&map, &2));
+        let mut set: Set<u8, 2> = Set::new();
+        assert!(rt; add_each(&mut set, &[1, 2, 1]));
+        assert!(rt; !add_each(&mut set, &[3]));
+    }
+
+    #[test]
+    fn what_differs_is_counted_in_any_capacity(rt: HostRuntime) {
+        assert_eq!(rt;
+            count_keys::<u8, char, 2>(&[(1, 'a'), (2, 'b'), (1, 'c')]),
+            Some(2)
+        );
+        assert_eq!(rt; count_keys::<u8, char, 1>(&[(1, 'a'), (2, 'b')]), None);
+        assert_eq!(rt; count_items::<char, 2>(&['a', 'b', 'a']), Some(2));
+    }
 }

@@ -1,4 +1,6 @@
 //! Edges among eight nodes.
+#![tactic(auto)]
+
 use micromap::Set;
 use micromap_uses::graph::Graph;
 

@@ -1,4 +1,6 @@
 //! Headers from the fields of a request: their names in any case, their values, and each fault.
+#![tactic(auto)]
+
 use httparse::Header;
 use micromap_testing::displays;
 use micromap_uses::headers::HeaderFault::{self, Memory, NoHost, TooMany, TwoHosts, TwoLengths};

@@ -45,17 +45,22 @@ fn put_into_room<K: Eq + Drop, const N: usize>(map: &mut Map<K, u8, N>, key: K) 
     true
 }
 
-#[test]
-fn keys_room_and_pairs_are_known(rt: HostRuntime) {
-    let mut map: Map<u8, u8, 2> = Map::from([(1, 10), (2, 20)]);
-    let mut keys: Set<u8, 2> = Set::from([1, 2]);
-    assert!(rt; !put_into_room(&mut map, 3));
-    assert_eq!(rt; take_known(&mut map), Some((1, 10)));
-    assert!(rt; put_into_room(&mut map, 3));
-    let moved = rebuilt(map);
-    assert!(rt; moved.is_some_and(|moved| moved.into_iter().eq([(2, 20), (3, 0)])));
-    keys.clear();
-    let mut numbers: Map<u8, u8, 2> = Map::new();
-    add_to_both(&mut numbers, &mut keys, 7, 70);
-    assert!(rt; keys.contains(&7));
+#[tactic(auto)]
+mod tests {
+    use super::*;
+
+    #[test]
+    fn keys_room_and_pairs_are_known(rt: HostRuntime) {
+        let mut map: Map<u8, u8, 2> = Map::from([(1, 10), (2, 20)]);
+        let mut keys: Set<u8, 2> = Set::from([1, 2]);
+        assert!(rt; !put_into_room(&mut map, 3));
+        assert_eq!(rt; take_known(&mut map), Some((1, 10)));
+        assert!(rt; put_into_room(&mut map, 3));
+        let moved = rebuilt(map);
+        assert!(rt; moved.is_some_and(|moved| moved.into_iter().eq([(2, 20), (3, 0)])));
+        keys.clear();
+        let mut numbers: Map<u8, u8, 2> = Map::new();
+        add_to_both(&mut numbers, &mut keys, 7, 70);
+        assert!(rt; keys.contains(&7));
+    }
 }

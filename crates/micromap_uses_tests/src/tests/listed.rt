@@ -33,16 +33,21 @@ fn items_of<const N: usize>(items: &[u8]) -> Result<Set<u8, N>, Overfull>
     Set::try_from_iter(items.iter().copied())
 }
 
-#[test]
-fn lists_beyond_the_room_are_refused(rt: HostRuntime) {
-    assert!(rt;
-        pairs_of::<2>(&[(1, 10), (2, 20), (1, 11)]).is_ok_and(|map| map.get(&1) == Some(&11))
-    );
-    assert!(rt; pairs_of::<1>(&[(1, 10), (2, 20)]).is_err_and(|e| e.at == 1));
-    let mut map = Map::<u8, u8, 2>::from([(1, 10), (2, 20)]);
-    assert!(rt; put_pairs(&mut map, &[(2, 21)]).is_ok());
-    assert!(rt; put_pairs(&mut map, &[(1, 11), (3, 30)]).is_err());
-    assert!(rt; map.drain().eq([(1, 11), (2, 21)]));
-    assert!(rt; items_of::<2>(&[5, 4, 5]).is_ok_and(|set| set.iter().eq(&[5, 4])));
-    assert!(rt; items_of::<1>(&[5, 4]).is_err());
+#[tactic(auto)]
+mod tests {
+    use super::*;
+
+    #[test]
+    fn lists_beyond_the_room_are_refused(rt: HostRuntime) {
+        assert!(rt;
+            pairs_of::<2>(&[(1, 10), (2, 20), (1, 11)]).is_ok_and(|map| map.get(&1) == Some(&11))
+        );
+        assert!(rt; pairs_of::<1>(&[(1, 10), (2, 20)]).is_err_and(|e| e.at == 1));
+        let mut map = Map::<u8, u8, 2>::from([(1, 10), (2, 20)]);
+        assert!(rt; put_pairs(&mut map, &[(2, 21)]).is_ok());
+        assert!(rt; put_pairs(&mut map, &[(1, 11), (3, 30)]).is_err());
+        assert!(rt; map.drain().eq([(1, 11), (2, 21)]));
+        assert!(rt; items_of::<2>(&[5, 4, 5]).is_ok_and(|set| set.iter().eq(&[5, 4])));
+        assert!(rt; items_of::<1>(&[5, 4]).is_err());
+    }
 }

@@ -179,41 +179,46 @@ fn add_all<I: Iterator<Item = (u8, u32)>, const N: usize>(
     Ok(())
 }
 
-#[test]
-fn amounts_are_merged(rt: HostRuntime) {
-    let amounts = [(1, 10), (2, 20), (1, 5)];
-    let mut totals: Map<u8, u32, 2> = Map::new();
-    assert!(rt; add_amounts(&mut totals, &amounts));
-    assert_eq!(rt; totals.get(&1), Some(&15));
-    assert_eq!(rt; add_then_read(&mut totals, &[(2, 1)], 2), Some(Some(21)));
-    assert!(rt; !add_amounts(&mut totals, &[(3, 1)]));
-    assert!(rt; keep_greatest(&mut totals, &[(1, 12), (2, 30)]));
-    assert_eq!(rt; totals.get(&2), Some(&30));
-    assert_eq!(rt;
-        add_before(&mut totals, &[(1, 1), (2, u32::MAX), (1, 1)]),
-        Err(1)
-    );
-    assert_eq!(rt; totals.get(&1), Some(&16));
-}
+#[tactic(auto)]
+mod tests {
+    use super::*;
 
-#[test]
-fn another_map_is_merged(rt: HostRuntime) -> Result<(), AllocError> {
-    let mut totals: Map<u8, u32, 3> = Map::from([(1, 1), (3, 3), (1, 2)]);
-    assert!(rt; add_map(&mut totals, &Map::from([(3, 4), (2, 2)])));
-    assert_eq!(rt; totals.get(&3), Some(&7));
-    assert!(rt; add_vector(&mut totals, vec![in rt.alloc(); (3, 1)]?));
-    assert_eq!(rt;
-        add_all(&mut totals, [(3, 1), (4, 1)].into_iter()),
-        Err(Overfull { at: 1 })
-    );
-    assert_eq!(rt; totals.get(&3), Some(&9));
-    Ok(())
-}
+    #[test]
+    fn amounts_are_merged(rt: HostRuntime) {
+        let amounts = [(1, 10), (2, 20), (1, 5)];
+        let mut totals: Map<u8, u32, 2> = Map::new();
+        assert!(rt; add_amounts(&mut totals, &amounts));
+        assert_eq!(rt; totals.get(&1), Some(&15));
+        assert_eq!(rt; add_then_read(&mut totals, &[(2, 1)], 2), Some(Some(21)));
+        assert!(rt; !add_amounts(&mut totals, &[(3, 1)]));
+        assert!(rt; keep_greatest(&mut totals, &[(1, 12), (2, 30)]));
+        assert_eq!(rt; totals.get(&2), Some(&30));
+        assert_eq!(rt;
+            add_before(&mut totals, &[(1, 1), (2, u32::MAX), (1, 1)]),
+            Err(1)
+        );
+        assert_eq!(rt; totals.get(&1), Some(&16));
+    }
 
-#[test]
-fn totals_and_counts_are_refused_if_there_are_too_many(rt: HostRuntime) {
-    let amounts = [(1, 10), (2, 20), (1, 5)];
-    assert!(rt; totals_of::<1>(&amounts).is_none());
-    assert!(rt; count_numbers::<1>(&amounts).is_none());
-    assert!(rt; count_numbers::<2>(&amounts).is_some());
+    #[test]
+    fn another_map_is_merged(rt: HostRuntime) -> Result<(), AllocError> {
+        let mut totals: Map<u8, u32, 3> = Map::from([(1, 1), (3, 3), (1, 2)]);
+        assert!(rt; add_map(&mut totals, &Map::from([(3, 4), (2, 2)])));
+        assert_eq!(rt; totals.get(&3), Some(&7));
+        assert!(rt; add_vector(&mut totals, vec![in rt.alloc(); (3, 1)]?));
+        assert_eq!(rt;
+            add_all(&mut totals, [(3, 1), (4, 1)].into_iter()),
+            Err(Overfull { at: 1 })
+        );
+        assert_eq!(rt; totals.get(&3), Some(&9));
+        Ok(())
+    }
+
+    #[test]
+    fn totals_and_counts_are_refused_if_there_are_too_many(rt: HostRuntime) {
+        let amounts = [(1, 10), (2, 20), (1, 5)];
+        assert!(rt; totals_of::<1>(&amounts).is_none());
+        assert!(rt; count_numbers::<1>(&amounts).is_none());
+        assert!(rt; count_numbers::<2>(&amounts).is_some());
+    }
 }

@@ -1,4 +1,6 @@
 //! Keys with a derived `==`: the permissions of a role, and the squares of a board.
+#![tactic(auto)]
+
 use micromap::{Map, Set};
 use micromap_uses::board::{Board, Square, move_piece, put_piece};
 use micromap_uses::permissions::Permission::{Delete, Read, Share, Write};

@@ -185,48 +185,53 @@ fn holds_common<const L: usize, const N: usize, const M: usize>(
     second.len() <= L
 }
 
-#[test]
-fn a_conflict_is_read_from_both(rt: HostRuntime) {
-    let first = Map::from([(1, 10), (2, 20)]);
-    let second = Map::from([(2, 25), (1, 10), (3, 30)]);
-    assert_eq!(rt; conflict(&first, &second), Some((Some(&20), Some(&25))));
-    assert_eq!(rt; conflict(&second, &first), Some((Some(&25), Some(&20))));
-    assert_eq!(rt; conflict(&first, &first), None);
-    assert!(rt; is_replica(&first, &Map::from([(2, 20), (1, 10)])));
-    assert!(rt; !is_replica(&first, &second));
-}
+#[tactic(auto)]
+mod tests {
+    use super::*;
 
-#[test]
-#[tactic(auto, unfolding(micromap_core::specs::Pairs::put))]
-fn a_replica_gets_what_its_list_gets(rt: HostRuntime) {
-    let mut list: Map<u8, u8, 3> = Map::new();
-    let mut replica: Map<u8, u8, 4> = Map::new();
-    put_both(&mut list, &mut replica, 1, 10);
-    assert!(rt; list.eq_with(&replica));
-    remove_both(&mut list, &mut replica, 1);
-    assert!(rt; list.is_empty() && replica.is_empty());
-}
+    #[test]
+    fn a_conflict_is_read_from_both(rt: HostRuntime) {
+        let first = Map::from([(1, 10), (2, 20)]);
+        let second = Map::from([(2, 25), (1, 10), (3, 30)]);
+        assert_eq!(rt; conflict(&first, &second), Some((Some(&20), Some(&25))));
+        assert_eq!(rt; conflict(&second, &first), Some((Some(&25), Some(&20))));
+        assert_eq!(rt; conflict(&first, &first), None);
+        assert!(rt; is_replica(&first, &Map::from([(2, 20), (1, 10)])));
+        assert!(rt; !is_replica(&first, &second));
+    }
 
-#[test]
-fn maps_are_told_apart_by_their_lengths(rt: HostRuntime) {
-    let first = Map::from([(1, 10), (2, 20)]);
-    let turned = Map::from([(2, 20), (1, 10)]);
-    let one = Map::from([(1, 10)]);
-    assert!(rt; are_same(&first, &turned, &first));
-    assert!(rt; has_more(&first, &one));
-    assert!(rt; !has_more(&one, &first));
-    assert!(rt; as_long(&first, &turned));
-}
+    #[test]
+    #[tactic(auto, unfolding(micromap_core::specs::Pairs::put))]
+    fn a_replica_gets_what_its_list_gets(rt: HostRuntime) {
+        let mut list: Map<u8, u8, 3> = Map::new();
+        let mut replica: Map<u8, u8, 4> = Map::new();
+        put_both(&mut list, &mut replica, 1, 10);
+        assert!(rt; list.eq_with(&replica));
+        remove_both(&mut list, &mut replica, 1);
+        assert!(rt; list.is_empty() && replica.is_empty());
+    }
 
-#[test]
-fn sets_are_told_apart_by_their_lengths(rt: HostRuntime) {
-    let first = Set::from([1, 2]);
-    let turned = Set::from([2, 1]);
-    let one = Set::from([1]);
-    assert!(rt; have_same_items(&first, &turned));
-    assert!(rt; !have_same_items(&one, &turned));
-    assert!(rt; share_items(&first, &turned, &first));
-    assert!(rt; has_more_items(&first, &one));
-    assert!(rt; includes(&first, &one));
-    assert!(rt; holds_common::<1, 2, 1>(&first, &one));
+    #[test]
+    fn maps_are_told_apart_by_their_lengths(rt: HostRuntime) {
+        let first = Map::from([(1, 10), (2, 20)]);
+        let turned = Map::from([(2, 20), (1, 10)]);
+        let one = Map::from([(1, 10)]);
+        assert!(rt; are_same(&first, &turned, &first));
+        assert!(rt; has_more(&first, &one));
+        assert!(rt; !has_more(&one, &first));
+        assert!(rt; as_long(&first, &turned));
+    }
+
+    #[test]
+    fn sets_are_told_apart_by_their_lengths(rt: HostRuntime) {
+        let first = Set::from([1, 2]);
+        let turned = Set::from([2, 1]);
+        let one = Set::from([1]);
+        assert!(rt; have_same_items(&first, &turned));
+        assert!(rt; !have_same_items(&one, &turned));
+        assert!(rt; share_items(&first, &turned, &first));
+        assert!(rt; has_more_items(&first, &one));
+        assert!(rt; includes(&first, &one));
+        assert!(rt; holds_common::<1, 2, 1>(&first, &one));
+    }
 }

@@ -1,4 +1,6 @@
 //! Three scopes, one in the other.
+#![tactic(auto)]
+
 use micromap_uses::frame;
 use micromap_uses::scopes::{Scope, assign, enter, leave, value_of};
 use std::alloc::AllocError;

@@ -1,14 +1,16 @@
 //! Sets of texts that a loop makes of other texts, known by their bytes.
-#![tactic(auto, using(micromap::proofs::Rules::caller, micromap::proofs::SetLoopLaws::set_loop_laws, micromap::proofs::ItemCounts::item_counts))]
+#![tactic(auto, using(micromap::proofs::SetTextLoops::set_text_loops, micromap::proofs::ItemCounts::item_counts))]
 
-ghost use Rattle.std.specs.Prelude.{◌≡◌, ◌↔◌, ◌<◌, ◌++◌, IfOk, IsNone, codes, map};
+ghost use Rattle.std.specs.Prelude.{◌≡◌, ◌↔◌, ◌<◌, ◌++◌, IfOk, IsNone, codes, filter, length, map, nat_lt};
+ghost use Rattle.std.specs.Map.{keys_of};
 ghost use Rattle.std.specs.Option.{IfSome};
 ghost use Rattle.std.specs.Set.{distinct_count, is_member};
 ghost use Rattle.std.specs.Str.{bytes_eq};
 ghost use Rattle.micromap.specs.Extend.{distinct};
-ghost use Rattle.micromap.specs.Texts.{item_texts};
+ghost use Rattle.micromap.specs.Operations.{difference, intersection, union};
+ghost use Rattle.micromap.specs.Texts.{item_texts, key_texts};
 
-use micromap::{Set, Text};
+use micromap::{Map, Set, Text};
 use std::alloc::{AllocError, Global};
 
 // The names of a set with a prefix.
@@ -23,6 +25,79 @@ fn prefixed<const N: usize>(
         new.insert(format!(in alloc; "x-{name}")?);
     }
     Ok(new)
+}
+
+// The names with more bytes than the limit.
+fn longer<const N: usize>(
+    names: &Set<String, N>,
+    limit: usize,
+) -> Result<Set<String, N>, AllocError>
+    ensures { IfOk result (λ new. item_texts new ≡ filter (λ name. nat_lt limit (length name)) (item_texts names.now)) }
+{
+    let mut kept = Set::new();
+    for name in names {
+        if name.len() > limit {
+            kept.insert(name.clone()?);
+        }
+    }
+    Ok(kept)
+}
+
+// The names of a map.
+fn names_of<const N: usize>(ages: &Map<String, u8, N>) -> Result<Set<String, N>, AllocError>
+    ensures { IfOk result (λ new. item_texts new ≡ keys_of (key_texts ages.now)) }
+{
+    let mut names = Set::new();
+    for name in ages.keys() {
+        names.insert(name.clone()?);
+    }
+    Ok(names)
+}
+
+// The names of two sets, or `None` if there are more than `N`.
+fn all_names<const N: usize, const M: usize, const L: usize>(
+    one: &Set<String, M>,
+    other: &Set<String, L>,
+) -> Result<Option<Set<String, N>>, AllocError>
+    ensures names { IfOk result (λ answer. IfSome answer (λ new. item_texts new ≡ union bytes_eq (item_texts one.now) (item_texts other.now))) }
+    ensures refused { IfOk result (λ answer. IsNone answer ↔ (N < length (union bytes_eq (item_texts one.now) (item_texts other.now)))) }
+{
+    let mut names = Set::new();
+    for name in one.union(other) {
+        if !names.fits(name) {
+            return Ok(None);
+        }
+        names.insert(name.clone()?);
+    }
+    Ok(Some(names))
+}
+
+// The names of one set that aren't in the other.
+fn names_beyond<const N: usize, const M: usize>(
+    one: &Set<String, N>,
+    other: &Set<String, M>,
+) -> Result<Set<String, N>, AllocError>
+    ensures { IfOk result (λ new. item_texts new ≡ difference bytes_eq (item_texts one.now) (item_texts other.now)) }
+{
+    let mut names = Set::new();
+    for name in one.difference(other) {
+        names.insert(name.clone()?);
+    }
+    Ok(names)
+}
+
+// The names that are in both sets.
+fn common_names<const N: usize, const M: usize>(
+    one: &Set<String, N>,
+    other: &Set<String, M>,
+) -> Result<Set<String, N>, AllocError>
+    ensures { IfOk result (λ new. item_texts new ≡ intersection bytes_eq (item_texts one.now) (item_texts other.now)) }
+{
+    let mut names = Set::new();
+    for name in one.intersection(other) {
+        names.insert(name.clone()?);
+    }
+    Ok(names)
 }
 
 // The set of these names, or `None` if there are more than `N`.

@@ -1,4 +1,6 @@
 //! A stock with room for two articles.
+#![tactic(auto)]
+
 use micromap_uses::stock::Stock;
 
 // Delivers a few pieces of an article, unless there are many.

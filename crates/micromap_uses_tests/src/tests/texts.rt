@@ -1,14 +1,17 @@
 //! A caller for each call by probe at texts, in terms of their bytes. One line names the laws, and no proof is written.
-ghost use Rattle.std.specs.Prelude.{◌≡◌, IsTrue, Some, if◌then◌else◌};
+ghost use Rattle.std.specs.Prelude.{◌≡◌, IfOk, IsTrue, Some, drop, if◌then◌else◌, slice_get};
+ghost use Rattle.std.specs.Fmt.{decimal};
 ghost use Rattle.std.specs.Option.{option_map};
 ghost use Rattle.std.specs.String.{string_bytes};
 ghost use Rattle.std.specs.Set.{is_member};
 ghost use Rattle.micromap.specs.Items.{find_item, take_item};
+ghost use Rattle.micromap.specs.Print.{map_text};
 ghost use Rattle.micromap.specs.Pairs.{at, has, pair, put, take_out};
 ghost use Rattle.std.specs.Str.{bytes_eq};
 ghost use Rattle.micromap.specs.Texts.{item_texts, key_texts};
 
 use micromap::{Map, Set, Text};
+use std::alloc::{AllocError, Global};
 
 fn value<const N: usize>(map: &Map<String, u8, N>, name: &str) -> Option<u8>
     ensures { result ≡ at bytes_eq (key_texts map.now) name.now }
@@ -96,4 +99,33 @@ fn remove_word<const N: usize>(words: &mut Set<String, N>, word: &str) -> bool
     ensures texts { item_texts words.new ≡ take_item bytes_eq (item_texts words.old) word.now }
 {
     words.remove_by(&Text(word))
+}
+
+fn take_first<const N: usize>(map: &mut Map<String, u8, N>) -> Option<(String, u8)>
+    ensures answer { option_map (λ p. (string_bytes p.0, p.1)) result ≡ slice_get (key_texts map.old) 0 }
+    ensures texts { key_texts map.new ≡ drop 1 (key_texts map.old) }
+{
+    map.pop_first()
+}
+
+fn empty_then_remove<const N: usize>(map: &mut Map<String, u8, N>, name: &str)
+    ensures { key_texts map.new ≡ take_out bytes_eq (key_texts map.old) name.now }
+{
+    if let Some(stored) = map.get_mut_by(&Text(name)) {
+        *stored = 0;
+    }
+    map.remove_by(&Text(name));
+}
+
+fn text<const N: usize>(alloc: Global, map: &Map<String, u8, N>) -> Result<String, AllocError>
+    ensures { IfOk result (λ text. map_text (λ name. Some name) (λ value. Some (decimal value)) (key_texts map.now) ≡ Some (string_bytes text)) }
+{
+    format!(in alloc; "{map}")
+}
+
+fn take_first_word<const N: usize>(words: &mut Set<String, N>) -> Option<String>
+    ensures answer { option_map (λ x. string_bytes x) result ≡ slice_get (item_texts words.old) 0 }
+    ensures texts { item_texts words.new ≡ drop 1 (item_texts words.old) }
+{
+    words.pop_first()
 }

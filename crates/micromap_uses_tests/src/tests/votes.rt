@@ -1,4 +1,6 @@
 //! Votes, counted by entry.
+#![tactic(auto)]
+
 use micromap_uses::votes::{Name, tally, winner};
 
 // The winner of these votes, or `None` if there are more than two names.

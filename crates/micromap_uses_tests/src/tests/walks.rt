@@ -109,27 +109,32 @@ fn count_different<const N: usize>(bytes: &[u8]) -> Option<usize>
     Some(seen.len())
 }
 
-#[test]
-fn a_walked_pair_is_found(rt: HostRuntime) {
-    let map = Map::from([(1, 10), (2, 20), (3, 30)]);
-    assert_eq!(rt; pair_over(&map, 10), Some((2, 20)));
-    assert_eq!(rt; pair_over(&map, 30), None);
-    let set = Set::from([1, 5, 3]);
-    assert_eq!(rt; item_over(&set, 2), Some(5));
-    assert_eq!(rt; item_over(&set, 5), None);
-    assert_eq!(rt; other_than(&set, &1), Some(&5));
-    assert_eq!(rt; any_over(&map, 20), Some((&3, 30)));
-    assert_eq!(rt; key_other(&map, 1), Some(2));
-    assert_eq!(rt; first_over(&map, 1), Some(2));
-    assert_eq!(rt; first_over(&map, 3), None);
-    let square = Square { row: 1, column: 2 };
-    let board = Map::from([(square, 'k')]);
-    assert_eq!(rt; square_of(&board, 'k'), Some(square));
-    assert_eq!(rt; square_of(&board, 'q'), None);
-}
+#[tactic(auto)]
+mod tests {
+    use super::*;
 
-#[test]
-fn different_bytes_are_counted(rt: HostRuntime) {
-    assert_eq!(rt; count_different::<3>(&[1, 2, 1, 3]), Some(3));
-    assert_eq!(rt; count_different::<2>(&[1, 2, 1, 3]), None);
+    #[test]
+    fn a_walked_pair_is_found(rt: HostRuntime) {
+        let map = Map::from([(1, 10), (2, 20), (3, 30)]);
+        assert_eq!(rt; pair_over(&map, 10), Some((2, 20)));
+        assert_eq!(rt; pair_over(&map, 30), None);
+        let set = Set::from([1, 5, 3]);
+        assert_eq!(rt; item_over(&set, 2), Some(5));
+        assert_eq!(rt; item_over(&set, 5), None);
+        assert_eq!(rt; other_than(&set, &1), Some(&5));
+        assert_eq!(rt; any_over(&map, 20), Some((&3, 30)));
+        assert_eq!(rt; key_other(&map, 1), Some(2));
+        assert_eq!(rt; first_over(&map, 1), Some(2));
+        assert_eq!(rt; first_over(&map, 3), None);
+        let square = Square { row: 1, column: 2 };
+        let board = Map::from([(square, 'k')]);
+        assert_eq!(rt; square_of(&board, 'k'), Some(square));
+        assert_eq!(rt; square_of(&board, 'q'), None);
+    }
+
+    #[test]
+    fn different_bytes_are_counted(rt: HostRuntime) {
+        assert_eq!(rt; count_different::<3>(&[1, 2, 1, 3]), Some(3));
+        assert_eq!(rt; count_different::<2>(&[1, 2, 1, 3]), None);
+    }
 }

@@ -2,7 +2,7 @@ use Rattle.std.specs.Prelude.{◌≡◌, ◌≤◌, length, map, take}
 use Rattle.std.specs.Str.{bytes_eq}
 use Rattle.micromap.specs.Build.{counts}
 use Rattle.micromap.specs.Texts.{key_texts}
-use Rattle.micromap_uses_tests.proofs.tests.named.counted.Given as goal
+use Rattle.micromap_uses_tests.proofs.tests.gathered.counted.Given as goal
 
 -- the map counts the words so far, and has no more than its capacity
 abbrev pub invariant-loop-word : goal.invariant-loop-word
