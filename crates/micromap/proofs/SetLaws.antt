@@ -11,6 +11,7 @@ use Rattle.std.proofs.lemmas.Map.Entries.{length-keys_of}
 use Rattle.micromap_core.specs.Equalities.{Lawful, Probes}
 use Rattle.micromap_core.specs.Pairs.{put, put_key, take_out, IsUnique}
 use Rattle.micromap_core.proofs.Equalities.{equalities, of_lawful, probes_key}
+use Rattle.micromap_core.proofs.TextLemmas.{each_set_text}
 use Rattle.std.proofs.option.Match.{None-if_not_some}
 use Rattle.micromap_core.proofs.MapLaws.{lookup_put, lookup_put_key, lookup_take_out, pair_put, pair_put_key, pair_take_out, length_put, length_put_key, length_take_out, unique_put, unique_put_key, unique_take_out, take_out_missing, keys_take_out, keys_remove_entry, has_behind}
 use Rattle.micromap.specs.ItemEntries.{entries_of}
@@ -214,4 +215,4 @@ module _ {T : Type 0} (eq : T → T → Bool) (xs ys : List T) where
   pub each_intersection : Lawful eq → (intersection eq xs ys ≡ intersection eq xs ys) × ((y : T) → is_member eq (intersection eq xs ys) y ≡ (is_member eq xs y && is_member eq ys y))
   each_intersection laws = (refl, is_member-intersection (of_lawful eq laws) xs ys)
 
-pub ruleset set_laws = (put_item_new, not_fits, is_member_first, is_member_behind, take_item_first, any_put_all_items, any_put_item, any_replace_item, any_take_item, find_put_item, find_replace_item, find_take_item, length_put_item, length_replace_item, length_take_item, items_take_item, unique_put_item, unique_replace_item, unique_take_item, put_item_back, take_item_missing, remove_key_missing, length_remove_key, items_remove_key, each_put_item, each_replace_item, each_take_item, each_put_all_items, each_union, each_symmetric_difference, each_difference, each_intersection, is_member_walked, equalities)
+pub ruleset set_laws = (put_item_new, not_fits, is_member_first, is_member_behind, take_item_first, any_put_all_items, any_put_item, any_replace_item, any_take_item, find_put_item, find_replace_item, find_take_item, length_put_item, length_replace_item, length_take_item, items_take_item, unique_put_item, unique_replace_item, unique_take_item, put_item_back, take_item_missing, remove_key_missing, length_remove_key, items_remove_key, each_put_item, each_replace_item, each_take_item, each_put_all_items, each_union, each_symmetric_difference, each_difference, each_intersection, is_member_walked, each_set_text, equalities)

@@ -4,6 +4,7 @@ use Rattle.std.proofs.Common.{◌≡◌, ℕ, List, [], ◌∷◌, ◌++◌, Str
 use Rattle.std.specs.List.{IsDistinct}
 use Rattle.std.proofs.lemmas.List.{length-append, map-append}
 use Rattle.std.proofs.lemmas.Map.Entries.{length-keys_of}
+use Rattle.std.proofs.lemmas.Str.Pattern.{starts_text}
 use Rattle.micromap_core.specs.Texts.{item_texts}
 use Rattle.micromap_core.proofs.DistinctLemmas.{IsDistinct-filter}
 use Rattle.micromap_core.proofs.Equalities.{equalities, lawful_bytes}
@@ -42,4 +43,4 @@ module _ {Z : Type 0} where
     pub unique_symmetric_texts : IsDistinct string_eq (symmetric_difference string_eq a b) → IsDistinct bytes_eq (symmetric_difference bytes_eq (item_texts a) (item_texts b))
     unique_symmetric_texts unique = subst (IsDistinct bytes_eq) symmetric_difference_texts (unique_item_texts (symmetric_difference string_eq a b) unique)
 
-pub ruleset set_text_loops = (item_texts_empty, item_texts_first, item_texts_end, item_texts_next, item_texts_put_item, is_member_made, unique_item_texts, unique_union_texts, unique_symmetric_texts, IsDistinct-filter, union_texts, difference_texts, intersection_texts, symmetric_difference_texts, keys_texts, not_fits, length_item_texts, length_put_item, length-keys_of, length-append, equalities)
+pub ruleset set_text_loops = (item_texts_empty, item_texts_first, item_texts_end, item_texts_next, item_texts_put_item, is_member_made, unique_item_texts, unique_union_texts, unique_symmetric_texts, IsDistinct-filter, union_texts, difference_texts, intersection_texts, symmetric_difference_texts, keys_texts, not_fits, length_item_texts, length_put_item, length-keys_of, length-append, starts_text, equalities)

@@ -24,6 +24,7 @@ use Rattle.micromap_core.proofs.Equalities.{equalities, lawful, of_lawful, of_pr
 use Rattle.micromap_core.proofs.DistinctLemmas.{IsDistinct-filter}
 use Rattle.micromap_core.proofs.BuildLemmas.{IsDistinct-nil, keys-built, length-built, pairs_keyed}
 use Rattle.micromap_core.proofs.MapLemmas.{lookup-entry, push-put, push-put_key, slice_set-put_key, IsUnique-push, IsUnique-set, IsUnique-set_key, IsUnique-remove, keys_of-put_new, keys_of-put_stored, entry_push, entry_set, entry_set_key, none_apart, lookup-append, entry_new, length-remove_entry, length-set_key, keys_removed, by_test, lookup-set, no_value, set_put, lookup-reverse}
+use Rattle.micromap_core.proofs.TextLemmas.{each_map_text}
 use Rattle.micromap_core.specs.Probe.{is_text}
 
 -- by a test: the pair that is found, and its value
@@ -296,4 +297,4 @@ module _ {K V : Type 0} (eq : K → K → Bool) (pairs items : List (K × V)) wh
   pub each_put_all : Lawful eq → (put_all eq pairs items ≡ put_all eq pairs items) × ((q : K) → at eq (put_all eq pairs items) q ≡ option_or (at eq (reverse items) q) (at eq pairs q)) × (IsUnique eq items → (q : K) → at eq (put_all eq pairs items) q ≡ option_or (at eq items q) (at eq pairs q)) × ((q : K) → has eq (put_all eq pairs items) q ≡ (has eq items q || has eq pairs q))
   each_put_all laws = (refl, λ q. at_put_all eq pairs items q laws, λ unequal q. at_put_all_unequal eq pairs items q laws unequal, λ q. has_put_all eq pairs items q laws)
 
-pub ruleset map_laws = (pair_key, keys_put, put_new, put_stored, not_fits, at_first, has_behind, take_out_first, lookup_put_all, lookup_put_all_unequal, is_some-lookup, pair_put, lookup_put, pair_put_key, lookup_put_key, pair_take_out, lookup_take_out, pair_build, lookup_build, pair_filter, lookup_filter, length_put, length_put_key, length_take_out, keys_take_out, length_build, unique_put, unique_put_key, unique_take_out, unique_build, IsDistinct-keys_filter, put_back, put_again, take_out_missing, set_value_missing, remove_entry_missing, length-set_value, length-remove_entry, lookup-set, keys_remove_entry, lookup_remove_entry, lookup_remove_text, remove_entry_set_value, unique_set_value, unique_remove_entry, each_put, each_put_key, each_take_out, each_put_all, at_walked, has_walked, equalities)
+pub ruleset map_laws = (pair_key, keys_put, put_new, put_stored, not_fits, at_first, has_behind, take_out_first, lookup_put_all, lookup_put_all_unequal, is_some-lookup, pair_put, lookup_put, pair_put_key, lookup_put_key, pair_take_out, lookup_take_out, pair_build, lookup_build, pair_filter, lookup_filter, length_put, length_put_key, length_take_out, keys_take_out, length_build, unique_put, unique_put_key, unique_take_out, unique_build, IsDistinct-keys_filter, put_back, put_again, take_out_missing, set_value_missing, remove_entry_missing, length-set_value, length-remove_entry, lookup-set, keys_remove_entry, lookup_remove_entry, lookup_remove_text, remove_entry_set_value, unique_set_value, unique_remove_entry, each_put, each_put_key, each_take_out, each_put_all, at_walked, has_walked, each_map_text, equalities)

@@ -5,10 +5,11 @@ use Rattle.std.specs.Map.{keys_of, values_of}
 use Rattle.std.proofs.lemmas.Grind.{common_steps}
 use Rattle.std.proofs.lemmas.List.{length-append}
 use Rattle.std.proofs.lemmas.Map.Made.{IsDistinct-keys_filter}
+use Rattle.std.proofs.lemmas.Str.Pattern.{starts_text}
 use Rattle.micromap_core.specs.Pairs.{at, put, IsUnique}
 use Rattle.micromap_core.specs.Texts.{item_texts, key_texts, texts_by}
 use Rattle.micromap_core.proofs.Equalities.{equalities, lawful_bytes}
-use Rattle.micromap_core.proofs.LoopLaws.{copied_next, unique_map}
+use Rattle.micromap_core.proofs.LoopLaws.{copied_next, length_le_put_all, unique_map}
 use Rattle.micromap_core.proofs.MapLaws.{length_put, not_fits}
 use Rattle.micromap_core.proofs.TextViews.{at_key_texts, has_texts, length_texts, texts_empty, texts_put, unique_texts}
 
@@ -56,4 +57,4 @@ module _ {Z V : Type 0} where
   texts_map h [] = refl
   texts_map h (p ∷ pairs) = ap (λ l. (string_bytes p.0, h p.1) ∷ l) (texts_map h pairs)
 
-pub ruleset text_loops = (texts_empty, texts_first, texts_end, texts_next, texts_put, has_texts, at_key, values_texts, texts_filter, texts_map, unique_texts, unique_map, IsDistinct-keys_filter, not_fits, length_texts, length_put, length-append, equalities)
+pub ruleset text_loops = (texts_empty, texts_first, texts_end, texts_next, texts_put, has_texts, at_key, values_texts, texts_filter, texts_map, unique_texts, unique_map, IsDistinct-keys_filter, not_fits, length_texts, length_put, length_le_put_all, length-append, starts_text, equalities)

@@ -1,7 +1,7 @@
 //! Loops over a map with texts as keys, and closures that change one, known by their bytes.
 #![tactic(auto, using(micromap_core::proofs::TextLoops::text_loops))]
 
-ghost use Rattle.std.specs.Prelude.{◌≡◌, ◌+◌, IfOk, filter, length, map, min, nat_lt};
+ghost use Rattle.std.specs.Prelude.{◌≡◌, ◌<◌, ◌+◌, IfOk, IsFalse, filter, length, map, min, nat_lt};
 ghost use Rattle.std.specs.Bool.{OnTrue};
 ghost use Rattle.std.specs.Str.{bytes_eq};
 ghost use Rattle.micromap.specs.Build.{put_all};
@@ -38,12 +38,13 @@ fn names_over<const N: usize>(
     Ok(kept)
 }
 
-// Puts the pairs of another map, up to the first that doesn't fit, and returns whether all fit.
+// Puts the pairs of another map, up to the first that doesn't fit. If one doesn't, they would be more than `N`.
 fn add_all<const N: usize, const M: usize>(
     amounts: &mut Map<String, u8, N>,
     other: &Map<String, u8, M>,
 ) -> Result<bool, AllocError>
-    ensures { IfOk result (λ all. OnTrue all (key_texts amounts.new ≡ put_all bytes_eq (key_texts amounts.old) (key_texts other.now))) }
+    ensures put { IfOk result (λ all. OnTrue all (key_texts amounts.new ≡ put_all bytes_eq (key_texts amounts.old) (key_texts other.now))) }
+    ensures refused { IfOk result (λ all. IsFalse all → N < length (put_all bytes_eq (key_texts amounts.old) (key_texts other.now))) }
 {
     for (name, amount) in other {
         if !amounts.fits(name) {

@@ -1,7 +1,8 @@
 //! Sets of texts that a loop makes of other texts, known by their bytes.
 #![tactic(auto, using(micromap::proofs::SetTextLoops::set_text_loops, micromap::proofs::ItemCounts::item_counts))]
 
-ghost use Rattle.std.specs.Prelude.{◌≡◌, ◌↔◌, ◌<◌, ◌++◌, IfOk, IsNone, codes, filter, length, map, nat_lt};
+ghost use Rattle.std.specs.Prelude.{◌≡◌, ◌↔◌, ◌<◌, ◌++◌, IfOk, IsNone, codes, filter, length, map, nat_eq, nat_lt};
+ghost use Rattle.std.specs.List.{starts_with};
 ghost use Rattle.std.specs.Map.{keys_of};
 ghost use Rattle.std.specs.Option.{IfSome};
 ghost use Rattle.std.specs.Set.{distinct_count, is_member};
@@ -41,6 +42,29 @@ fn longer<const N: usize>(
         }
     }
     Ok(kept)
+}
+
+// The names that begin with a text.
+fn beginning<const N: usize>(
+    names: &Set<String, N>,
+    text: &str,
+) -> Result<Set<String, N>, AllocError>
+    ensures { IfOk result (λ new. item_texts new ≡ filter (λ name. starts_with nat_eq name text.now) (item_texts names.now)) }
+{
+    let mut kept = Set::new();
+    for name in names {
+        if name.starts_with(text) {
+            kept.insert(name.clone()?);
+        }
+    }
+    Ok(kept)
+}
+
+// Keeps the names with more bytes than the limit.
+fn keep_longer<const N: usize>(names: &mut Set<String, N>, limit: usize)
+    ensures { item_texts names.new ≡ filter (λ name. nat_lt limit (length name)) (item_texts names.old) }
+{
+    names.retain(|name| name.len() > limit);
 }
 
 // The names of a map.
@@ -101,7 +125,7 @@ fn common_names<const N: usize, const M: usize>(
 }
 
 // The set of these names, or `None` if there are more than `N`.
-#[tactic(auto, using(micromap::proofs::ItemCounts::item_counts, micromap::proofs::SetTextViews::set_text_views, micromap::proofs::SetLaws::put_item_back, micromap_core::proofs::Equalities::equalities))]
+#[tactic(auto, using(micromap::proofs::ItemCounts::item_counts, micromap::proofs::SetTextViews::set_text_views))]
 fn set_of<const N: usize>(
     alloc: Global,
     names: &[&str],

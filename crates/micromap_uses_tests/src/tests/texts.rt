@@ -5,7 +5,7 @@ ghost use Rattle.std.specs.Option.{option_map};
 ghost use Rattle.std.specs.String.{string_bytes};
 ghost use Rattle.std.specs.Set.{is_member};
 ghost use Rattle.micromap.specs.Items.{find_item, take_item};
-ghost use Rattle.micromap.specs.Print.{map_text};
+ghost use Rattle.micromap.specs.Print.{map_text, set_text};
 ghost use Rattle.micromap.specs.Pairs.{at, has, pair, put, take_out};
 ghost use Rattle.std.specs.Str.{bytes_eq};
 ghost use Rattle.micromap.specs.Texts.{item_texts, key_texts};
@@ -128,4 +128,31 @@ fn take_first_word<const N: usize>(words: &mut Set<String, N>) -> Option<String>
     ensures texts { item_texts words.new ≡ drop 1 (item_texts words.old) }
 {
     words.pop_first()
+}
+
+fn text_of_words<const N: usize>(
+    alloc: Global,
+    words: &Set<String, N>,
+) -> Result<String, AllocError>
+    ensures { IfOk result (λ text. set_text (λ word. Some word) (item_texts words.now) ≡ Some (string_bytes text)) }
+{
+    format!(in alloc; "{words}")
+}
+
+fn text_of_numbers<const N: usize>(
+    alloc: Global,
+    numbers: &Set<u8, N>,
+) -> Result<String, AllocError>
+    ensures { IfOk result (λ text. set_text (λ number. Some (decimal number)) numbers.now ≡ Some (string_bytes text)) }
+{
+    format!(in alloc; "{numbers}")
+}
+
+fn text_of_amounts<const N: usize>(
+    alloc: Global,
+    amounts: &Map<u8, u8, N>,
+) -> Result<String, AllocError>
+    ensures { IfOk result (λ text. map_text (λ key. Some (decimal key)) (λ value. Some (decimal value)) amounts.now ≡ Some (string_bytes text)) }
+{
+    format!(in alloc; "{amounts}")
 }
