@@ -16,6 +16,7 @@ pub mod SetLaws
 pub mod SetLoopLaws
 pub mod SetTextLoops
 pub mod SetTextViews
+pub use Rattle.micromap_core.proofs.ClosureLaws
 pub use Rattle.micromap_core.proofs.ClosureLemmas
 pub use Rattle.micromap_core.proofs.CountLaws
 pub use Rattle.micromap_core.proofs.DistinctLemmas

@@ -1,7 +1,8 @@
 -- For callers: what each change of a set of texts does to the list of the texts' bytes.
 use Rattle.std.proofs.Common.{◌≡◌, ◌↔◌, ℕ, Some, codes, Bool, true, false, ◌&&◌, ◌||◌, not, inl, inr, List, [], ◌∷◌, drop, filter, length, map, slice_get, Result, IfOk, String, is_some, refl, ap, sym, subst, ◌∙◌, string_bytes, arith, bytes_eq, option_map, string_eq}
 use Rattle.std.specs.Fmt.{◌++?◌, comma_space, debug_items}
-use Rattle.std.specs.List.{AllByRecursion, AllZip, IsDistinct, find, list_all, list_any}
+use Rattle.std.specs.List.{AllByRecursion, AllZip, IsDistinct, find, items_where_true, list_all, list_any}
+use Rattle.std.specs.List.Retain.{ReturnsInTurn}
 use Rattle.std.specs.Set.{swap_key, is_member, remove_key}
 use Rattle.std.proofs.lemmas.Bool.{cases_Bool}
 use Rattle.std.proofs.lemmas.Grind.{common_steps}
@@ -11,6 +12,7 @@ use Rattle.micromap_core.specs.Print.{set_text}
 use Rattle.micromap_core.specs.Probe.{is_text}
 use Rattle.micromap_core.specs.Same.{have_equal_items}
 use Rattle.micromap_core.specs.Texts.{item_texts}
+use Rattle.micromap_core.proofs.ClosureLaws.{retained_items}
 use Rattle.micromap_core.proofs.Equalities.{equalities, of_probes, probes_text, same_test}
 use Rattle.micromap_core.proofs.TextLemmas.{set_text_known}
 use Rattle.micromap.proofs.ItemLemmas.{any-find}
@@ -177,6 +179,11 @@ module _ {Z : Type 0} where
       pub bitand_texts : IfOk r (AllZip (λ (x y : String Z). string_bytes y ≡ string_bytes x) (intersection string_eq a b)) → IfOk r (λ new. item_texts new ≡ intersection bytes_eq (item_texts a) (item_texts b))
       bitand_texts = IfOk-weaker r _ _ (λ new clones. item_texts_clone (intersection string_eq a b) new clones ∙ intersection_texts)
 
+-- what `retain` leaves, if its closure changes no capture
+module _ {F Z : Type 0} (R : F → String Z → Bool → F → Type 0) (f q : F) (bs : List Bool) (items new : List (String Z)) (test : List ℕ → Bool) where
+  pub item_texts_retained : length bs ≡ length items → ReturnsInTurn R f bs items q → new ≡ items_where_true bs items → ((x : String Z) (b : Bool) (t : F) → R f x b t → (b ≡ test (string_bytes x)) × (t ≡ f)) → item_texts new ≡ filter test (item_texts items)
+  item_texts_retained long told kept pure = ap item_texts (retained_items R f q bs items new (λ x. test (string_bytes x)) long told kept pure) ∙ item_texts_filter test items
+
 -- what is printed of texts: the text that a set prints is that of its texts, and is known
 items-texts : {Z : Type 0} (lead : List ℕ) (items : List (String Z)) → debug_items (λ (x : String Z). Some (string_bytes x)) lead items ≡ debug_items (λ (x : List ℕ). Some x) lead (item_texts items)
 unfolding item_texts
@@ -186,4 +193,4 @@ items-texts lead (x ∷ items) = ap (λ rest. Some lead ++? Some (string_bytes x
 pub text_of_item_texts : {Z : Type 0} (items : List (String Z)) → (set_text (λ name. Some name) (item_texts items) ≡ set_text (λ x. Some (string_bytes x)) items) × (is_some (set_text (λ x. Some (string_bytes x)) items) ≡ true)
 text_of_item_texts items = (ap (λ text. Some (codes "{") ++? text ++? Some (codes "}")) (sym (items-texts [] items)), set_text_known (λ x. Some (string_bytes x)) (λ x. refl) items)
 
-pub ruleset set_text_views = (item_texts_empty, item_texts_first, is_member_item_texts, unique_item_texts, item_texts_replace_item, item_texts_front, item_texts_drop, length_item_texts, item_texts_put_item, item_texts_take_item, item_texts_clone, item_texts_remove_key, find_item_item_texts, matched_item_texts, is_member_made, same_item_texts, each_item_text, each_text_item, text_of_item_texts, put_item_back, length_put_item, equalities)
+pub ruleset set_text_views = (item_texts_empty, item_texts_first, is_member_item_texts, unique_item_texts, item_texts_replace_item, item_texts_front, item_texts_drop, length_item_texts, item_texts_put_item, item_texts_take_item, item_texts_clone, item_texts_remove_key, find_item_item_texts, matched_item_texts, is_member_made, same_item_texts, each_item_text, each_text_item, item_texts_retained, text_of_item_texts, put_item_back, length_put_item, equalities)

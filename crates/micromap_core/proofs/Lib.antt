@@ -1,6 +1,7 @@
 pub mod BuildLemmas
 pub mod CloneLemmas
 pub mod SlotsLemmas
+pub mod ClosureLaws
 pub mod ClosureLemmas
 pub mod CountLaws
 pub mod DistinctLemmas

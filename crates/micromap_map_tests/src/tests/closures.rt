@@ -1,4 +1,4 @@
-//! Pairs kept and values written by a closure, and four callers' proofs over the final list.
+//! Pairs kept and values written by a closure, and four callers over the final list.
 ghost use Rattle.std.specs.Prelude.{◌≡◌, ◌==◌, ◌%◌, nat_eq, map};
 ghost use Rattle.std.specs.List.{filter};
 ghost use Rattle.std.specs.Map.{keys_of};
@@ -8,6 +8,7 @@ ghost use Rattle.micromap.specs.Closures.{IsSublist, updated_disjoint};
 use micromap::Map;
 
 // Keeps the pairs with an even key.
+#[tactic(auto, using(micromap_core::proofs::ClosureLaws::closure_laws))]
 fn keep_even<const N: usize>(pairs: &mut Map<u8, u8, N>)
     ensures { pairs.new ≡ filter (λ p. p.0 % 2 == 0) pairs.old }
 {
@@ -27,6 +28,7 @@ fn keep_some<const N: usize>(pairs: &mut Map<u8, u8, N>, limit: u8)
 }
 
 // Sets each value to its key.
+#[tactic(auto, using(micromap_core::proofs::ClosureLaws::closure_laws))]
 fn keys_as_values<const N: usize>(pairs: &mut Map<u8, u8, N>)
     ensures { pairs.new ≡ map (λ p. (p.0, p.0)) pairs.old }
 {
@@ -34,6 +36,7 @@ fn keys_as_values<const N: usize>(pairs: &mut Map<u8, u8, N>)
 }
 
 // Sets the value of each key that is stored to its position.
+#[tactic(auto, using(micromap_core::proofs::ClosureLaws::closure_laws))]
 fn positions<const J: usize, const N: usize>(pairs: &mut Map<u8, usize, N>, keys: &[u8; J])
     requires { distinct_count nat_eq keys.now ≡ J }
     ensures { pairs.new ≡ updated_disjoint nat_eq (λ position _. position) pairs.old keys.now }

@@ -259,6 +259,7 @@ fn a_loop_lends_each_item_or_gives_it_away(rt: HostRuntime) {
 }
 
 // Keeps the even numbers.
+#[tactic(auto, using(micromap::proofs::Rules::caller))]
 fn keep_even<const N: usize>(set: &mut Set<u8, N>)
     ensures { set.new ≡ filter (λ x. x % 2 == 0) set.old }
 {

@@ -1,5 +1,5 @@
 //! Sets of texts that a loop makes of other texts, known by their bytes.
-#![tactic(auto, using(micromap::proofs::SetTextLoops::set_text_loops, micromap::proofs::ItemCounts::item_counts))]
+#![tactic(auto, using(micromap::proofs::SetTextLoops::set_text_loops, micromap::proofs::SetTextViews::item_texts_retained, micromap::proofs::ItemCounts::item_counts))]
 
 ghost use Rattle.std.specs.Prelude.{◌≡◌, ◌↔◌, ◌<◌, ◌++◌, IfOk, IsNone, codes, filter, length, map, nat_eq, nat_lt};
 ghost use Rattle.std.specs.List.{starts_with};
