@@ -9,6 +9,7 @@ use Rattle.std.proofs.lemmas.Map.Keys.{IsDistinct-head, IsDistinct-tail}
 use Rattle.micromap_core.specs.Equalities.{Lawful}
 use Rattle.micromap_core.proofs.DistinctLemmas.{IsDistinct-filter, new_behind}
 use Rattle.micromap_core.proofs.Equalities.{equalities, of_lawful}
+use Rattle.micromap_core.proofs.LoopLaws.{each_left}
 use Rattle.micromap.specs.Extend.{put_all_items}
 use Rattle.micromap.specs.Items.{put_item, take_item}
 use Rattle.micromap.specs.Operations.{difference, union}
@@ -54,4 +55,4 @@ module _ {T : Type 0} (eq : T → T → Bool) where
   difference_none [] = refl
   difference_none (x ∷ xs) = ap (λ l. x ∷ l) (difference_none xs)
 
-pub ruleset set_loop_laws = (keys_put_item, keys_put_all_items, length-keys_of, copied_item_next, IsDistinct-filter, not_fits, length_put_item, length_le_put_all_items, put_all_items_union, difference_take_item, difference_none, length-append, equalities)
+pub ruleset set_loop_laws = (keys_put_item, keys_put_all_items, length-keys_of, copied_item_next, IsDistinct-filter, not_fits, length_put_item, length_le_put_all_items, put_all_items_union, difference_take_item, difference_none, each_left, length-append, equalities)

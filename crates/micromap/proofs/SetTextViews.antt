@@ -1,5 +1,5 @@
 -- For callers: what each change of a set of texts does to the list of the texts' bytes.
-use Rattle.std.proofs.Common.{◌≡◌, ◌↔◌, ℕ, Some, codes, Bool, true, false, ◌&&◌, ◌||◌, not, inl, inr, List, [], ◌∷◌, drop, filter, length, map, slice_get, Result, IfOk, String, is_some, refl, ap, sym, subst, ◌∙◌, string_bytes, arith, bytes_eq, option_map, string_eq}
+use Rattle.std.proofs.Common.{◌≡◌, ◌↔◌, ℕ, Some, codes, Bool, true, false, ◌&&◌, ◌||◌, not, inl, inr, IsTrue, IsFalse, List, [], ◌∷◌, drop, filter, length, map, slice_get, Result, IfOk, String, is_some, refl, ap, sym, subst, ◌∙◌, string_bytes, arith, bytes_eq, option_map, string_eq}
 use Rattle.std.specs.Fmt.{◌++?◌, comma_space, debug_items}
 use Rattle.std.specs.List.{AllByRecursion, AllZip, IsDistinct, find, items_where_true, list_all, list_any}
 use Rattle.std.specs.List.Retain.{ReturnsInTurn}
@@ -8,6 +8,7 @@ use Rattle.std.proofs.lemmas.Bool.{cases_Bool}
 use Rattle.std.proofs.lemmas.Grind.{common_steps}
 use Rattle.std.proofs.lemmas.List.{drop-map, length-map, map-append}
 use Rattle.std.proofs.lemmas.Result.{IfOk-weaker}
+use Rattle.std.proofs.lemmas.Slice.Eq.{bytes_eq-Decides}
 use Rattle.micromap_core.specs.Print.{set_text}
 use Rattle.micromap_core.specs.Probe.{is_text}
 use Rattle.micromap_core.specs.Same.{have_equal_items}
@@ -18,7 +19,7 @@ use Rattle.micromap_core.proofs.TextLemmas.{set_text_known}
 use Rattle.micromap.proofs.ItemLemmas.{any-find}
 use Rattle.micromap.proofs.SetLaws.{length_put_item, put_item_back}
 use Rattle.micromap.specs.Items.{put_item, replace_item, find_item, take_item}
-use Rattle.micromap.specs.Operations.{difference, intersection, HaveEquals}
+use Rattle.micromap.specs.Operations.{difference, intersection, HaveEquals, IsDisjoint}
 
 pub item_texts_empty : (Z : Type 0) → item_texts {Z = Z} [] ≡ []
 unfolding item_texts
@@ -171,13 +172,30 @@ module _ {Z : Type 0} where
     pub intersection_texts : item_texts (intersection string_eq a b) ≡ intersection bytes_eq (item_texts a) (item_texts b)
     intersection_texts = ap (λ (test : String Z → Bool). item_texts (filter test a)) there ∙ item_texts_filter (is_member bytes_eq (item_texts b)) a
 
+    -- no text is in both sets exactly if no item is; the two directions are for a search
+    pub disjoint_text : IsDisjoint string_eq a b → (bs : List ℕ) → IsTrue (is_member bytes_eq (item_texts a) bs) → IsFalse (is_member bytes_eq (item_texts b) bs)
+    disjoint_text each bs there = by_items (is_text bs) a _
+        (λ none. grind (arith, is_member_item_texts a bs, none, there))
+        (λ x matches. let is = sym ((bytes_eq-Decides bs (string_bytes x)).0 matches) in grind (arith, (is_member_made a x bs is).1, (is_member_made b x bs is).1, each x, there))
+
+    pub text_disjoint : IsDisjoint bytes_eq (item_texts a) (item_texts b) → (x : String Z) → IsTrue (is_member string_eq a x) → IsFalse (is_member string_eq b x)
+    text_disjoint each x there = (is_member_made b x _ refl).1 ∙ each (string_bytes x) (sym (is_member_made a x _ refl).1 ∙ there)
+
+    -- the clones of an operation's members
+    module _ (new : List (String Z)) where
+      pub difference_clone : AllZip (λ (x y : String Z). string_bytes y ≡ string_bytes x) (difference string_eq a b) new → item_texts new ≡ difference bytes_eq (item_texts a) (item_texts b)
+      difference_clone clones = item_texts_clone (difference string_eq a b) new clones ∙ difference_texts
+
+      pub intersection_clone : AllZip (λ (x y : String Z). string_bytes y ≡ string_bytes x) (intersection string_eq a b) new → item_texts new ≡ intersection bytes_eq (item_texts a) (item_texts b)
+      intersection_clone clones = item_texts_clone (intersection string_eq a b) new clones ∙ intersection_texts
+
     -- what `sub` and `bitand` return, from their clause `clones`
     module _ {E : Type 0} (r : Result (List (String Z)) E) where
       pub sub_texts : IfOk r (AllZip (λ (x y : String Z). string_bytes y ≡ string_bytes x) (difference string_eq a b)) → IfOk r (λ new. item_texts new ≡ difference bytes_eq (item_texts a) (item_texts b))
-      sub_texts = IfOk-weaker r _ _ (λ new clones. item_texts_clone (difference string_eq a b) new clones ∙ difference_texts)
+      sub_texts = IfOk-weaker r _ _ difference_clone
 
       pub bitand_texts : IfOk r (AllZip (λ (x y : String Z). string_bytes y ≡ string_bytes x) (intersection string_eq a b)) → IfOk r (λ new. item_texts new ≡ intersection bytes_eq (item_texts a) (item_texts b))
-      bitand_texts = IfOk-weaker r _ _ (λ new clones. item_texts_clone (intersection string_eq a b) new clones ∙ intersection_texts)
+      bitand_texts = IfOk-weaker r _ _ intersection_clone
 
 -- what `retain` leaves, if its closure changes no capture
 module _ {F Z : Type 0} (R : F → String Z → Bool → F → Type 0) (f q : F) (bs : List Bool) (items new : List (String Z)) (test : List ℕ → Bool) where
@@ -193,4 +211,10 @@ items-texts lead (x ∷ items) = ap (λ rest. Some lead ++? Some (string_bytes x
 pub text_of_item_texts : {Z : Type 0} (items : List (String Z)) → (set_text (λ name. Some name) (item_texts items) ≡ set_text (λ x. Some (string_bytes x)) items) × (is_some (set_text (λ x. Some (string_bytes x)) items) ≡ true)
 text_of_item_texts items = (ap (λ text. Some (codes "{") ++? text ++? Some (codes "}")) (sym (items-texts [] items)), set_text_known (λ x. Some (string_bytes x)) (λ x. refl) items)
 
-pub ruleset set_text_views = (item_texts_empty, item_texts_first, is_member_item_texts, unique_item_texts, item_texts_replace_item, item_texts_front, item_texts_drop, length_item_texts, item_texts_put_item, item_texts_take_item, item_texts_clone, item_texts_remove_key, find_item_item_texts, matched_item_texts, is_member_made, same_item_texts, each_item_text, each_text_item, item_texts_retained, text_of_item_texts, put_item_back, length_put_item, equalities)
+-- the views, without those of two sets that are the same, which make a search slow where none are compared
+pub ruleset set_texts = (item_texts_empty, item_texts_first, is_member_item_texts, unique_item_texts, item_texts_replace_item, item_texts_front, item_texts_drop, length_item_texts, item_texts_put_item, item_texts_take_item, item_texts_clone, item_texts_remove_key, find_item_item_texts, matched_item_texts, is_member_made, item_texts_retained, text_of_item_texts, put_item_back, length_put_item, equalities)
+
+pub ruleset set_text_views = (set_texts, same_item_texts, each_item_text, each_text_item)
+
+-- after `is_subset`, `is_disjoint`, `sub` and `bitand`
+pub ruleset set_text_operations = (subset_texts, disjoint_text, text_disjoint, difference_clone, intersection_clone, equalities)

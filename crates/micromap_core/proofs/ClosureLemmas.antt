@@ -6,7 +6,7 @@ use Rattle.std.specs.Fn.{Mut}
 use Rattle.std.specs.List.{swap, FoldsTo, enumerate_from, list_any, fold, items_where_true}
 use Rattle.std.specs.Map.Calls.{CallableOnEachPair, RetainsPairs}
 use Rattle.std.specs.Option.{IfSome, option_map_or}
-use Rattle.std.proofs.lemmas.List.{drop-set-lt, drop_all, length-set, take-set-le, take-append-drop, take_more, take_more_set, map_push, take_all}
+use Rattle.std.proofs.lemmas.List.{drop-set-lt, drop_all, length-set, take-set-le, map-id, take-append-drop, take_more, take_more_set, map_push, take_all}
 use Rattle.std.proofs.lemmas.List.Edits.{length-swap}
 use Rattle.std.proofs.lemmas.Option.{slice_get_within, get_or_from_slice_get, slice_get-get_or}
 use Rattle.micromap_core.specs.Closures.{AcceptsPair, CalledOnPair, VisitsAt, AcceptsValue, AtEachTurn, CalledOnValue, IsSublist, MayUpdateAll, MayUpdateDisjoint, UpdateAllTurn, UpdateDisjointTurn, UpdatesAll, UpdatesDisjoint, updated_disjoint, written_by}
@@ -170,15 +170,25 @@ keys_updated {F = F} {K = K} {V = V} {g = g} {f = f} {pairs = pairs} {new = new}
     more : (done : List (K × V)) (s : F × List (K × V)) (p : K × V) (t : F × List (K × V)) → keys_of s.1 ≡ keys_of done → UpdateAllTurn g s p t → keys_of t.1 ≡ keys_of (done ++ p ∷ [])
     more done s p t before turn = ap keys_of turn.3 ∙ map_push (λ e. e.0) s.1 (p.0, turn.1) ∙ (λ i. before i ++ p.0 ∷ []) ∙ sym (map_push (λ e. e.0) done p)
 
+-- `update_all` by a function of pairs, of what `see` shows of each
+module _ {F K V R A : Type 0} (g : Mut F (Bor K × (MutBor V × Unit {0})) (R × (MutBor V × Unit {0}))) (f last : F) (pairs new : List (K × V)) (see : K × V → A) (h : A → A) where
+  pub seen : FoldsTo (UpdateAllTurn g) (f, []) pairs (last, new) → ((k : K) (v : V) (r : R) (w : V) (t : F) → CalledOnPair g f k v r w t → (see (k, w) ≡ h (see (k, v))) × (t ≡ f)) → map see new ≡ map (λ p. h (see p)) pairs
+  seen turns pure =
+      (chained_keeps {P = F × List (K × V)} (UpdateAllTurn g) (λ done s. (s.0 ≡ f) × (map see s.1 ≡ map (λ p. h (see p)) done)) more pairs (f, []) (last, new) (refl, refl) turns).1
+    where
+      more : (done : List (K × V)) (s : F × List (K × V)) (p : K × V) (t : F × List (K × V)) → (s.0 ≡ f) × (map see s.1 ≡ map (λ p. h (see p)) done) → UpdateAllTurn g s p t → (t.0 ≡ f) × (map see t.1 ≡ map (λ p. h (see p)) (done ++ p ∷ []))
+      more done s p t before turn =
+          let said = pure p.0 p.1 turn.0 turn.1 t.0 (subst (λ u. CalledOnPair g u p.0 p.1 turn.0 turn.1 t.0) before.0 turn.2) in
+          (said.1, ap (map see) turn.3 ∙ map_push see s.1 (p.0, turn.1) ∙ (λ i. before.1 i ++ said.0 i ∷ []) ∙ sym (map_push (λ p. h (see p)) done p))
+
+module _ {F K V R : Type 0} (g : Mut F (Bor K × (MutBor V × Unit {0})) (R × (MutBor V × Unit {0}))) (f last : F) (pairs new : List (K × V)) (h : K × V → K × V) where
+  pub updated : FoldsTo (UpdateAllTurn g) (f, []) pairs (last, new) → ((k : K) (v : V) (r : R) (w : V) (t : F) → CalledOnPair g f k v r w t → ((k, w) ≡ h (k, v)) × (t ≡ f)) → new ≡ map h pairs
+  updated turns pure = sym (map-id new) ∙ seen g f last pairs new (λ p. p) h turns pure
+
 -- `update_all` by a function of key and value
 pub updated_by : {F K V R : Type 0} {g : Mut F (Bor K × (MutBor V × Unit {0})) (R × (MutBor V × Unit {0}))} {f : F} {pairs new : List (K × V)} (h : K → V → V) → UpdatesAll g f pairs new → ((k : K) (v : V) (r : R) (w : V) (t : F) → CalledOnPair g f k v r w t → (w ≡ h k v) × (t ≡ f)) → new ≡ map (λ p. (p.0, h p.0 p.1)) pairs
-updated_by {F = F} {K = K} {V = V} {g = g} {f = f} {pairs = pairs} {new = new} h updates pure =
-    (chained_keeps {P = F × List (K × V)} (UpdateAllTurn g) (λ done s. (s.0 ≡ f) × (s.1 ≡ map (λ p. (p.0, h p.0 p.1)) done)) more pairs (f, []) (updates.last, new) (refl, refl) updates.turns).1
-  where
-    more : (done : List (K × V)) (s : F × List (K × V)) (p : K × V) (t : F × List (K × V)) → (s.0 ≡ f) × (s.1 ≡ map (λ p. (p.0, h p.0 p.1)) done) → UpdateAllTurn g s p t → (t.0 ≡ f) × (t.1 ≡ map (λ p. (p.0, h p.0 p.1)) (done ++ p ∷ []))
-    more done s p t before turn =
-        let said = pure p.0 p.1 turn.0 turn.1 t.0 (subst (λ u. CalledOnPair g u p.0 p.1 turn.0 turn.1 t.0) before.0 turn.2) in
-        (said.1, turn.3 ∙ rw (before.1, said.0, map_push) refl)
+updated_by {g = g} {f = f} {pairs = pairs} {new = new} h updates pure =
+    updated g f updates.last pairs new (λ p. (p.0, h p.0 p.1)) updates.turns (λ k v r w t said. let is = pure k v r w t said in ((λ i. (k, is.0 i)), is.1))
 
 -- `update_disjoint` by a function of position and value
 pub updated_at_keys : {F K V R : Type 0} {eq : K → K → Bool} {g : Mut F (ℕ × (MutBor V × Unit {0})) (R × (MutBor V × Unit {0}))} {f : F} {pairs new : List (K × V)} {keys : List K} (h : ℕ → V → V) → UpdatesDisjoint eq g f pairs keys new → ((i : ℕ) (v : V) (r : R) (w : V) (t : F) → CalledOnValue g f i v r w t → (w ≡ h i v) × (t ≡ f)) → new ≡ updated_disjoint eq h pairs keys

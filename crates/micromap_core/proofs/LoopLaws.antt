@@ -1,10 +1,10 @@
 -- For callers: loops over a map that build another one, or put its pairs into another. The ruleset `loop_laws` is all that
 -- such a loop needs.
-use Rattle.std.proofs.Common.{◌≡◌, ℕ, ◌<◌, ◌≤◌, Bool, true, false, ◌||◌, List, [], ◌∷◌, ◌++◌, drop, length, map, is_some, refl, ap, sym, subst, ◌∙◌, append_assoc, arith, lt-ltb}
+use Rattle.std.proofs.Common.{◌≡◌, ℕ, suc, ◌+◌, ◌<◌, ◌≤◌, Bool, true, false, ◌||◌, List, [], ◌∷◌, ◌++◌, drop, get_or, length, map, is_some, refl, ap, sym, subst, ◌∙◌, add-one, append_assoc, arith, drop-cons, lt-ltb}
 use Rattle.std.specs.List.{IsDistinct}
 use Rattle.std.specs.Map.{keys_of}
 use Rattle.std.proofs.Math.Bool.{or-true}
-use Rattle.std.proofs.lemmas.List.{length-append, map-append}
+use Rattle.std.proofs.lemmas.List.{drop_all, length-append, map-append}
 use Rattle.std.proofs.lemmas.Map.Keys.{IsDistinct-tail}
 use Rattle.std.proofs.lemmas.Map.Made.{IsDistinct-keys_filter, is_some-lookup}
 use Rattle.micromap_core.specs.Build.{build, put_all}
@@ -60,5 +60,13 @@ module _ {K V : Type 0} (eq : K → K → Bool) where
   pub length_le_put_all : (pairs items : List (K × V)) → length pairs ≤ length (put_all eq pairs items)
   length_le_put_all pairs [] = omega arith
   length_le_put_all pairs (p ∷ items) = grind (arith, length_put eq pairs p.0 p.1, length_le_put_all (put eq pairs p.0 p.1) items)
+
+-- what a loop over a list leaves: all from the index on, as they are and as a function reads them
+module _ {X : Type 0} (items : List X) (i : ℕ) where
+  pub each_left : (drop i items ≡ drop i items) × (length items ≤ i → drop i items ≡ []) × ((d : X) → i < length items → drop i items ≡ get_or items i d ∷ drop (i + 1) items)
+  each_left = (refl, drop_all i items, λ d within. rw (drop-cons items i d within, add-one) refl)
+
+  pub each_left_map : {Y : Type 0} (read : X → Y) → (map read (drop i items) ≡ map read (drop i items)) × (length items ≤ i → map read (drop i items) ≡ []) × ((d : X) → i < length items → map read (drop i items) ≡ read (get_or items i d) ∷ map read (drop (i + 1) items))
+  each_left_map read = (refl, (λ past. ap (map read) (each_left.1 past)), λ d within. ap (map read) (each_left.2 d within))
 
 pub ruleset loop_laws = (has_first, has_drop, fits_room, not_fits, copied_next, unique_map, IsDistinct-keys_filter, build_unique, length_put, length_le_put_all, length-append, equalities)

@@ -102,6 +102,10 @@ module _ {K V W : Type 0} (eq : K → K → Bool) (step : Option V → W → V) 
     unfolding all_merge
     all_merge_none = refl
 
+    pub all_merge_first : (item : K × W) (items : List (K × W)) → all_merge eq step test pairs (item ∷ items) ≡ (test pairs item && all_merge eq step test (merge_pair eq step pairs item) items)
+    unfolding all_merge
+    all_merge_first item items = refl
+
     pub all_merge_push : (items : List (K × W)) (item : K × W) → all_merge eq step test pairs (items ++ item ∷ []) ≡ (all_merge eq step test pairs items && test (merged eq step pairs items) item)
     unfolding all_merge merged
     all_merge_push items item = each_fits-push test (merge_pair eq step) pairs items item
@@ -205,4 +209,4 @@ module _ {K : Type 0} (eq : K → K → Bool) where
   unfolding merged counts
   merged_counts items = sym (fold-map (count_one eq) (λ item. item.0) [] items)
 
-pub ruleset merge_laws = (merged_none, merged_first, merged_append, merged_push, merged_push_map, all_merge_none, all_merge_push, each_merged, each_merged_end, each_merged_take, each_merged_take_map, each_all_merge_take, each_all_merge_take_map, unique_empty)
+pub ruleset merge_laws = (merged_none, merged_first, merged_append, merged_push, merged_push_map, all_merge_none, all_merge_first, all_merge_push, each_merged, each_merged_end, each_merged_take, each_merged_take_map, each_all_merge_take, each_all_merge_take_map, unique_empty)

@@ -26,5 +26,6 @@ module _ {K V : Type 0} (key_text : K → Option (List ℕ)) (value_text : V →
   pub map_text_known : (pairs : List (K × V)) → is_some (map_text key_text value_text pairs) ≡ true
   map_text_known = set_text_known (pair_text key_text value_text) (λ p. both_known (key_text p.0) _ (keys p.0) (both_known (Some (codes ": ")) _ refl (values p.1)))
 
+-- by the word alone, for a search
 pub each_map_text : {K V : Type 0} (key_text : K → Option (List ℕ)) (value_text : V → Option (List ℕ)) (pairs : List (K × V)) → (map_text key_text value_text pairs ≡ map_text key_text value_text pairs) × (((k : K) → is_some (key_text k) ≡ true) → ((v : V) → is_some (value_text v) ≡ true) → is_some (map_text key_text value_text pairs) ≡ true)
 each_map_text key_text value_text pairs = (refl, λ keys values. map_text_known key_text value_text keys values pairs)

@@ -1,8 +1,10 @@
 //! Each subject has a module. One ruleset serves the callers in all of them.
 #![tactic(auto, using(micromap::proofs::Rules::caller))]
 
+mod added;
 mod attributes;
 mod built;
+mod collected;
 mod combined;
 mod counts;
 mod entered;
@@ -18,12 +20,15 @@ mod listed;
 mod merged;
 mod moved;
 mod named;
+mod passing;
 mod permissions;
+mod related;
 mod same_texts;
 mod sameness;
 mod scopes;
 mod spelled;
 mod stock;
+mod tallied;
 mod texts;
 mod votes;
 mod walks;

@@ -81,28 +81,50 @@ fn four_of(alloc: Global, pairs: &[(&str, u8)]) -> Result<Map<String, u8, 4>, Al
     Ok(amounts_of(alloc, pairs)?.unwrap_or_default())
 }
 
+// Adds a map of these, up to the first that doesn't fit.
+fn add_pairs(
+    alloc: Global,
+    amounts: &mut Map<String, u8, 4>,
+    pairs: &[(&str, u8)],
+) -> Result<bool, AllocError> {
+    add_all(amounts, &four_of(alloc, pairs)?)
+}
+
+// Whether a map has these names, with these amounts, and no others.
+fn has_amounts(
+    alloc: Global,
+    amounts: &Map<String, u8, 4>,
+    pairs: &[(&str, u8)],
+) -> Result<bool, AllocError> {
+    Ok(amounts.eq_with(&four_of(alloc, pairs)?))
+}
+
 #[tactic(auto)]
 mod tests {
     use super::*;
 
     #[test]
-    fn loops_over_names_build_other_maps(rt: HostRuntime) -> Result<(), AllocError> {
+    fn names_are_doubled(rt: HostRuntime) -> Result<(), AllocError> {
+        let amounts = four_of(rt.alloc(), &[("a", 1), ("b", 200)])?;
+        let doubled = doubled(&amounts)?;
+        assert!(rt; has_amounts(rt.alloc(), &doubled, &[("a", 2), ("b", 255)])?);
+        Ok(())
+    }
+
+    #[test]
+    fn names_over_a_limit_are_kept(rt: HostRuntime) -> Result<(), AllocError> {
         let amounts = four_of(rt.alloc(), &[("a", 1), ("b", 2), ("c", 200)])?;
-        assert!(rt;
-            doubled(&amounts)?.eq_with(&four_of(rt.alloc(), &[("a", 2), ("b", 4), ("c", 255)])?)
-        );
-        assert!(rt;
-            names_over(&amounts, 1)?.eq_with(&four_of(rt.alloc(), &[("b", 2), ("c", 200)])?)
-        );
+        let kept = names_over(&amounts, 1)?;
+        assert!(rt; has_amounts(rt.alloc(), &kept, &[("b", 2), ("c", 200)])?);
         Ok(())
     }
 
     #[test]
     fn names_are_added_up_to_the_room(rt: HostRuntime) -> Result<(), AllocError> {
         let mut amounts = four_of(rt.alloc(), &[("a", 1), ("b", 2)])?;
-        assert!(rt; add_all(&mut amounts, &four_of(rt.alloc(), &[("b", 3), ("c", 4)])?)?);
-        assert!(rt; amounts.eq_with(&four_of(rt.alloc(), &[("a", 1), ("b", 3), ("c", 4)])?));
-        assert!(rt; !add_all(&mut amounts, &four_of(rt.alloc(), &[("d", 5), ("e", 6)])?)?);
+        assert!(rt; add_pairs(rt.alloc(), &mut amounts, &[("b", 3), ("c", 4)])?);
+        assert!(rt; has_amounts(rt.alloc(), &amounts, &[("a", 1), ("b", 3), ("c", 4)])?);
+        assert!(rt; !add_pairs(rt.alloc(), &mut amounts, &[("d", 5), ("e", 6)])?);
         Ok(())
     }
 
@@ -111,7 +133,7 @@ mod tests {
         let mut amounts = four_of(rt.alloc(), &[("a", 1), ("b", 2), ("c", 200)])?;
         double_all(&mut amounts);
         keep_over(&mut amounts, 2);
-        assert!(rt; amounts.eq_with(&four_of(rt.alloc(), &[("b", 4), ("c", 255)])?));
+        assert!(rt; has_amounts(rt.alloc(), &amounts, &[("b", 4), ("c", 255)])?);
         keep_longer(&mut amounts, 1);
         assert!(rt; amounts.is_empty());
         Ok(())

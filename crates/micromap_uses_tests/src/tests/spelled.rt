@@ -1,5 +1,5 @@
 //! Sets of texts that a loop makes of other texts, known by their bytes.
-#![tactic(auto, using(micromap::proofs::SetTextLoops::set_text_loops, micromap::proofs::SetTextViews::item_texts_retained, micromap::proofs::ItemCounts::item_counts))]
+#![tactic(auto, using(micromap::proofs::SetTextLoops::set_text_loops))]
 
 ghost use Rattle.std.specs.Prelude.{◌≡◌, ◌↔◌, ◌<◌, ◌++◌, IfOk, IsNone, codes, filter, length, map, nat_eq, nat_lt};
 ghost use Rattle.std.specs.List.{starts_with};
@@ -8,7 +8,7 @@ ghost use Rattle.std.specs.Option.{IfSome};
 ghost use Rattle.std.specs.Set.{distinct_count, is_member};
 ghost use Rattle.std.specs.Str.{bytes_eq};
 ghost use Rattle.micromap.specs.Extend.{distinct};
-ghost use Rattle.micromap.specs.Operations.{difference, intersection, union};
+ghost use Rattle.micromap.specs.Operations.{difference, intersection, symmetric_difference, union};
 ghost use Rattle.micromap.specs.Texts.{item_texts, key_texts};
 
 use micromap::{Map, Set, Text};
@@ -58,13 +58,6 @@ fn beginning<const N: usize>(
         }
     }
     Ok(kept)
-}
-
-// Keeps the names with more bytes than the limit.
-fn keep_longer<const N: usize>(names: &mut Set<String, N>, limit: usize)
-    ensures { item_texts names.new ≡ filter (λ name. nat_lt limit (length name)) (item_texts names.old) }
-{
-    names.retain(|name| name.len() > limit);
 }
 
 // The names of a map.
@@ -124,8 +117,44 @@ fn common_names<const N: usize, const M: usize>(
     Ok(names)
 }
 
+// The names that are in one of the two sets alone, or `None` if there are more than `N`.
+fn single_names<const N: usize, const M: usize, const L: usize>(
+    one: &Set<String, M>,
+    other: &Set<String, L>,
+) -> Result<Option<Set<String, N>>, AllocError>
+    ensures names { IfOk result (λ answer. IfSome answer (λ new. item_texts new ≡ symmetric_difference bytes_eq (item_texts one.now) (item_texts other.now))) }
+    ensures refused { IfOk result (λ answer. IsNone answer ↔ (N < length (symmetric_difference bytes_eq (item_texts one.now) (item_texts other.now)))) }
+{
+    let mut names = Set::new();
+    for name in one.symmetric_difference(other) {
+        if !names.fits(name) {
+            return Ok(None);
+        }
+        names.insert(name.clone()?);
+    }
+    Ok(Some(names))
+}
+
+// Removes the names of another set.
+fn remove_names<const N: usize, const M: usize>(names: &mut Set<String, N>, other: &Set<String, M>)
+    ensures { item_texts names.new ≡ difference bytes_eq (item_texts names.old) (item_texts other.now) }
+{
+    for name in other {
+        names.remove(name);
+    }
+}
+
+// Removes the names of a list.
+fn remove_listed<const N: usize>(names: &mut Set<String, N>, list: &[&str])
+    ensures { item_texts names.new ≡ difference bytes_eq (item_texts names.old) (map (λ name. name.now) list.now) }
+{
+    for name in list {
+        names.remove_by(&Text(name));
+    }
+}
+
 // The set of these names, or `None` if there are more than `N`.
-#[tactic(auto, using(micromap::proofs::ItemCounts::item_counts, micromap::proofs::SetTextViews::set_text_views))]
+#[tactic(auto, using(micromap::proofs::ItemCounts::item_counts, micromap::proofs::SetTextViews::set_texts))]
 fn set_of<const N: usize>(
     alloc: Global,
     names: &[&str],

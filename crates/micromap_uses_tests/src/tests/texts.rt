@@ -1,14 +1,16 @@
 //! A caller for each call by probe at texts, in terms of their bytes. One line names the laws, and no proof is written.
-ghost use Rattle.std.specs.Prelude.{◌≡◌, IfOk, IsTrue, Some, drop, if◌then◌else◌, slice_get};
+ghost use Rattle.std.specs.Prelude.{◌≡◌, ◌<◌, ◌^◌, IfOk, IsTrue, None, Some, drop, filter, if◌then◌else◌, nat_eq, not, slice_get, sum};
+ghost use Rattle.std.specs.List.{starts_with};
+ghost use Rattle.std.specs.Map.{values_of};
 ghost use Rattle.std.specs.Fmt.{decimal};
-ghost use Rattle.std.specs.Option.{option_map};
+ghost use Rattle.std.specs.Option.{option_map, option_map_or};
 ghost use Rattle.std.specs.String.{string_bytes};
 ghost use Rattle.std.specs.Set.{is_member};
 ghost use Rattle.micromap.specs.Items.{find_item, take_item};
 ghost use Rattle.micromap.specs.Print.{map_text, set_text};
-ghost use Rattle.micromap.specs.Pairs.{at, has, pair, put, take_out};
+ghost use Rattle.micromap.specs.Pairs.{at, fits, has, pair, put, put_if_fits, take_out};
 ghost use Rattle.std.specs.Str.{bytes_eq};
-ghost use Rattle.micromap.specs.Texts.{item_texts, key_texts};
+ghost use Rattle.micromap.specs.Texts.{item_texts, key_texts, texts};
 
 use micromap::{Map, Set, Text};
 use std::alloc::{AllocError, Global};
@@ -99,6 +101,53 @@ fn remove_word<const N: usize>(words: &mut Set<String, N>, word: &str) -> bool
     ensures texts { item_texts words.new ≡ take_item bytes_eq (item_texts words.old) word.now }
 {
     words.remove_by(&Text(word))
+}
+
+// Moves the value of one name to another, which goes to its index or to the end.
+fn rename<const N: usize>(map: &mut Map<String, u8, N>, from: &str, to: String) -> bool
+    ensures answer { result ≡ has bytes_eq (key_texts map.old) from.now }
+    ensures texts { key_texts map.new ≡ option_map_or (λ v. put bytes_eq (take_out bytes_eq (key_texts map.old) from.now) (string_bytes to) v) (at bytes_eq (key_texts map.old) from.now) (key_texts map.old) }
+{
+    match map.remove_by(&Text(from)) {
+        Some(value) => {
+            map.insert(to, value);
+            true
+        }
+        None => false,
+    }
+}
+
+// Sets the text of a name. Returns the old one, or `None` if there was no room.
+fn exchange<const N: usize>(
+    alloc: Global,
+    map: &mut Map<String, String, N>,
+    name: &str,
+    value: String,
+) -> Result<Option<Option<String>>, AllocError>
+    ensures old { IfOk result (λ old. option_map (option_map string_bytes) old ≡ (if fits bytes_eq N (texts map.old) name.now then Some (at bytes_eq (texts map.old) name.now) else None)) }
+    ensures texts { IfOk result (λ _. texts map.new ≡ put_if_fits bytes_eq N (texts map.old) name.now (string_bytes value)) }
+{
+    let name = String::from_str(alloc, name)?;
+    Ok(map.checked_insert(name, value))
+}
+
+// Removes the words that begin with a text.
+fn drop_beginning<const N: usize>(words: &mut Set<String, N>, text: &str)
+    ensures { item_texts words.new ≡ filter (λ word. not (starts_with nat_eq word text.now)) (item_texts words.old) }
+{
+    words.retain(|word| !word.starts_with(text));
+}
+
+// The sum of all numbers.
+fn total<const N: usize>(numbers: &Map<String, u64, N>) -> u64
+    requires { sum (values_of (key_texts numbers.now)) < 2 ^ 64 }
+    ensures { result ≡ sum (values_of (key_texts numbers.now)) }
+{
+    let mut total = 0;
+    for number in numbers.values() {
+        total += *number;
+    }
+    total
 }
 
 fn take_first<const N: usize>(map: &mut Map<String, u8, N>) -> Option<(String, u8)>

@@ -1,7 +1,7 @@
 //! Loops over a map and over a set, with invariants that name what is still to come.
-ghost use Rattle.std.specs.Prelude.{◌≡◌, ◌<◌, ◌≤◌, Some, IsFalse, IsTrue, nat_eq, nat_lt};
+ghost use Rattle.std.specs.Prelude.{◌≡◌, ◌<◌, ◌≤◌, Some, IsFalse, IsTrue, count_by, nat_eq, nat_lt};
 ghost use Rattle.std.specs.List.{find};
-ghost use Rattle.std.specs.Map.{keys_of};
+ghost use Rattle.std.specs.Map.{keys_of, values_of};
 ghost use Rattle.std.specs.Option.{IfSome};
 ghost use Rattle.std.specs.Set.{is_member};
 ghost use Rattle.micromap.specs.Pairs.{at, has};
@@ -97,6 +97,19 @@ fn first_over<const N: usize>(map: &Map<u8, u8, N>, limit: u8) -> Option<u8>
     None
 }
 
+// How many values are over the limit.
+fn values_over<const N: usize>(map: &Map<u8, u8, N>, limit: u8) -> usize
+    ensures { result ≡ count_by (nat_lt limit) (values_of map.now) }
+{
+    let mut count = 0;
+    for value in map.values() {
+        if *value > limit {
+            count += 1;
+        }
+    }
+    count
+}
+
 // How many different bytes there are, or `None` where they are more than `N`. The map is a local of any capacity.
 fn count_different<const N: usize>(bytes: &[u8]) -> Option<usize>
     requires { N ≤ 1000 }
@@ -126,6 +139,7 @@ mod tests {
         assert_eq!(rt; key_other(&map, 1), Some(2));
         assert_eq!(rt; first_over(&map, 1), Some(2));
         assert_eq!(rt; first_over(&map, 3), None);
+        assert_eq!(rt; values_over(&map, 10), 2);
         let square = Square { row: 1, column: 2 };
         let board = Map::from([(square, 'k')]);
         assert_eq!(rt; square_of(&board, 'k'), Some(square));

@@ -1,4 +1,4 @@
-//! The texts of maps, sets, iterators and operations, and a caller's proof over a map's text.
+//! The texts of maps, sets, iterators and operations, and a caller that says the text of a map.
 ghost use Rattle.std.specs.Prelude.{◌≡◌, Some, IfOk};
 ghost use Rattle.std.specs.String.{string_bytes};
 ghost use Rattle.micromap.specs.Print.{map_text};
@@ -8,6 +8,7 @@ use micromap_testing::{debugs, displays};
 use std::alloc::{AllocError, Global};
 
 // The text of a map of texts.
+#[tactic(auto, using(micromap_core::proofs::TextLemmas::each_map_text))]
 fn text_of<const N: usize>(
     alloc: Global,
     map: &Map<String, String, N>,

@@ -1,5 +1,5 @@
 use Rattle.std.specs.Prelude.{◌≡◌, ◌+◌, ◌≤◌, ◌++◌, filter, length, nat_lt}
-use Rattle.micromap_uses_tests.proofs.tests.built.items_over.Given as goal
+use Rattle.micromap_uses_tests.proofs.tests.collected.items_over.Given as goal
 
 -- the items so far and those still to come that pass are all that pass, and there is room for all that are still to come
 abbrev pub invariant-loop-item : goal.invariant-loop-item

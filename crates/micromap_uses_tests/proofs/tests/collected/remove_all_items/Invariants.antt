@@ -1,6 +1,6 @@
 use Rattle.std.specs.Prelude.{◌≡◌, nat_eq}
 use Rattle.micromap.specs.Operations.{difference}
-use Rattle.micromap_uses_tests.proofs.tests.built.remove_all_items.Given as goal
+use Rattle.micromap_uses_tests.proofs.tests.collected.remove_all_items.Given as goal
 
 -- what is left of the set without the items still to come is what it has without all of them
 abbrev pub invariant-loop-item : goal.invariant-loop-item
