@@ -1,7 +1,7 @@
 //! Loops that merge values into a map, each proved by an invariant and rulesets.
 #![tactic(auto, using(micromap_core::proofs::MergeLaws::merge_laws, micromap_core::proofs::Equalities::equalities))]
 
-ghost use Rattle.std.specs.Prelude.{◌≡◌, ◌↔◌, ◌<◌, Some, [], filter, length, map, nat_eq, take, IfErr, IfOk, IsFalse, IsNone, OnOk};
+ghost use Rattle.std.specs.Prelude.{◌≡◌, ◌↔◌, ◌<◌, Some, [], filter, length, map, nat_eq, take, IfErr, IsFalse, IsNone, OnOk};
 ghost use Rattle.std.specs.Bool.{OnTrue};
 ghost use Rattle.std.specs.Iterator.{UpTo};
 ghost use Rattle.std.specs.List.{fold};
