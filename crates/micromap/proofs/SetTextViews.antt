@@ -11,12 +11,13 @@ use Rattle.std.proofs.lemmas.Result.{IfOk-weaker}
 use Rattle.std.proofs.lemmas.Slice.Eq.{bytes_eq-Decides}
 use Rattle.micromap_core.specs.Print.{set_text}
 use Rattle.micromap_core.specs.Probe.{is_text}
-use Rattle.micromap_core.specs.Same.{have_equal_items}
+use Rattle.micromap_core.specs.Same.{have_equal_items, HaveEqualItems}
 use Rattle.micromap_core.specs.Texts.{item_texts}
 use Rattle.micromap_core.proofs.ClosureLaws.{retained_items}
-use Rattle.micromap_core.proofs.Equalities.{equalities, of_probes, probes_text, same_test}
+use Rattle.micromap_core.proofs.Equalities.{equalities, lawful_bytes, of_lawful, of_probes, probes_text, same_test}
 use Rattle.micromap_core.proofs.TextLemmas.{set_text_known}
 use Rattle.micromap.proofs.ItemLemmas.{any-find}
+use Rattle.micromap.proofs.OperationLaws.{same_members}
 use Rattle.micromap.proofs.SetLaws.{length_put_item, put_item_back}
 use Rattle.micromap.specs.Items.{put_item, replace_item, find_item, take_item}
 use Rattle.micromap.specs.Operations.{difference, intersection, HaveEquals, IsDisjoint}
@@ -143,6 +144,16 @@ module _ {Z : Type 0} where
     pub each_text_item : HaveEquals bytes_eq (item_texts a) (item_texts b) → (x : String Z) → is_member string_eq a x ≡ is_member string_eq b x
     each_text_item = each_item_texts.1
 
+    -- the same by the answer of a comparison, which is tried only where two sets are compared
+    same_texts_members : HaveEqualItems bytes_eq (item_texts a) (item_texts b) ↔ HaveEquals bytes_eq (item_texts a) (item_texts b)
+    same_texts_members = same_members (of_lawful bytes_eq lawful_bytes) (item_texts a) (item_texts b)
+
+    pub equal_text : have_equal_items string_eq a b ≡ true → (bs : List ℕ) → is_member bytes_eq (item_texts a) bs ≡ is_member bytes_eq (item_texts b) bs
+    equal_text equal = same_texts_members.0 (same_item_texts ∙ equal)
+
+    pub equal_by_text : HaveEquals bytes_eq (item_texts a) (item_texts b) → have_equal_items string_eq a b ≡ true
+    equal_by_text each = sym same_item_texts ∙ same_texts_members.1 each
+
 -- the texts of one set that are in another, or aren't
 module _ {Z : Type 0} where
   all-texts : (test : List ℕ → Bool) (items : List (String Z)) → list_all test (item_texts items) ≡ list_all (λ x. test (string_bytes x)) items
@@ -211,10 +222,10 @@ items-texts lead (x ∷ items) = ap (λ rest. Some lead ++? Some (string_bytes x
 pub text_of_item_texts : {Z : Type 0} (items : List (String Z)) → (set_text (λ name. Some name) (item_texts items) ≡ set_text (λ x. Some (string_bytes x)) items) × (is_some (set_text (λ x. Some (string_bytes x)) items) ≡ true)
 text_of_item_texts items = (ap (λ text. Some (codes "{") ++? text ++? Some (codes "}")) (sym (items-texts [] items)), set_text_known (λ x. Some (string_bytes x)) (λ x. refl) items)
 
--- the views, without those of two sets that are the same, which make a search slow where none are compared
-pub ruleset set_texts = (item_texts_empty, item_texts_first, is_member_item_texts, unique_item_texts, item_texts_replace_item, item_texts_front, item_texts_drop, length_item_texts, item_texts_put_item, item_texts_take_item, item_texts_clone, item_texts_remove_key, find_item_item_texts, matched_item_texts, is_member_made, item_texts_retained, text_of_item_texts, put_item_back, length_put_item, equalities)
+-- `each_item_text` and `each_text_item` are tried at each two sets, so `caller` has `set_texts`
+pub ruleset set_texts = (item_texts_empty, item_texts_first, is_member_item_texts, unique_item_texts, item_texts_replace_item, item_texts_front, item_texts_drop, length_item_texts, item_texts_put_item, item_texts_take_item, item_texts_clone, item_texts_remove_key, find_item_item_texts, matched_item_texts, is_member_made, same_item_texts, equal_text, equal_by_text, item_texts_retained, text_of_item_texts, put_item_back, length_put_item, equalities)
 
-pub ruleset set_text_views = (set_texts, same_item_texts, each_item_text, each_text_item)
+pub ruleset set_text_views = (set_texts, each_item_text, each_text_item)
 
 -- after `is_subset`, `is_disjoint`, `sub` and `bitand`
 pub ruleset set_text_operations = (subset_texts, disjoint_text, text_disjoint, difference_clone, intersection_clone, equalities)

@@ -1,15 +1,16 @@
 -- For callers: what a closure that changes no capture leaves of a map, of a map with texts as keys, and of a list of items.
 -- The ruleset `closure_laws` has the laws in a form in which a search finds them from the clause of the call.
-use Rattle.std.proofs.Common.{◌≡◌, ℕ, Bool, Bor, MutBor, List, [], ◌∷◌, filter, length, map, String, string_bytes, refl, ap, ◌∙◌}
+use Rattle.std.proofs.Common.{◌≡◌, ℕ, Bool, Bor, MutBor, List, [], ◌∷◌, filter, length, map, String, string_bytes, refl, ap, sym, ◌∙◌}
 use Rattle.std.specs.Fn.{Mut}
 use Rattle.std.specs.List.{FoldsTo, enumerate_from, items_where_true}
 use Rattle.std.specs.List.Retain.{ReturnsInTurn}
 use Rattle.std.specs.Map.Calls.{RetainsPairs}
 use Rattle.std.proofs.lemmas.Fn.{filter_same}
+use Rattle.std.proofs.lemmas.List.{map-id}
 use Rattle.std.proofs.lemmas.Map.Made.{filter_same_pairs}
 use Rattle.micromap_core.specs.Closures.{CalledOnPair, CalledOnValue, UpdateAllTurn, UpdateDisjointTurn, updated_disjoint}
 use Rattle.micromap_core.specs.Texts.{key_texts, texts_by}
-use Rattle.micromap_core.proofs.ClosureLemmas.{seen, updated, updated_at_keys}
+use Rattle.micromap_core.proofs.ClosureLemmas.{seen, updated_at_keys}
 use Rattle.micromap_core.proofs.TextLoops.{texts_filter_by}
 
 -- `retain`
@@ -25,7 +26,11 @@ module _ {F X : Type 0} (R : F → X → Bool → F → Type 0) (f q : F) (bs : 
   pub retained_items : length bs ≡ length items → ReturnsInTurn R f bs items q → new ≡ items_where_true bs items → ((x : X) (b : Bool) (t : F) → R f x b t → (b ≡ test x) × (t ≡ f)) → new ≡ filter test items
   retained_items long told kept pure = filter_same R test f pure items new (bs, q, long, told, kept)
 
--- `update_all`, of pairs as texts show them
+-- `update_all`, of pairs as they are and as texts show them
+module _ {F K V R : Type 0} (g : Mut F (Bor K × (MutBor V × Unit {0})) (R × (MutBor V × Unit {0}))) (f last : F) (pairs new : List (K × V)) (h : K × V → K × V) where
+  pub updated : FoldsTo (UpdateAllTurn g) (f, []) pairs (last, new) → ((k : K) (v : V) (r : R) (w : V) (t : F) → CalledOnPair g f k v r w t → ((k, w) ≡ h (k, v)) × (t ≡ f)) → new ≡ map h pairs
+  updated turns pure = sym (map-id new) ∙ seen g f last pairs new (λ p. p) h turns pure
+
 module _ {F Z V R : Type 0} (g : Mut F (Bor (String Z) × (MutBor V × Unit {0})) (R × (MutBor V × Unit {0}))) (f last : F) (pairs new : List (String Z × V)) (h : List ℕ × V → List ℕ × V) where
   over_texts : (ps : List (String Z × V)) → map (λ (p : String Z × V). h (string_bytes p.0, p.1)) ps ≡ map h (key_texts ps)
   unfolding texts_by

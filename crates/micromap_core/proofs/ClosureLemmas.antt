@@ -181,14 +181,10 @@ module _ {F K V R A : Type 0} (g : Mut F (Bor K × (MutBor V × Unit {0})) (R ×
           let said = pure p.0 p.1 turn.0 turn.1 t.0 (subst (λ u. CalledOnPair g u p.0 p.1 turn.0 turn.1 t.0) before.0 turn.2) in
           (said.1, ap (map see) turn.3 ∙ map_push see s.1 (p.0, turn.1) ∙ (λ i. before.1 i ++ said.0 i ∷ []) ∙ sym (map_push (λ p. h (see p)) done p))
 
-module _ {F K V R : Type 0} (g : Mut F (Bor K × (MutBor V × Unit {0})) (R × (MutBor V × Unit {0}))) (f last : F) (pairs new : List (K × V)) (h : K × V → K × V) where
-  pub updated : FoldsTo (UpdateAllTurn g) (f, []) pairs (last, new) → ((k : K) (v : V) (r : R) (w : V) (t : F) → CalledOnPair g f k v r w t → ((k, w) ≡ h (k, v)) × (t ≡ f)) → new ≡ map h pairs
-  updated turns pure = sym (map-id new) ∙ seen g f last pairs new (λ p. p) h turns pure
-
 -- `update_all` by a function of key and value
 pub updated_by : {F K V R : Type 0} {g : Mut F (Bor K × (MutBor V × Unit {0})) (R × (MutBor V × Unit {0}))} {f : F} {pairs new : List (K × V)} (h : K → V → V) → UpdatesAll g f pairs new → ((k : K) (v : V) (r : R) (w : V) (t : F) → CalledOnPair g f k v r w t → (w ≡ h k v) × (t ≡ f)) → new ≡ map (λ p. (p.0, h p.0 p.1)) pairs
 updated_by {g = g} {f = f} {pairs = pairs} {new = new} h updates pure =
-    updated g f updates.last pairs new (λ p. (p.0, h p.0 p.1)) updates.turns (λ k v r w t said. let is = pure k v r w t said in ((λ i. (k, is.0 i)), is.1))
+    sym (map-id new) ∙ seen g f updates.last pairs new (λ p. p) (λ p. (p.0, h p.0 p.1)) updates.turns (λ k v r w t said. let is = pure k v r w t said in ((λ i. (k, is.0 i)), is.1))
 
 -- `update_disjoint` by a function of position and value
 pub updated_at_keys : {F K V R : Type 0} {eq : K → K → Bool} {g : Mut F (ℕ × (MutBor V × Unit {0})) (R × (MutBor V × Unit {0}))} {f : F} {pairs new : List (K × V)} {keys : List K} (h : ℕ → V → V) → UpdatesDisjoint eq g f pairs keys new → ((i : ℕ) (v : V) (r : R) (w : V) (t : F) → CalledOnValue g f i v r w t → (w ≡ h i v) × (t ≡ f)) → new ≡ updated_disjoint eq h pairs keys

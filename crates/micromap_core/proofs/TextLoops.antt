@@ -1,7 +1,7 @@
 -- For callers: loops over a map of texts, and a map of texts that a loop counts or builds, seen by their texts. The
 -- ruleset `text_loops` is all that a loop over a map of texts needs.
 use Rattle.std.proofs.Common.{◌≡◌, ℕ, Bool, List, [], ◌∷◌, ◌++◌, filter, map, String, refl, ap, sym, ◌∙◌, append-nil, arith, bytes_eq, string_bytes, string_eq}
-use Rattle.std.specs.Map.{keys_of}
+use Rattle.std.specs.Map.{keys_of, values_of}
 use Rattle.std.proofs.lemmas.Grind.{common_steps}
 use Rattle.std.proofs.lemmas.List.{length-append}
 use Rattle.std.proofs.lemmas.Map.Made.{IsDistinct-keys_filter}
@@ -11,7 +11,7 @@ use Rattle.micromap_core.specs.Texts.{item_texts, key_texts, texts_by}
 use Rattle.micromap_core.proofs.Equalities.{equalities, lawful_bytes}
 use Rattle.micromap_core.proofs.LoopLaws.{copied_next, length_le_put_all, unique_map}
 use Rattle.micromap_core.proofs.MapLaws.{length_put, not_fits}
-use Rattle.micromap_core.proofs.TextViews.{at_key_texts, has_texts, length_texts, texts_empty, texts_put, unique_texts, values_texts}
+use Rattle.micromap_core.proofs.TextViews.{at_key_texts, has_texts, length_texts, texts_empty, texts_put, unique_texts}
 
 module _ {Z V W : Type 0} (read : V → W) where
   -- the first pair, and the end
@@ -31,11 +31,16 @@ module _ {Z V : Type 0} where
   pub at_key : (pairs : List (String Z × V)) (k : String Z) → at string_eq pairs k ≡ at bytes_eq (key_texts pairs) (string_bytes k)
   at_key pairs k = sym (at_key_texts pairs (string_bytes k))
 
-  -- the keys
+  -- the keys, and the values
   pub keys_texts : (pairs : List (String Z × V)) → keys_of (key_texts pairs) ≡ item_texts (keys_of pairs)
   unfolding texts_by item_texts
   keys_texts [] = refl
   keys_texts (p ∷ pairs) = ap (λ l. string_bytes p.0 ∷ l) (keys_texts pairs)
+
+  pub values_texts : (pairs : List (String Z × V)) → values_of (key_texts pairs) ≡ values_of pairs
+  unfolding texts_by
+  values_texts [] = refl
+  values_texts (p ∷ pairs) = ap (λ l. p.1 ∷ l) (values_texts pairs)
 
   -- the pairs that pass a test of the text and the value, and of the value alone
   pub texts_filter_by : (test : List ℕ → V → Bool) (pairs : List (String Z × V)) → key_texts (filter (λ p. test (string_bytes p.0) p.1) pairs) ≡ filter (λ p. test p.0 p.1) (key_texts pairs)

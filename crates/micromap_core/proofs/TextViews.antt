@@ -2,7 +2,7 @@
 -- for any way `read` of seeing a value: `key_texts` sees values as they are, and `texts` sees them by their bytes.
 use Rattle.std.proofs.Common.{◌≡◌, ◌↔◌, ℕ, Bool, true, false, ◌&&◌, ◌||◌, IsTrue, List, [], ◌∷◌, ◌++◌, codes, drop, length, slice_get, String, Option, Some, is_some, refl, ap, sym, subst, ◌∙◌, string_bytes, arith, bytes_eq, string_eq}
 use Rattle.std.specs.List.{AllByRecursion, AllZip, IsDistinct, list_all, list_any}
-use Rattle.std.specs.Map.{keys_of, lookup, lookup_entry, remove_entry, set_value, values_of}
+use Rattle.std.specs.Map.{keys_of, lookup, lookup_entry, remove_entry, set_value}
 use Rattle.std.specs.Option.{option_eq, option_map}
 use Rattle.std.proofs.lemmas.List.{drop-map, length-map, map-append}
 use Rattle.std.proofs.lemmas.Slice.Eq.{bytes_eq-Decides}
@@ -123,11 +123,6 @@ texts_empty Z read = refl
 pub at_key_texts : {Z V : Type 0} (pairs : List (String Z × V)) (bs : List ℕ) → at bytes_eq (key_texts pairs) bs ≡ lookup (is_text bs) pairs
 at_key_texts pairs bs = grind (arith, at_texts (λ v. v) bs pairs)
 
-pub values_texts : {Z V : Type 0} (pairs : List (String Z × V)) → values_of (key_texts pairs) ≡ values_of pairs
-unfolding texts_by
-values_texts [] = refl
-values_texts (p ∷ pairs) = ap (λ l. p.1 ∷ l) (values_texts pairs)
-
 -- what two maps have at a text, where the values are compared as `read` sees them
 module _ {Z V W : Type 0} (read : V → W) (same : W → W → Bool) where
   module _ (a b : List (String Z × V)) where
@@ -203,4 +198,4 @@ text_of_texts pairs = (printed string_bytes (λ v. Some v) pairs, map_text_known
 pub text_of_key_texts : {Z V : Type 0} (value_text : V → Option (List ℕ)) (pairs : List (String Z × V)) → (map_text (λ name. Some name) value_text (key_texts pairs) ≡ map_text (λ k. Some (string_bytes k)) value_text pairs) × (((v : V) → is_some (value_text v) ≡ true) → is_some (map_text (λ k. Some (string_bytes k)) value_text pairs) ≡ true)
 text_of_key_texts value_text pairs = (printed (λ v. v) value_text pairs, λ known. map_text_known (λ k. Some (string_bytes k)) value_text (λ k. refl) known pairs)
 
-pub ruleset text_views = (texts_empty, at_key_texts, values_texts, at_texts, pair_texts, pair_matched, matched_texts, texts_put_matched, texts_take_out_matched, texts_put, texts_take_out, has_texts, at_made, unique_texts, texts_front, texts_drop, length_texts, same_texts, each_text, each_key, same_both_texts, each_both_text, each_both_key, text_of_texts, text_of_key_texts)
+pub ruleset text_views = (texts_empty, at_key_texts, at_texts, pair_texts, pair_matched, matched_texts, texts_put_matched, texts_take_out_matched, texts_put, texts_take_out, has_texts, at_made, unique_texts, texts_front, texts_drop, length_texts, same_texts, each_text, each_key, same_both_texts, each_both_text, each_both_key, text_of_texts, text_of_key_texts)

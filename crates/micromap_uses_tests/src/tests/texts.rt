@@ -1,5 +1,5 @@
 //! A caller for each call by probe at texts, in terms of their bytes. One line names the laws, and no proof is written.
-ghost use Rattle.std.specs.Prelude.{◌≡◌, ◌<◌, ◌^◌, IfOk, IsTrue, None, Some, drop, filter, if◌then◌else◌, nat_eq, not, slice_get, sum};
+ghost use Rattle.std.specs.Prelude.{◌≡◌, ◌↔◌, ◌<◌, ◌^◌, IfOk, IsTrue, None, Some, drop, filter, if◌then◌else◌, nat_eq, not, slice_get, sum};
 ghost use Rattle.std.specs.List.{starts_with};
 ghost use Rattle.std.specs.Map.{values_of};
 ghost use Rattle.std.specs.Fmt.{decimal};
@@ -7,6 +7,7 @@ ghost use Rattle.std.specs.Option.{option_map, option_map_or};
 ghost use Rattle.std.specs.String.{string_bytes};
 ghost use Rattle.std.specs.Set.{is_member};
 ghost use Rattle.micromap.specs.Items.{find_item, take_item};
+ghost use Rattle.micromap.specs.Operations.{HaveEquals};
 ghost use Rattle.micromap.specs.Print.{map_text, set_text};
 ghost use Rattle.micromap.specs.Pairs.{at, fits, has, pair, put, put_if_fits, take_out};
 ghost use Rattle.std.specs.Str.{bytes_eq};
@@ -136,6 +137,16 @@ fn drop_beginning<const N: usize>(words: &mut Set<String, N>, text: &str)
     ensures { item_texts words.new ≡ filter (λ word. not (starts_with nat_eq word text.now)) (item_texts words.old) }
 {
     words.retain(|word| !word.starts_with(text));
+}
+
+// Whether two sets have the same words.
+fn have_same_words<const N: usize, const M: usize>(
+    one: &Set<String, N>,
+    other: &Set<String, M>,
+) -> bool
+    ensures { IsTrue result ↔ HaveEquals bytes_eq (item_texts one.now) (item_texts other.now) }
+{
+    one.eq_with(other)
 }
 
 // The sum of all numbers.
