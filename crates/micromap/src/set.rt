@@ -56,7 +56,8 @@ impl<T: Eq, const N: usize> Set<T, N> {
     /// Creates an empty set.
     #[inline]
     pub fn new() -> Self
-        ensures { result ≡ [] }
+        ensures answer { result ≡ [] }
+        ensures content { IsItems T.eq N result }
     {
         Set { map: Map::new() }
     }
@@ -118,7 +119,7 @@ impl<T: Eq, const N: usize> Set<T, N> {
 }
 
 impl<T: Eq, const N: usize> Default for Set<T, N> {
-    ghost is_default = { λ s. s ≡ [] };
+    ghost is_default = { λ s. (s ≡ []) × IsItems T.eq N s };
 
     /// Creates an empty set.
     fn default() -> Self {

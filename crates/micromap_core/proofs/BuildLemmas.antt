@@ -13,7 +13,7 @@ use Rattle.std.proofs.iter.runs.Made.{run_of_turn}
 use Rattle.std.proofs.lemmas.Bool.{cases_Bool, ltb-false, lt-leb, le-leb, leb-true, leb-false, not-true}
 use Rattle.std.proofs.lemmas.List.{length_push, take_all, take_at, take_more, length-map, length-take}
 use Rattle.std.proofs.lemmas.List.Sums.{fold_push}
-use Rattle.micromap_core.specs.Build.{each_fits, PutsEach, PutsUpTo, pair_fits, put_pair}
+use Rattle.micromap_core.specs.Build.{all_fit, build, each_fits, PutsEach, PutsUpTo, pair_fits, put_pair}
 use Rattle.std.specs.Map.{keys_of}
 use Rattle.std.specs.Set.{distinct_count, is_member}
 use Rattle.std.proofs.lemmas.Bool.Decides.{leb_tells}
@@ -22,7 +22,8 @@ use Rattle.std.proofs.lemmas.Map.Entries.{length-keys_of}
 use Rattle.std.proofs.lemmas.Map.Keys.{IsDistinct-cons, IsDistinct-push}
 use Rattle.std.proofs.lemmas.Map.Steps.{list_any_congr}
 use Rattle.std.proofs.lemmas.Map.Made.{is_some-lookup, distinct_count-le, length-from_keys, length-le_from_is_member}
-use Rattle.micromap_core.specs.Pairs.{at, fits, has, has_room, IsUnique}
+use Rattle.micromap_core.specs.Pairs.{at, fits, has, has_room, IsContent, IsUnique}
+use Rattle.micromap_core.proofs.Equalities.{lawful}
 use Rattle.micromap_core.proofs.Lists.{is_some-if}
 use Rattle.micromap_core.proofs.MapLemmas.{keys_of-put_stored, keys_of-put_new}
 
@@ -144,6 +145,9 @@ module _ {C X K : Type 0} {eq : K → K → Bool} (laws : IsEquivalence eq) {N :
   pub few_distinct : (items : List X) → IsTrue (each_fits fits put empty items) → count items ≤ N
   few_distinct items fit = leb-true _ N (sym (all_fit-count items) ∙ fit)
 
+  pub bounded-built : (items : List X) → IsTrue (each_fits fits put empty items) → length (keys (fold put empty items)) ≤ N
+  bounded-built items fit = subst (λ n. n ≤ N) (sym (length-built items)) (few_distinct items fit)
+
   pub many_distinct : (items : List X) (x : X) → IsTrue (not (fits (fold put empty items) x)) → N < count (items ++ x ∷ [])
   many_distinct items x misfit =
       let many : each_fits fits put empty (items ++ x ∷ []) ≡ false = grind (arith, each_fits-push fits put empty items x, not-true _ misfit) in
@@ -181,6 +185,16 @@ pairs_keyed {K} {V} eq N = record {
   none = refl;
   counts = λ items. refl;
 }
+
+-- what is built of items that fit is what a map may hold
+pub IsContent-build : {K V : Type 0} (eq : K → K → Bool) (N : ℕ) → IsEquivalence eq → (items : List (K × V)) → IsTrue (all_fit eq N items) → IsContent eq N (build eq items)
+IsContent-build eq N laws items fit =
+    let keyed = pairs_keyed eq N in
+    record {
+      unique = (keys-built laws keyed items).0;
+      bounded = subst (λ n. n ≤ N) (length-keys_of (build eq items)) (bounded-built laws keyed items fit);
+      lawful = lawful eq laws;
+    }
 
 -- pairs of which none has an equal key are apart from that key
 row_apart : {K V : Type 0} (eq : K → K → Bool) (k : K) (pairs : List (K × V)) → list_any (λ q. eq k q.0) pairs ≡ false → AllByRecursion (λ y. eq k y ≡ false) (keys_of pairs)

@@ -8,14 +8,15 @@ use Rattle.std.specs.Option.{option_map, option_map_or, option_or}
 use Rattle.std.proofs.lemmas.Bool.{false≢true}
 use Rattle.std.proofs.lemmas.Bool.Decides.{nat_tests}
 use Rattle.std.proofs.lemmas.Grind.{common_steps}
-use Rattle.std.proofs.lemmas.List.{length-map, map_push, map-set, get_or-map, set-get_or, reverse-append}
+use Rattle.std.proofs.lemmas.List.{length-map, length-set, map_push, map-set, get_or-map, set-get_or, reverse-append}
 use Rattle.std.proofs.lemmas.List.Sorted.{IsPermutation-map, IsPermutation-remove}
 use Rattle.std.proofs.lemmas.Map.{keys-set_value}
 use Rattle.std.proofs.lemmas.Map.Keys.{IsDistinct-push, IsDistinct-tail, IsDistinct-IsPermutation}
 use Rattle.std.proofs.lemmas.Option.{get_or_from_slice_get, slice_get_within}
 use Rattle.micromap_core.specs.Equalities.{IsProbe}
 use Rattle.micromap_core.specs.Found.{FoundAt, NotFound}
-use Rattle.micromap_core.specs.Pairs.{first_index, without_at, has, put, put_key, IsUnique, with_value_at, pair}
+use Rattle.micromap_core.proofs.Equalities.{of_lawful}
+use Rattle.micromap_core.specs.Pairs.{first_index, without_at, has, put, put_key, IsContent, IsUnique, with_value_at, pair}
 
 module _ {K V : Type 0} (test : K → Bool) where
   -- the first index whose key passes, or the length
@@ -205,6 +206,22 @@ module _ {K V : Type 0} (eq : K → K → Bool) (laws : IsEquivalence eq) (pairs
   IsUnique-remove i p here =
       let moved = IsPermutation-map (λ (e : K × V). e.0) _ _ (IsPermutation-remove pairs i p (slice_get_within pairs i p here) (sym (get_or_from_slice_get pairs i p p here))) in
       IsDistinct-tail eq p.0 _ (IsDistinct-IsPermutation eq laws.symm _ _ moved unique)
+
+module _ {K V : Type 0} (pairs : List (K × V)) (i : ℕ) (v : V) where
+  length-with_value_at : length (with_value_at pairs i v) ≡ length pairs
+  length-with_value_at =
+      elim (slice_get pairs i) as (λ o. length (option_map_or (λ p. set pairs i (p.0, v)) o pairs) ≡ length pairs) [
+        | None ↦ refl
+        | Some p ↦ length-set pairs i (p.0, v)
+      ]
+
+  -- what a map may hold it may hold with another value at the index of a pair
+  pub IsContent-with_value_at : (eq : K → K → Bool) (N : ℕ) → IsContent eq N pairs → IsContent eq N (with_value_at pairs i v)
+  IsContent-with_value_at eq N content = record {
+    unique = IsUnique-with_value_at eq (of_lawful eq content.lawful) pairs content.unique i v;
+    bounded = subst (λ n. n ≤ N) (sym length-with_value_at) content.bounded;
+    lawful = content.lawful;
+  }
 
 module _ {K V : Type 0} (eq : K → K → Bool) (pairs : List (K × V)) (k : K) (v : V) where
   -- a put of a stored key keeps the keys, and of a new one adds it at the end

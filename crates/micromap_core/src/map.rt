@@ -47,7 +47,8 @@ impl<K: Eq, V, const N: usize> Map<K, V, N> {
     /// Creates an empty map.
     #[inline]
     pub fn new() -> Self
-        ensures { result ≡ [] }
+        ensures answer { result ≡ [] }
+        ensures content { IsContent K.eq N result }
     {
         Map {
             pairs: Columns::new(),
@@ -58,7 +59,8 @@ impl<K: Eq, V, const N: usize> Map<K, V, N> {
     #[inline]
     pub fn with_capacity(capacity: usize) -> Self
         requires { capacity ≡ N }
-        ensures { result ≡ [] }
+        ensures answer { result ≡ [] }
+        ensures content { IsContent K.eq N result }
     {
         let _same = capacity;
         Map::new()
@@ -107,7 +109,7 @@ impl<K: Eq + Drop, V: Drop, const N: usize> Map<K, V, N> {
 }
 
 impl<K: Eq, V, const N: usize> Default for Map<K, V, N> {
-    ghost is_default = { λ m. m ≡ [] };
+    ghost is_default = { λ m. (m ≡ []) × IsContent K.eq N m };
 
     /// Creates an empty map.
     fn default() -> Self {

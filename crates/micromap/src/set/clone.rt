@@ -28,7 +28,7 @@ impl<T: Eq + Clone + Drop, const N: usize> Set<T, N> {
 /// A set whose items are `Copy` has the trait too, so that a map of sets can be cloned. It never fails, and needs no
 /// precondition. `set.clone()` is the call above.
 impl<T: Eq + Copy, const N: usize> Clone for Set<T, N> {
-    ghost is_clone = { λ items new. new ≡ items };
+    ghost is_clone = { λ items new. (new ≡ items) × IsItems T.eq N new };
 
     ghost is_infallible = { λ _. ⊤ };
 

@@ -81,7 +81,7 @@ impl<T: Eq + Drop, const N: usize> Set<T, N> {
 }
 
 impl<T: Eq + Copy, const N: usize> From<[T; N]> for Set<T, N> {
-    ghost from_gives = { λ items set. (set ≡ distinct T.eq items) × IsTrue (all_items_fit T.eq N items) };
+    ghost from_gives = { λ items set. (set ≡ distinct T.eq items) × IsTrue (all_items_fit T.eq N items) × IsItems T.eq N set };
 
     /// Creates a set of the items of an array: each distinct item as it first came.
     ///

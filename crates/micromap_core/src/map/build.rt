@@ -34,7 +34,7 @@ impl fmt::Display for Overfull {
 impl Error for Overfull {}
 
 impl<K: Eq + Copy, V: Copy, const N: usize> From<[(K, V); N]> for Map<K, V, N> {
-    ghost from_gives = { λ items map. (map ≡ build K.eq items) × IsTrue (all_fit K.eq N items) };
+    ghost from_gives = { λ items map. (map ≡ build K.eq items) × IsTrue (all_fit K.eq N items) × IsContent K.eq N map };
 
     /// Creates a map of the items of an array: each distinct key as it first came, with the value of its last item.
     ///
@@ -77,6 +77,7 @@ fn are_distinct<K: Eq, V, const N: usize>(items: &[(K, V); N]) -> bool
 fn from_repeated<K: Eq + Copy, V: Copy, const N: usize>(items: [(K, V); N]) -> Map<K, V, N>
     ensures made { result ≡ build K.eq items }
     ensures fit { IsTrue (all_fit K.eq N items) }
+    ensures content { IsContent K.eq N result }
 {
     let mut map = Map::new();
     for index in 0..N {

@@ -41,7 +41,7 @@ impl<K: Eq + Clone + Drop, V: Clone + Drop, const N: usize> Map<K, V, N> {
 /// A map whose keys are `Copy` has the trait too, so that a map of maps can be cloned. Each key is copied, and needs no
 /// precondition. `map.clone()` is the call above.
 impl<K: Eq + Copy, V: Clone, const N: usize> Clone for Map<K, V, N> {
-    ghost is_clone = { λ pairs new. AllZip (IsPairClone (λ k q. q ≡ k) V.is_clone) pairs new };
+    ghost is_clone = { λ pairs new. AllZip (IsPairClone (λ k q. q ≡ k) V.is_clone) pairs new × IsContent K.eq N new };
 
     ghost is_infallible = { λ pairs. All (λ p. V.is_infallible p.1) pairs };
 

@@ -77,7 +77,9 @@ impl<K: Eq, V, const N: usize> Map<K, V, N> {
         requires { index < length self.old }
         ensures* writes_back { sem 𝓛 (lends_value_at K.row V.row N.row K.eq self.entry index result) }
         ensures value { option_map (λ p. p.1) (slice_get self.old index) ≡ Some result.now }
+        ensures content { (v : V) → IsContent K.eq N (with_value_at self.old index v) }
     {
+        let _content = self.len();
         self.pairs.value_at(index)
     }
 
@@ -101,6 +103,7 @@ impl<K: Eq, V, const N: usize> Map<K, V, N> {
         requires { index < length self.old }
         ensures old { option_map (λ p. p.1) (slice_get self.old index) ≡ Some result }
         ensures pairs { self.new ≡ with_value_at self.old index value }
+        ensures content { IsContent K.eq N self.new }
     {
         mem::replace(self.value_at(index), value)
     }
@@ -113,9 +116,7 @@ impl<K: Eq, V, const N: usize> Map<K, V, N> {
         ensures pairs { self.new ≡ put K.eq self.old key.now value }
         ensures content { IsContent K.eq N self.new }
     {
-        let old = self.replace_value_at(index, value);
-        let _content = self.len();
-        old
+        self.replace_value_at(index, value)
     }
 
     /// Replaces the key at `index` and its value, and returns the old pair.

@@ -56,10 +56,7 @@ impl<K, V, const N: usize> Columns<K, V, N> {
         ensures answer { result ≡ length self.now }
         ensures bounded { length self.now ≤ N }
     {
-        let keys = self.keys.len();
-        let values = self.values.len();
-        hint_equal(keys, values);
-        keys
+        self.keys.len()
     }
 
     /// Returns the slots of the keys.
@@ -91,7 +88,9 @@ impl<K, V, const N: usize> Columns<K, V, N> {
         ensures equal { length result.0.now ≡ length result.1.now }
         ensures pairs { zip (items_of result.0.now) (items_of result.1.now) ≡ self.now }
     {
-        hint_at_most(self.len(), N);
+        let len = self.len();
+        hint_at_most(len, N);
+        hint_equal(self.values.len(), len);
         (self.keys.as_slice(), self.values.as_slice())
     }
 
@@ -123,6 +122,7 @@ impl<K, V, const N: usize> Columns<K, V, N> {
         ensures* writes_back { sem 𝓛 (lends_value_in K.row V.row N.row self.entry index result) }
         ensures value { option_map (λ p. p.1) (slice_get self.old index) ≡ Some result.now }
     {
+        hint_below(index, self.values.len());
         self.values.item_at_mut(index)
     }
 
@@ -148,6 +148,7 @@ impl<K, V, const N: usize> Columns<K, V, N> {
         ensures old { slice_get self.old index ≡ Some result }
         ensures pairs { self.new ≡ slice_set self.old index (key, value) }
     {
+        hint_below(index, self.values.len());
         (
             mem::replace(self.keys.item_at_mut(index), key),
             mem::replace(self.values.item_at_mut(index), value),
@@ -212,6 +213,7 @@ impl<K: Drop, V: Drop, const N: usize> Columns<K, V, N> {
         requires { 0 < length self.old }
         ensures { self.new ≡ take (length self.old - 1) self.old }
     {
+        hint_equal(self.values.len(), self.len());
         self.keys.drop_last();
         self.values.drop_last();
     }

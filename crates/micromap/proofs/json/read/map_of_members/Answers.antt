@@ -8,7 +8,7 @@ use Rattle.micromap.proofs.JsonReading.{member_put, members_built, none_read, no
 use Rattle.micromap.proofs.json.read.map_of_members.Goals as goal
 
 pub loop-name-init : goal.loop-name-init
-loop-name-init g c = rw (c.into_iter-name-iterator.ensures.into_iter_gives.0, c.new-map.ensures, texts_empty) (none_read (put_pair bytes_eq) g.row.N (whole_members (members_view c.args.members.entries)))
+loop-name-init g c = rw (c.into_iter-name-iterator.ensures.into_iter_gives.0, c.new-map.ensures.answer, texts_empty) (none_read (put_pair bytes_eq) g.row.N (whole_members (members_view c.args.members.entries)))
 
 pub returns-in_default-clause-answer : goal.returns-in_default-clause-answer
 returns-in_default-clause-answer g c =

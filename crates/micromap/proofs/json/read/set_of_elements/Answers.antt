@@ -10,7 +10,7 @@ use Rattle.micromap.proofs.SetTextViews.{item_texts_empty, length_item_texts}
 use Rattle.micromap.proofs.json.read.set_of_elements.Goals as goal
 
 pub loop-element-init : goal.loop-element-init
-loop-element-init g c = rw (c.into_iter-element-iterator.ensures.into_iter_gives.0, c.new-set.ensures, item_texts_empty) (none_read (put_item bytes_eq) g.row.N (all_texts (items_view c.args.elements.items)))
+loop-element-init g c = rw (c.into_iter-element-iterator.ensures.into_iter_gives.0, c.new-set.ensures.answer, item_texts_empty) (none_read (put_item bytes_eq) g.row.N (all_texts (items_view c.args.elements.items)))
 
 pub returns-in_default-clause-fault : goal.returns-in_default-clause-fault
 returns-in_default-clause-fault g c =

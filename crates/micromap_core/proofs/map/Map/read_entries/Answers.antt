@@ -3,7 +3,7 @@ use Rattle.micromap_core.proofs.StreamLemmas.{read_fault, read_misfit, read_whol
 use Rattle.micromap_core.proofs.map.Map.read_entries.Goals as goal
 
 pub loop-key-init : goal.loop-key-init
-loop-key-init g c = rw c.new-map.ensures (reading_begins _ _ _ _ _ _)
+loop-key-init g c = rw c.new-map.ensures.answer (reading_begins _ _ _ _ _ _)
 
 pub loop-key-preserved : goal.loop-key-preserved
 loop-key-preserved g c =

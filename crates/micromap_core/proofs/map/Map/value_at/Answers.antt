@@ -1,6 +1,6 @@
 use Rattle.micromap_core.proofs.Sizes.{columns_fit}
 use Rattle.std.proofs.Common.{refl}
-use Rattle.micromap_core.proofs.MapLemmas.{IsUnique-with_value_at}
+use Rattle.micromap_core.proofs.MapLemmas.{IsContent-with_value_at, IsUnique-with_value_at}
 use Rattle.micromap_core.proofs.map.Map.value_at.Goals as goal
 
 pub invariant_of-self-lent : goal.invariant_of-self-lent
@@ -12,5 +12,5 @@ value_at-requires g c = (columns_fit g.row.K g.row.V g.row.N g.K.PartialEq.eq as
 pub returns : goal.returns
 returns g c = (
   (refl, λ w. rw (← c.self.view_is) refl),
-  record { writes_back = tt; value = rw (← c.self.view_is) c.value_at.ensures.value },
+  record { writes_back = tt; value = rw (← c.self.view_is) c.value_at.ensures.value; content = λ v. rw (← c.self.view_is) (IsContent-with_value_at c.self.inside.pairs c.args.index v g.K.PartialEq.eq g.row.N c.len-content.ensures.content) },
 )

@@ -1,6 +1,7 @@
-use Rattle.std.proofs.Common.{◌≡◌, true, [], get_or, ap, ◌∙◌, rules, take_all}
+use Rattle.std.proofs.Common.{◌≡◌, true, [], get_or, ap, subst, sym, ◌∙◌, rules, take_all}
 use Rattle.micromap_core.specs.Build.{build, pair_fits, put_pair}
-use Rattle.micromap_core.proofs.BuildLemmas.{put_at, pairs_keyed, array_fits, array_fits_at}
+use Rattle.micromap_core.specs.Pairs.{IsContent}
+use Rattle.micromap_core.proofs.BuildLemmas.{put_at, pairs_keyed, array_fits, array_fits_at, IsContent-build}
 use Rattle.micromap_core.proofs.map.build.from_repeated.Goals as goal
 
 pub insert-requires : goal.insert-requires
@@ -20,7 +21,9 @@ loop-index-preserved g c =
 pub returns : goal.returns
 returns g c =
     let eq = g.K.PartialEq.eq in
-    record { made = c.loop-index.invariant ∙ ap (build eq) (take_all c.loop-index.index c.args.items (search rules)); fit = array_fits g.met.K.Eq.laws (pairs_keyed eq g.row.N) c.args.items (search rules) }
+    let made = c.loop-index.invariant ∙ ap (build eq) (take_all c.loop-index.index c.args.items (search rules)) in
+    let fit = array_fits g.met.K.Eq.laws (pairs_keyed eq g.row.N) c.args.items (search rules) in
+    record { made = made; fit = fit; content = subst (IsContent eq g.row.N) (sym made) (IsContent-build eq g.row.N g.met.K.Eq.laws c.args.items fit) }
 
 pub loop-index-init : goal.loop-index-init
-loop-index-init g c = c.new-map.ensures
+loop-index-init g c = c.new-map.ensures.answer

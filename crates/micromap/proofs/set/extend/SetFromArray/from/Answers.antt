@@ -1,7 +1,8 @@
-use Rattle.std.proofs.Common.{◌≡◌, true, [], get_or, ap, ◌∙◌, rules, take_all}
-use Rattle.micromap_core.proofs.BuildLemmas.{put_at, array_fits, array_fits_at}
+use Rattle.std.proofs.Common.{◌≡◌, true, [], get_or, ap, subst, sym, ◌∙◌, rules, take_all}
+use Rattle.micromap_core.proofs.BuildLemmas.{put_at, array_fits, array_fits_at, bounded-built, keys-built}
+use Rattle.micromap_core.proofs.Equalities.{lawful}
 use Rattle.micromap.specs.Extend.{distinct}
-use Rattle.micromap.specs.Items.{put_item, item_fits}
+use Rattle.micromap.specs.Items.{put_item, item_fits, IsItems}
 use Rattle.micromap.proofs.ExtendLemmas.{items_keyed}
 use Rattle.micromap.proofs.set.extend.SetFromArray.from.Goals as goal
 
@@ -22,4 +23,8 @@ loop-index-preserved g c =
 pub returns : goal.returns
 returns g c =
     let eq = g.T.PartialEq.eq in
-    (c.loop-index.invariant ∙ ap (distinct eq) (take_all c.loop-index.index c.args.items (search rules)), array_fits g.met.T.Eq.laws (items_keyed eq g.row.N) c.args.items (search rules))
+    let laws = g.met.T.Eq.laws in
+    let keyed = items_keyed eq g.row.N in
+    let made = c.loop-index.invariant ∙ ap (distinct eq) (take_all c.loop-index.index c.args.items (search rules)) in
+    let fit = array_fits laws keyed c.args.items (search rules) in
+    (made, fit, subst (IsItems eq g.row.N) (sym made) (record { unique = (keys-built laws keyed c.args.items).0; bounded = bounded-built laws keyed c.args.items fit; lawful = lawful eq laws }))

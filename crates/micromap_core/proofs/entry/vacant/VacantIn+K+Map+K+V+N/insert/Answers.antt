@@ -1,6 +1,7 @@
-use Rattle.std.proofs.Common.{refl, sym, ◌∙◌}
+use Rattle.std.proofs.Common.{refl, sym, subst, ◌∙◌}
 use Rattle.std.proofs.lemmas.Option.{same_Some}
 use Rattle.micromap_core.specs.Entry.{entry_put}
+use Rattle.micromap_core.specs.Pairs.{IsContent}
 use Rattle.micromap_core.proofs.EntryLemmas.{vacant_written}
 use Rattle.micromap_core.proofs.entry.vacant.VacantIn+K+Map+K+V+N.insert.Goals as goal
 
@@ -11,4 +12,4 @@ returns g c =
     let self = c.args.self in
     let new = record self.map { now = c.push_pair.new.self } in
     let written = vacant_written g.K.PartialEq.eq c.args.value new self c.len-index.result c.len-index.ensures.answer refl c.push_pair.ensures.pairs in
-    ((refl, written.puts), record { writes_back = tt; answer = same_Some _ _ (sym c.value_at.ensures.value ∙ written.value) })
+    ((refl, written.puts), record { writes_back = tt; answer = same_Some _ _ (sym c.value_at.ensures.value ∙ written.value); content = λ w. subst (IsContent g.K.PartialEq.eq g.row.N) (written.puts w) (c.value_at.ensures.content w) })

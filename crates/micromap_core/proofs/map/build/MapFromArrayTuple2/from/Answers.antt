@@ -1,6 +1,7 @@
-use Rattle.std.proofs.Common.{◌≡◌, [], ◌∷◌, ◌++◌, ◌+◌, get_or, take, refl, ap, sym, ◌∙◌, rules}
+use Rattle.std.proofs.Common.{◌≡◌, [], ◌∷◌, ◌++◌, ◌+◌, get_or, take, refl, ap, subst, sym, ◌∙◌, rules}
 use Rattle.std.proofs.lemmas.List.{take_all, take_more}
-use Rattle.micromap_core.proofs.BuildLemmas.{array_fits, pairs_keyed}
+use Rattle.micromap_core.specs.Pairs.{IsContent}
+use Rattle.micromap_core.proofs.BuildLemmas.{array_fits, pairs_keyed, IsContent-build}
 use Rattle.micromap_core.proofs.Sizes.{columns_fit}
 use Rattle.micromap_core.proofs.StreamLemmas.{built_in_turn}
 use Rattle.micromap_core.proofs.map.build.MapFromArrayTuple2.from.Goals as goal
@@ -23,4 +24,6 @@ pub returns : goal.returns
 returns g c =
     let laws = g.met.K.Eq.laws in
     let pushed : c.loop-index.pairs ≡ c.args.items = c.loop-index.invariant ∙ take_all c.loop-index.index c.args.items (search rules) in
-    (pushed ∙ sym (built_in_turn laws [] c.args.items (c.if-not-are_distinct.ensures refl)), array_fits laws (pairs_keyed g.K.PartialEq.eq g.row.N) c.args.items (search rules))
+    let built = pushed ∙ sym (built_in_turn laws [] c.args.items (c.if-not-are_distinct.ensures refl)) in
+    let fit = array_fits laws (pairs_keyed g.K.PartialEq.eq g.row.N) c.args.items (search rules) in
+    (built, fit, subst (IsContent g.K.PartialEq.eq g.row.N) (sym built) (IsContent-build g.K.PartialEq.eq g.row.N laws c.args.items fit))

@@ -1,6 +1,8 @@
-use Rattle.std.proofs.Common.{refl, ◌∙◌, arith, take_all}
+use Rattle.std.proofs.Common.{◌≡◌, refl, subst, ◌∙◌, arith, take_all}
 use Rattle.std.proofs.lemmas.Result.{MatchResult-from_err}
-use Rattle.micromap_core.proofs.CloneLemmas.{all_at, clones_all, clones_more, length_clones, unique_clones}
+use Rattle.std.specs.List.{AllZip}
+use Rattle.micromap_core.specs.Clones.{IsPairClone}
+use Rattle.micromap_core.proofs.CloneLemmas.{all_at, clones_all, clones_more, length_clones, unique_clones, IsContent-clones}
 use Rattle.micromap_core.proofs.Sizes.{columns_fit}
 use Rattle.micromap_core.proofs.map.clone.MapClone.clone.Goals as goal
 use Rattle.micromap_core.proofs.map.clone.MapClone.clone.Goals.{then-index-len+in_ok-value, else-index-len}
@@ -30,7 +32,9 @@ loop-index-preserved g c =
     ]
 
 pub returns : goal.returns
-returns g c = record { cases = rw (← take_all c.loop-index.index c.args.self.now (omega (arith, c.len-len.ensures.answer, c.clone_turns-index-end.ensures.all, c.loop-index-test.false))) c.loop-index.invariant }
+returns g c =
+    let copies = subst (λ l. AllZip (IsPairClone (λ k q. q ≡ k) g.V.Clone.is_clone) l c.loop-index.copy) (take_all c.loop-index.index c.args.self.now (omega (arith, c.len-len.ensures.answer, c.clone_turns-index-end.ensures.all, c.loop-index-test.false))) c.loop-index.invariant in
+    record { cases = (copies, IsContent-clones g.K.PartialEq.eq g.met.K.Eq.laws (λ k q. q ≡ k) g.V.Clone.is_clone (λ k q same. rw same (g.met.K.Eq.laws.refl k)) g.row.N _ _ copies c.len-len.ensures.content) }
 
 pub returns-in_err-value : goal.returns-in_err-value
 returns-in_err-value g c = record {
