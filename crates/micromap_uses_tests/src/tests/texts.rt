@@ -1,4 +1,5 @@
-//! A caller for each call by probe at texts, in terms of their bytes. One line names the laws, and no proof is written.
+//! A caller for each call by probe at texts but `fits_by`, in terms of their bytes. One line names the laws, and no
+//! proof is written.
 ghost use Rattle.std.specs.Prelude.{◌≡◌, ◌↔◌, ◌<◌, ◌^◌, IfOk, IsTrue, None, Some, drop, filter, if◌then◌else◌, nat_eq, not, slice_get, sum};
 ghost use Rattle.std.specs.List.{starts_with};
 ghost use Rattle.std.specs.Map.{values_of};
