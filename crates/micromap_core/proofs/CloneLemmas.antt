@@ -1,5 +1,5 @@
 -- The clones of a map's first pairs have pairwise unequal keys.
-use Rattle.std.proofs.Common.{◌≡◌, ◌<◌, ◌≤◌, ◌+◌, ℕ, zero, suc, Bool, false, All, List, [], ◌∷◌, ◌++◌, length, IsTrue, sym, subst, ◌∙◌, arith, slice_get, Some, take, length-take-le, take_all, refl}
+use Rattle.std.proofs.Common.{◌≡◌, ◌<◌, ◌≤◌, ◌+◌, ℕ, zero, suc, Bool, false, All, List, [], ◌∷◌, ◌++◌, length, IsTrue, sym, subst, ◌∙◌, arith, slice_get, Some, take, length-take-le, take_all}
 use Rattle.std.specs.Cmp.{IsEquivalence}
 use Rattle.std.specs.List.{AllByRecursion, AllZip, IsDistinct}
 use Rattle.std.specs.Map.{keys_of}
