@@ -70,7 +70,7 @@ impl<K: Eq, V, const N: usize> Map<K, V, N> {
     ///
     /// The clause `content` states three facts of the map: no two keys are equal, there are at most `N` pairs, and the
     /// equality of keys is lawful (reflexive, symmetric and transitive). A call of a map that changes it states them of
-    /// the map before and after.
+    /// the map before and after, and a call of an entry that changes the map, after.
     #[inline]
     pub fn len(&self) -> usize
         ensures answer { result ≡ length self.now }
