@@ -5,19 +5,20 @@ use std::process::Abort;
 
 /// Performs the run of this name, or returns `None` if there is none.
 pub fn perform<A: Abort>(rt: &A, alloc: Global, name: &str) -> Option<Result<(), JsonFault>> {
-    match name {
-        "a_map_is_cloned" => Some(a_map_is_cloned(rt, alloc)),
-        "a_set_is_cloned" => Some(a_set_is_cloned(rt, alloc)),
-        "what_is_in_both_sets_is_cloned" => Some(what_is_in_both_sets_is_cloned(rt, alloc)),
-        "what_is_in_one_set_alone_is_cloned" => Some(what_is_in_one_set_alone_is_cloned(rt, alloc)),
-        "a_map_is_printed" => Some(a_map_is_printed(rt, alloc)),
-        "a_set_is_printed" => Some(a_set_is_printed(rt, alloc)),
-        "a_map_is_written_as_json" => Some(a_map_is_written_as_json(rt, alloc)),
-        "a_set_is_written_as_json" => Some(a_set_is_written_as_json(rt, alloc)),
-        "a_map_is_read_from_json" => Some(a_map_is_read_from_json(rt, alloc)),
-        "a_set_is_read_from_json" => Some(a_set_is_read_from_json(rt, alloc)),
-        _ => None,
-    }
+    let ended = match name {
+        "a_map_is_cloned" => a_map_is_cloned(rt, alloc),
+        "a_set_is_cloned" => a_set_is_cloned(rt, alloc),
+        "what_is_in_both_sets_is_cloned" => what_is_in_both_sets_is_cloned(rt, alloc),
+        "what_is_in_one_set_alone_is_cloned" => what_is_in_one_set_alone_is_cloned(rt, alloc),
+        "a_map_is_printed" => a_map_is_printed(rt, alloc),
+        "a_set_is_printed" => a_set_is_printed(rt, alloc),
+        "a_map_is_written_as_json" => a_map_is_written_as_json(rt, alloc),
+        "a_set_is_written_as_json" => a_set_is_written_as_json(rt, alloc),
+        "a_map_is_read_from_json" => a_map_is_read_from_json(rt, alloc),
+        "a_set_is_read_from_json" => a_set_is_read_from_json(rt, alloc),
+        _ => return None,
+    };
+    Some(ended)
 }
 
 // A map of three texts.
