@@ -1,21 +1,20 @@
-//! The runs. Each ends well, or by the refusal that its call names. Either way what was passed in is unchanged.
+//! The runs. Each ends well, or by the refusal that its call names. Either way what was passed in must be unchanged.
 use micromap::{JsonFault, Map, Set, Text, map_from_json, map_to_json, set_from_json, set_to_json};
 use std::alloc::{AllocError, Global};
-use std::process::Abort;
 
-/// Performs the run of this name, or returns `None` if there is none.
-pub fn perform<A: Abort>(rt: &A, alloc: Global, name: &str) -> Option<Result<(), JsonFault>> {
+/// Returns whether the run of this name found what it must, or `None` if there is no such run.
+pub fn perform(alloc: Global, name: &str) -> Option<Result<bool, JsonFault>> {
     let ended = match name {
-        "a_map_is_cloned" => a_map_is_cloned(rt, alloc),
-        "a_set_is_cloned" => a_set_is_cloned(rt, alloc),
-        "what_is_in_both_sets_is_cloned" => what_is_in_both_sets_is_cloned(rt, alloc),
-        "what_is_in_one_set_alone_is_cloned" => what_is_in_one_set_alone_is_cloned(rt, alloc),
-        "a_map_is_printed" => a_map_is_printed(rt, alloc),
-        "a_set_is_printed" => a_set_is_printed(rt, alloc),
-        "a_map_is_written_as_json" => a_map_is_written_as_json(rt, alloc),
-        "a_set_is_written_as_json" => a_set_is_written_as_json(rt, alloc),
-        "a_map_is_read_from_json" => a_map_is_read_from_json(rt, alloc),
-        "a_set_is_read_from_json" => a_set_is_read_from_json(rt, alloc),
+        "a_map_is_cloned" => a_map_is_cloned(alloc),
+        "a_set_is_cloned" => a_set_is_cloned(alloc),
+        "what_is_in_both_sets_is_cloned" => what_is_in_both_sets_is_cloned(alloc),
+        "what_is_in_one_set_alone_is_cloned" => what_is_in_one_set_alone_is_cloned(alloc),
+        "a_map_is_printed" => a_map_is_printed(alloc),
+        "a_set_is_printed" => a_set_is_printed(alloc),
+        "a_map_is_written_as_json" => a_map_is_written_as_json(alloc),
+        "a_set_is_written_as_json" => a_set_is_written_as_json(alloc),
+        "a_map_is_read_from_json" => a_map_is_read_from_json(alloc),
+        "a_set_is_read_from_json" => a_set_is_read_from_json(alloc),
         _ => return None,
     };
     Some(ended)
@@ -72,82 +71,70 @@ fn has_both<const N: usize>(map: &Map<String, i64, N>) -> bool {
     map.len() == 2 && map.get_by(&Text("a")) == Some(&1) && map.get_by(&Text("b")) == Some(&2)
 }
 
-fn a_map_is_cloned<A: Abort>(rt: &A, alloc: Global) -> Result<(), JsonFault> {
+fn a_map_is_cloned(alloc: Global) -> Result<bool, JsonFault> {
     let map = map_of_texts(alloc)?;
     let clone = map.clone();
-    assert!(rt; is_whole(&map));
-    assert!(rt; is_whole(&clone?));
-    Ok(())
+    Ok(is_whole(&map) && is_whole(&clone?))
 }
 
-fn a_set_is_cloned<A: Abort>(rt: &A, alloc: Global) -> Result<(), JsonFault> {
+fn a_set_is_cloned(alloc: Global) -> Result<bool, JsonFault> {
     let set = set_of_texts(alloc, ["a", "b", "c"])?;
     let clone = set.clone();
-    assert!(rt; lists(&set, &["a", "b", "c"]));
-    assert!(rt; lists(&clone?, &["a", "b", "c"]));
-    Ok(())
+    Ok(lists(&set, &["a", "b", "c"]) && lists(&clone?, &["a", "b", "c"]))
 }
 
-fn what_is_in_both_sets_is_cloned<A: Abort>(rt: &A, alloc: Global) -> Result<(), JsonFault> {
+fn what_is_in_both_sets_is_cloned(alloc: Global) -> Result<bool, JsonFault> {
     let first = set_of_texts(alloc, ["a", "b", "c"])?;
     let second = set_of_texts(alloc, ["c", "d", "b"])?;
     let both = first.bitand(&second);
-    assert!(rt; lists(&first, &["a", "b", "c"]));
-    assert!(rt; lists(&second, &["c", "d", "b"]));
-    assert!(rt; lists(&both?, &["b", "c"]));
-    Ok(())
+    Ok(
+        lists(&first, &["a", "b", "c"])
+            && lists(&second, &["c", "d", "b"])
+            && lists(&both?, &["b", "c"]),
+    )
 }
 
-fn what_is_in_one_set_alone_is_cloned<A: Abort>(rt: &A, alloc: Global) -> Result<(), JsonFault> {
+fn what_is_in_one_set_alone_is_cloned(alloc: Global) -> Result<bool, JsonFault> {
     let first = set_of_texts(alloc, ["a", "b", "c"])?;
     let second = set_of_texts(alloc, ["c", "d", "e"])?;
     let rest = first.sub(&second);
-    assert!(rt; lists(&first, &["a", "b", "c"]));
-    assert!(rt; lists(&second, &["c", "d", "e"]));
-    assert!(rt; lists(&rest?, &["a", "b"]));
-    Ok(())
+    Ok(
+        lists(&first, &["a", "b", "c"])
+            && lists(&second, &["c", "d", "e"])
+            && lists(&rest?, &["a", "b"]),
+    )
 }
 
-fn a_map_is_printed<A: Abort>(rt: &A, alloc: Global) -> Result<(), JsonFault> {
+fn a_map_is_printed(alloc: Global) -> Result<bool, JsonFault> {
     let map = map_of_texts(alloc)?;
     let text = map.to_string(alloc);
-    assert!(rt; is_whole(&map));
-    assert_eq!(rt; text?.as_str(), "{a: a, b: b, c: c}");
-    Ok(())
+    Ok(is_whole(&map) && text?.as_str() == "{a: a, b: b, c: c}")
 }
 
-fn a_set_is_printed<A: Abort>(rt: &A, alloc: Global) -> Result<(), JsonFault> {
+fn a_set_is_printed(alloc: Global) -> Result<bool, JsonFault> {
     let set = set_of_texts(alloc, ["b", "a", "c"])?;
     let text = set.to_string(alloc);
-    assert!(rt; lists(&set, &["b", "a", "c"]));
-    assert_eq!(rt; text?.as_str(), "{b, a, c}");
-    Ok(())
+    Ok(lists(&set, &["b", "a", "c"]) && text?.as_str() == "{b, a, c}")
 }
 
-fn a_map_is_written_as_json<A: Abort>(rt: &A, alloc: Global) -> Result<(), JsonFault> {
+fn a_map_is_written_as_json(alloc: Global) -> Result<bool, JsonFault> {
     let map = map_of_numbers(alloc)?;
     let text = map_to_json(alloc, &map);
-    assert!(rt; has_both(&map));
-    assert_eq!(rt; text?.as_str(), r#"{"a":1,"b":2}"#);
-    Ok(())
+    Ok(has_both(&map) && text?.as_str() == r#"{"a":1,"b":2}"#)
 }
 
-fn a_set_is_written_as_json<A: Abort>(rt: &A, alloc: Global) -> Result<(), JsonFault> {
+fn a_set_is_written_as_json(alloc: Global) -> Result<bool, JsonFault> {
     let set = set_of_texts(alloc, ["b", "a", "c"])?;
     let text = set_to_json(alloc, &set);
-    assert!(rt; lists(&set, &["b", "a", "c"]));
-    assert_eq!(rt; text?.as_str(), r#"["b","a","c"]"#);
-    Ok(())
+    Ok(lists(&set, &["b", "a", "c"]) && text?.as_str() == r#"["b","a","c"]"#)
 }
 
-fn a_map_is_read_from_json<A: Abort>(rt: &A, alloc: Global) -> Result<(), JsonFault> {
+fn a_map_is_read_from_json(alloc: Global) -> Result<bool, JsonFault> {
     let map = map_from_json::<2>(alloc, r#"{"a":1,"b":2}"#)?;
-    assert!(rt; has_both(&map));
-    Ok(())
+    Ok(has_both(&map))
 }
 
-fn a_set_is_read_from_json<A: Abort>(rt: &A, alloc: Global) -> Result<(), JsonFault> {
+fn a_set_is_read_from_json(alloc: Global) -> Result<bool, JsonFault> {
     let set = set_from_json::<2>(alloc, r#"["b","a","b"]"#)?;
-    assert!(rt; lists(&set, &["b", "a"]));
-    Ok(())
+    Ok(lists(&set, &["b", "a"]))
 }
