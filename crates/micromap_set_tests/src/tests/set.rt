@@ -235,6 +235,7 @@ fn each_walk_over_a_set_gives_every_item_and_stays_at_its_end(rt: HostRuntime) {
     assert!(rt; gives(drained, &[3, 1, 2]));
     assert!(rt; gives(set.iter(), &[]));
     assert!(rt; gives(set.into_iter(), &[]));
+    assert!(rt; gives(numbers::<3>(&[3, 1, 2]).into_iter(), &[3, 1, 2]));
     let mut none: Set<u8, 0> = Set::new();
     assert!(rt; gives(none.iter(), &[]));
     assert!(rt; gives(none.drain(), &[]));

@@ -135,4 +135,6 @@ fn test_is_superset(rt: HostRuntime) {
     assert!(rt; !set.is_superset(&sub));
     set.checked_insert(2);
     assert!(rt; set.is_superset(&sub));
+    assert!(rt; set.remove(&0));
+    assert!(rt; set.is_superset(&sub));
 }
