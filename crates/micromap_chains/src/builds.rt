@@ -1,0 +1,83 @@
+//! Maps and sets that are built by chains.
+#![tactic(auto, using(micromap::proofs::Rules::caller, micromap::proofs::ChainLaws::chain_laws))]
+
+ghost use Rattle.std.specs.Prelude.{◌≡◌, ◌↔◌, ◌<◌, ◌++◌, IfOk, IsErr, filter, length, map, nat_eq, nat_lt};
+ghost use Rattle.std.specs.Map.{keys_of};
+ghost use Rattle.micromap.specs.Build.{build};
+ghost use Rattle.micromap.specs.Extend.{distinct};
+ghost use Rattle.micromap.specs.Operations.{difference, union};
+
+use micromap::{Map, Overfull, Set};
+
+/// Returns the map of a list of pairs.
+pub fn map_of_list<const N: usize>(list: &[(u8, u8)]) -> Result<Map<u8, u8, N>, Overfull>
+    ensures { IfOk result (λ m. m ≡ build nat_eq list.now) }
+{
+    Ok(Map::try_from_iter(list.iter().copied())?)
+}
+
+/// Returns the map of a list of pairs by value.
+pub fn map_of_vec<const N: usize>(list: Vec<(u8, u8)>) -> Result<Map<u8, u8, N>, Overfull>
+    ensures { IfOk result (λ m. m ≡ build nat_eq list.items) }
+{
+    Ok(Map::try_from_iter(list.into_iter())?)
+}
+
+/// Returns the map of two lists of pairs.
+pub fn map_of_lists<const N: usize>(
+    a: &[(u8, u8)],
+    b: &[(u8, u8)],
+) -> Result<Map<u8, u8, N>, Overfull>
+    ensures { IfOk result (λ m. m ≡ build nat_eq (a.now ++ b.now)) }
+{
+    Ok(Map::try_from_iter(a.iter().chain(b.iter()).copied())?)
+}
+
+/// Returns the pairs whose values are above 9.
+pub fn map_above(pairs: Map<u8, u32, 8>) -> Result<Map<u8, u32, 8>, Overfull>
+    ensures { IfOk result (λ m. m ≡ filter (λ p. nat_lt 9 p.1) pairs) }
+{
+    Ok(Map::try_from_iter(pairs.into_iter().filter(|p| p.1 > 9))?)
+}
+
+/// Returns the set of a list.
+pub fn set_of_list<const N: usize>(list: &[u8]) -> Result<Set<u8, N>, Overfull>
+    ensures { IfOk result (λ s. s ≡ distinct nat_eq list.now) }
+{
+    Set::try_from_iter(list.iter().copied())
+}
+
+/// Returns the keys of a map as a set.
+pub fn set_of_keys<const N: usize>(pairs: &Map<u8, u32, N>) -> Result<Set<u8, N>, Overfull>
+    ensures { IfOk result (λ s. s ≡ keys_of pairs.now) }
+{
+    Set::try_from_iter(pairs.keys().copied())
+}
+
+/// Returns the items of a set that are above 9.
+pub fn set_above<const N: usize>(set: &Set<u8, N>) -> Result<Set<u8, N>, Overfull>
+    ensures { IfOk result (λ s. s ≡ filter (nat_lt 9) set.now) }
+{
+    Set::try_from_iter(set.iter().copied().filter(|x| *x > 9))
+}
+
+/// Returns the union of two sets.
+pub fn set_of_union<const N: usize, const M: usize, const L: usize>(
+    a: &Set<u8, N>,
+    b: &Set<u8, M>,
+) -> Result<Set<u8, L>, Overfull>
+    ensures { IfOk result (λ s. s ≡ union nat_eq a.now b.now) }
+{
+    Set::try_from_iter(a.union(b).copied())
+}
+
+/// Returns the difference of two sets, or an error exactly if it has more than `L` items.
+pub fn set_of_difference<const N: usize, const M: usize, const L: usize>(
+    a: &Set<u8, N>,
+    b: &Set<u8, M>,
+) -> Result<Set<u8, L>, Overfull>
+    ensures made { IfOk result (λ s. s ≡ difference nat_eq a.now b.now) }
+    ensures refused { IsErr result ↔ (L < length (difference nat_eq a.now b.now)) }
+{
+    Set::try_from_iter(a.difference(b).copied())
+}

@@ -1,0 +1,56 @@
+//! Maps and sets that are extended by chains.
+#![tactic(auto, using(micromap::proofs::Rules::caller))]
+
+ghost use Rattle.std.specs.Prelude.{◌≡◌, OnOk, filter, nat_eq, nat_lt};
+ghost use Rattle.std.specs.Map.{keys_of};
+ghost use Rattle.micromap.specs.Build.{put_all};
+ghost use Rattle.micromap.specs.Extend.{put_all_items};
+
+use micromap::{Map, Overfull, Set};
+
+/// Puts a list of pairs into a map.
+pub fn put_list<const N: usize>(
+    pairs: &mut Map<u8, u8, N>,
+    list: &[(u8, u8)],
+) -> Result<(), Overfull>
+    ensures { OnOk result (pairs.new ≡ put_all nat_eq pairs.old list.now) }
+{
+    pairs.try_extend(list.iter().copied())
+}
+
+/// Moves the pairs of a map into another.
+pub fn put_drained<const N: usize, const M: usize>(
+    pairs: &mut Map<u8, u8, N>,
+    other: &mut Map<u8, u8, M>,
+) -> Result<(), Overfull>
+    ensures { OnOk result (pairs.new ≡ put_all nat_eq pairs.old other.old) }
+{
+    pairs.try_extend(other.drain())
+}
+
+/// Puts the items of a set into another.
+pub fn put_items<const N: usize, const M: usize>(
+    set: &mut Set<u8, N>,
+    other: &Set<u8, M>,
+) -> Result<(), Overfull>
+    ensures { OnOk result (set.new ≡ put_all_items nat_eq set.old other.now) }
+{
+    set.try_extend(other.iter().copied())
+}
+
+/// Puts the keys of a map into a set.
+pub fn put_keys<const N: usize, const M: usize>(
+    set: &mut Set<u8, N>,
+    pairs: &Map<u8, u32, M>,
+) -> Result<(), Overfull>
+    ensures { OnOk result (set.new ≡ put_all_items nat_eq set.old (keys_of pairs.now)) }
+{
+    set.try_extend(pairs.keys().copied())
+}
+
+/// Puts the items of a list that are above 9 into a set.
+pub fn put_above<const N: usize>(set: &mut Set<u8, N>, list: &[u8]) -> Result<(), Overfull>
+    ensures { OnOk result (set.new ≡ put_all_items nat_eq set.old (filter (nat_lt 9) list.now)) }
+{
+    set.try_extend(list.iter().copied().filter(|x| *x > 9))
+}

@@ -1,0 +1,93 @@
+//! Maps and sets that are made by `fold`, where no call makes them. A fold moves the map in each turn.
+#![tactic(auto)]
+
+ghost use Rattle.std.specs.Prelude.{◌≡◌, ◌/◌, ◌+◌, [], Some, List, ℕ, filter, fold, nat_eq, nat_lt, not, unwrap_or};
+ghost use Rattle.std.specs.Ordering.{on};
+ghost use Rattle.std.specs.Str.{bytes_eq};
+ghost use Rattle.micromap.specs.Items.{put_item_if_fits, take_item};
+ghost use Rattle.micromap.specs.Pairs.{at, has, put_if_fits};
+
+use micromap::{Map, Set};
+
+/// Returns how often each vote came, halved as it grows, as far as they fit.
+pub fn tally(votes: &[u8]) -> Map<u8, u32, 16>
+    ensures { result ≡ fold
+        (λ (m : List (ℕ × ℕ)) (v : ℕ). put_if_fits nat_eq 16 m v (unwrap_or (at nat_eq m v) 0 / 2 + 1)) [] votes.now }
+{
+    votes.iter().fold(Map::new(), |mut m, v| {
+        let count = m.get(v).copied().unwrap_or(0);
+        m.checked_insert(*v, count / 2 + 1);
+        m
+    })
+}
+
+/// Returns the pairs whose keys another map lacks.
+pub fn lacking(pairs: &Map<u8, u8, 8>, other: &Map<u8, u8, 16>) -> Map<u8, u8, 8>
+    ensures { result ≡ fold (λ (m : List (ℕ × ℕ)) (p : ℕ × ℕ). put_if_fits nat_eq 8 m p.0 p.1) []
+        (filter (λ p. not (has nat_eq other.now p.0)) pairs.now) }
+{
+    pairs
+        .iter()
+        .filter(|(k, _)| !other.contains_key(*k))
+        .fold(Map::new(), |mut m, (k, v)| {
+            m.checked_insert(*k, *v);
+            m
+        })
+}
+
+/// Returns the halves of the values below 100, as far as they fit.
+pub fn halves(pairs: &Map<u8, u8, 8>) -> Map<u8, u8, 16>
+    ensures { result ≡ fold (λ (m : List (ℕ × ℕ)) (p : ℕ × ℕ). put_if_fits nat_eq 16 m p.0 (p.1 / 2)) []
+        (filter (λ p. nat_lt p.1 100) pairs.now) }
+{
+    pairs
+        .iter()
+        .filter(|(_, v)| **v < 100)
+        .fold(Map::new(), |mut m, (k, v)| {
+            m.checked_insert(*k, *v / 2);
+            m
+        })
+}
+
+/// Returns a map with the pairs of another put into it, as far as they fit.
+pub fn merged(mine: Map<u8, u8, 16>, other: &Map<u8, u8, 8>) -> Map<u8, u8, 16>
+    ensures { result ≡ fold (λ (m : List (ℕ × ℕ)) (p : ℕ × ℕ). put_if_fits nat_eq 16 m p.0 p.1) mine other.now }
+{
+    other.iter().fold(mine, |mut m, (k, v)| {
+        m.checked_insert(*k, *v);
+        m
+    })
+}
+
+/// Returns a set without the items of a list.
+pub fn left_over(set: Set<u8, 16>, list: &[u8]) -> Set<u8, 16>
+    ensures { result ≡ fold (λ (s : List ℕ) (v : ℕ). take_item nat_eq s v) set list.now }
+{
+    list.iter().fold(set, |mut s, v| {
+        s.remove(v);
+        s
+    })
+}
+
+/// Returns the items of several sets, as far as they fit.
+pub fn gathered(groups: &[Set<u8, 8>]) -> Set<u8, 16>
+    ensures { result ≡ fold (λ (s : List ℕ) (g : List ℕ).
+        fold (λ (s : List ℕ) (v : ℕ). put_item_if_fits nat_eq 16 s v) s g) [] groups.now }
+{
+    groups.iter().fold(Set::new(), |s: Set<u8, 16>, g| {
+        g.iter().fold(s, |mut s: Set<u8, 16>, v| {
+            s.checked_insert(*v);
+            s
+        })
+    })
+}
+
+/// Returns a map with each of the words, as far as they fit.
+pub fn named<'a>(words: &[&'a str]) -> Map<&'a str, u32, 16>
+    ensures { result ≡ fold (λ m v. put_if_fits (on (λ x. x.now) bytes_eq) 16 m v 1) [] words.now }
+{
+    words.iter().fold(Map::new(), |mut m, v| {
+        m.checked_insert(*v, 1);
+        m
+    })
+}

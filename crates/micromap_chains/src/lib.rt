@@ -1,0 +1,9 @@
+//! Chains of iterators over maps and sets in the place of loops, each proved with nothing but the line at the head of
+//! its file.
+#![tactic(auto)]
+
+pub mod builds;
+pub mod extends;
+pub mod folds;
+pub mod reads;
+pub mod texts;
