@@ -1,7 +1,7 @@
-//! Looking up a key.
+//! Looking up a key, and the pairs at both ends.
 #![tactic(auto, using(crate::proofs::Opened::opened_map))]
 
-ghost use Rattle.std.specs.Prelude.{◌≡◌, Some, IsTrue};
+ghost use Rattle.std.specs.Prelude.{◌≡◌, ◌-◌, length, Some, IsTrue, slice_get};
 ghost use Rattle.std.specs.Borrow.{sem};
 ghost use Rattle.std.specs.Map.Iter.{deref_pair};
 ghost use Rattle.std.specs.Option.{option_copied, option_copied_mut, option_map};
@@ -46,6 +46,28 @@ impl<K: Eq, V, const N: usize> Map<K, V, N> {
     {
         let index = self.index_of(key)?;
         Some(self.pair_at(index))
+    }
+
+    /// Returns references to the first key and its value, or `None` if the map is empty. Compares no key.
+    #[inline]
+    pub fn first(&self) -> Option<(&K, &V)>
+        ensures { option_map deref_pair result ≡ slice_get self.now 0 }
+    {
+        match self.len() {
+            0 => None,
+            _ => Some(self.pair_at(0)),
+        }
+    }
+
+    /// Returns references to the last key and its value, or `None` if the map is empty. Compares no key.
+    #[inline]
+    pub fn last(&self) -> Option<(&K, &V)>
+        ensures { option_map deref_pair result ≡ slice_get self.now (length self.now - 1) }
+    {
+        match self.len() {
+            0 => None,
+            len => Some(self.pair_at(len - 1)),
+        }
     }
 
     /// Returns `true` if a stored key equals `key`. Makes one scan.
