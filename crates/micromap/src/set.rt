@@ -1,7 +1,7 @@
 //! The set: a list of at most `N` items, stored as the keys of a map.
 #![tactic(auto, using(crate::proofs::Forwarded::forwarded))]
 
-ghost use Rattle.std.specs.Prelude.{◌≡◌, ◌==◌, [], length};
+ghost use Rattle.std.specs.Prelude.{◌≡◌, ◌==◌, ◌-◌, [], length, slice_get};
 ghost use Rattle.std.specs.Option.{option_copied, option_map};
 ghost use Rattle.std.specs.Set.{is_member};
 ghost use Rattle.micromap.specs.Items.{IsItems, find_item, item_fits};
@@ -115,6 +115,24 @@ impl<T: Eq, const N: usize> Set<T, N> {
     {
         let (stored, _) = self.map.get_key_value(item)?;
         Some(stored)
+    }
+
+    /// Returns a reference to the first item, or `None` if the set is empty. Compares no item.
+    #[inline]
+    pub fn first(&self) -> Option<&T>
+        ensures { option_copied result ≡ slice_get self.now 0 }
+    {
+        let (item, _) = self.map.first()?;
+        Some(item)
+    }
+
+    /// Returns a reference to the last item, or `None` if the set is empty. Compares no item.
+    #[inline]
+    pub fn last(&self) -> Option<&T>
+        ensures { option_copied result ≡ slice_get self.now (length self.now - 1) }
+    {
+        let (item, _) = self.map.last()?;
+        Some(item)
     }
 }
 

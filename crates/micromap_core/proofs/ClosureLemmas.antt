@@ -18,6 +18,8 @@ use Rattle.std.proofs.lemmas.Map.Made.{is_some-lookup}
 use Rattle.micromap_core.specs.Pairs.{at, has, put}
 use Rattle.micromap_core.proofs.MapLemmas.{keys_of-put_stored}
 use Rattle.std.specs.List.Retain.{IsFiltered}
+use Rattle.std.proofs.lemmas.Map.Entries.{length-keys_of}
+use Rattle.micromap_core.proofs.DistinctLemmas.{length-sublist}
 use Rattle.std.proofs.lemmas.List.Sums.{fold-append}
 
 module _ {F K V : Type 0} (g : Mut F (Bor K × (MutBor V × Unit {0})) (Bool × (MutBor V × Unit {0}))) (f : F) (pairs : List (K × V)) where
@@ -161,6 +163,10 @@ pub keys_in_order : {F K V : Type 0} (T : F → K → V → Bool → V → F →
 keys_in_order T f pairs kept retains =
     let is = retained_keys (λ s k b t. Unit {0}) (λ s. s) (λ s k v b w t called. tt {0}) f pairs kept retains in
     (is.0, is.4)
+
+pub shorter_retained : {F K V : Type 0} (T : F → K → V → Bool → V → F → Type 0) (f : F) (pairs kept : List (K × V)) → RetainsPairs T f pairs kept → length kept ≤ length pairs
+shorter_retained T f pairs kept retains =
+    rw (← length-keys_of kept, ← length-keys_of pairs) (length-sublist (keys_of kept) (keys_of pairs) (keys_in_order T f pairs kept retains))
 
 -- `update_all` leaves the keys as they were
 pub keys_updated : {F K V R : Type 0} {g : Mut F (Bor K × (MutBor V × Unit {0})) (R × (MutBor V × Unit {0}))} {f : F} {pairs new : List (K × V)} → UpdatesAll g f pairs new → keys_of new ≡ keys_of pairs

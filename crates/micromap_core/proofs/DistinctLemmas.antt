@@ -30,6 +30,16 @@ picked_distinct eq (false ∷ picks) (x ∷ xs) distinct = picked_distinct eq pi
 pub IsDistinct-sublist : {T : Type 0} (eq : T → T → Bool) (part whole : List T) → IsSublist part whole → IsDistinct eq whole → IsDistinct eq part
 IsDistinct-sublist eq part whole order distinct = subst (IsDistinct eq) (sym order.1) (picked_distinct eq order.0 whole distinct)
 
+-- a part has at most as many items
+picked_shorter : {T : Type 0} (picks : List Bool) (xs : List T) → length (items_where_true picks xs) ≤ length xs
+picked_shorter [] xs = omega arith
+picked_shorter (b ∷ picks) [] = omega arith
+picked_shorter (true ∷ picks) (x ∷ xs) = omega (arith, picked_shorter picks xs)
+picked_shorter (false ∷ picks) (x ∷ xs) = omega (arith, picked_shorter picks xs)
+
+pub length-sublist : {T : Type 0} (part whole : List T) → IsSublist part whole → length part ≤ length whole
+length-sublist part whole order = rw order.1 (picked_shorter order.0 whole)
+
 -- what passes a test is a part
 IsSublist-filter : {T : Type 0} (test : T → Bool) (xs : List T) → IsSublist (filter test xs) xs
 IsSublist-filter test [] = ([], refl)

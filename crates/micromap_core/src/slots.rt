@@ -105,6 +105,20 @@ impl<T, const N: usize> Slots<T, N> {
     }
 }
 
+impl<T: Copy, const N: usize> Slots<T, N> {
+    /// Returns the same items in slots of their own. Copies all of them at once.
+    #[inline]
+    pub(crate) fn copied(&self) -> Self
+        ensures { result ≡ self.now }
+    {
+        let mut slots = ArrayVec::new();
+        match slots.try_extend_from_slice(self.slots.as_slice()) {
+            Ok(()) => Slots { slots },
+            Err(_) => unreachable!(),
+        }
+    }
+}
+
 impl<T: Drop, const N: usize> Slots<T, N> {
     /// Removes and drops the last item.
     #[inline]

@@ -6,6 +6,7 @@ mod attributes;
 mod built;
 mod collected;
 mod combined;
+mod copies;
 mod counts;
 mod entered;
 mod folded;

@@ -1,4 +1,4 @@
-//! Cloning a set.
+//! Cloning and copying a set.
 ghost use Rattle.std.specs.Prelude.{◌≡◌, ⊤, All, IsOk, IfOk};
 ghost use Rattle.std.specs.List.{AllZip};
 ghost use Rattle.std.specs.Set.{ClonesAreEqual};
@@ -22,6 +22,20 @@ impl<T: Eq + Clone + Drop, const N: usize> Set<T, N> {
     {
         let map = self.map.clone()?;
         Ok(Set { map })
+    }
+}
+
+impl<T: Eq + Copy, const N: usize> Set<T, N> {
+    /// Returns a copy of this set: the same items, in the same order.
+    ///
+    /// Copies all items at once, and compares none.
+    pub fn copied(&self) -> Self
+        ensures answer { result ≡ self.now }
+        ensures content { IsItems T.eq N result }
+    {
+        Set {
+            map: self.map.copied(),
+        }
     }
 }
 

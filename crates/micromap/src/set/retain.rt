@@ -1,4 +1,5 @@
 //! Keeping the items that pass a test.
+ghost use Rattle.std.specs.Prelude.{◌≤◌, length};
 ghost use Rattle.std.specs.Fn.{CalledAt};
 ghost use Rattle.std.specs.List.Retain.{IsFiltered};
 ghost use Rattle.micromap_core.specs.Closures.{IsSublist};
@@ -15,6 +16,7 @@ impl<T: Eq + Drop, const N: usize> Set<T, N> {
         requires { MayRetainItems F.FnMut keep self.old }
         ensures items { IsFiltered (CalledAt F.FnMut) keep self.old self.new }
         ensures order { IsSublist self.new self.old }
+        ensures shorter { length self.new ≤ length self.old }
         ensures content { AreItems T.eq N self.old self.new }
     {
         self.map.retain(

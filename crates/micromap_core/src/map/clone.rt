@@ -1,4 +1,4 @@
-//! Cloning a map.
+//! Cloning and copying a map.
 ghost use Rattle.std.specs.Prelude.{◌≡◌, ◌≤◌, All, IsOk, IfOk};
 ghost use Rattle.std.specs.List.{AllZip};
 ghost use Rattle.std.specs.Set.{ClonesAreEqual};
@@ -35,6 +35,22 @@ impl<K: Eq + Clone + Drop, V: Clone + Drop, const N: usize> Map<K, V, N> {
         }
         let _content = map.len();
         Ok(map)
+    }
+}
+
+impl<K: Eq + Copy, V: Copy, const N: usize> Map<K, V, N> {
+    /// Returns a copy of this map: the same pairs, in the same order.
+    ///
+    /// Copies all keys at once, and then all values. Compares no key.
+    pub fn copied(&self) -> Self
+        ensures answer { result ≡ self.now }
+        ensures content { IsContent K.eq N result }
+    {
+        let copy = Map {
+            pairs: self.pairs.copied(),
+        };
+        let _content = copy.len();
+        copy
     }
 }
 

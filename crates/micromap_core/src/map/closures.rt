@@ -2,7 +2,7 @@
 //!
 //! A contract says what the closure was called on, in which order, and that each value is what its call left. It
 //! doesn't say what the closure's captures hold afterwards.
-ghost use Rattle.std.specs.Prelude.{◌≡◌, map};
+ghost use Rattle.std.specs.Prelude.{◌≡◌, ◌≤◌, length, map};
 ghost use Rattle.std.specs.Map.{keys_of};
 ghost use Rattle.std.specs.Map.Calls.{CallableOnEachPair, RetainsPairs};
 ghost use Rattle.std.specs.Set.{distinct_count};
@@ -20,6 +20,7 @@ impl<K: Eq + Drop, V: Drop, const N: usize> Map<K, V, N> {
         requires { CallableOnEachPair (CalledOnPair F.FnMut) (AcceptsPair F.FnMut) keep self.old }
         ensures pairs { RetainsPairs (CalledOnPair F.FnMut) keep self.old self.new }
         ensures order { IsSublist (keys_of self.new) (keys_of self.old) }
+        ensures shorter { length self.new ≤ length self.old }
         ensures content { AreContents K.eq N self.old self.new }
     {
         let _before = self.len();

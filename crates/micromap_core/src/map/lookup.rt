@@ -1,7 +1,7 @@
-//! Looking up a key.
+//! Looking up a key, and the pairs at both ends.
 #![tactic(auto, using(crate::proofs::Opened::opened_map))]
 
-ghost use Rattle.std.specs.Prelude.{◌≡◌, Some, IsTrue};
+ghost use Rattle.std.specs.Prelude.{◌≡◌, ◌-◌, length, Some, IsTrue, slice_get, unwrap_or};
 ghost use Rattle.std.specs.Borrow.{sem};
 ghost use Rattle.std.specs.Map.Iter.{deref_pair};
 ghost use Rattle.std.specs.Option.{option_copied, option_copied_mut, option_map};
@@ -48,6 +48,28 @@ impl<K: Eq, V, const N: usize> Map<K, V, N> {
         Some(self.pair_at(index))
     }
 
+    /// Returns references to the first key and its value, or `None` if the map is empty. Compares no key.
+    #[inline]
+    pub fn first(&self) -> Option<(&K, &V)>
+        ensures { option_map deref_pair result ≡ slice_get self.now 0 }
+    {
+        match self.len() {
+            0 => None,
+            _ => Some(self.pair_at(0)),
+        }
+    }
+
+    /// Returns references to the last key and its value, or `None` if the map is empty. Compares no key.
+    #[inline]
+    pub fn last(&self) -> Option<(&K, &V)>
+        ensures { option_map deref_pair result ≡ slice_get self.now (length self.now - 1) }
+    {
+        match self.len() {
+            0 => None,
+            len => Some(self.pair_at(len - 1)),
+        }
+    }
+
     /// Returns `true` if a stored key equals `key`. Makes one scan.
     #[inline]
     pub fn contains_key(&self, key: &K) -> bool
@@ -92,6 +114,16 @@ impl<K: Eq, V, const N: usize> Map<K, V, N> {
         ensures content { IsContent K.eq N self.old }
     {
         self.index_mut_by(key)
+    }
+}
+
+impl<K: Eq, V: Copy, const N: usize> Map<K, V, N> {
+    /// Returns a copy of the value of `key`, or `default` if the key is missing. Makes one scan.
+    #[inline]
+    pub fn get_or(&self, key: &K, default: V) -> V
+        ensures { result ≡ unwrap_or (at K.eq self.now key.now) default }
+    {
+        self.get(key).copied().unwrap_or(default)
     }
 }
 

@@ -167,6 +167,19 @@ impl<K, V, const N: usize> Columns<K, V, N> {
     }
 }
 
+impl<K: Copy, V: Copy, const N: usize> Columns<K, V, N> {
+    /// Returns the same pairs in columns of their own. Copies each column at once.
+    #[inline]
+    pub(crate) fn copied(&self) -> Self
+        ensures { result ≡ self.now }
+    {
+        Columns {
+            keys: self.keys.copied(),
+            values: self.values.copied(),
+        }
+    }
+}
+
 impl<K: Drop, V: Drop, const N: usize> Columns<K, V, N> {
     /// Returns the same pairs in `M` slots of each column. Moves each once.
     #[inline]

@@ -251,6 +251,29 @@ fn the_first_pair_is_taken_out(rt: HostRuntime) {
     assert!(rt; none.pop_first().is_none());
 }
 
+#[test]
+fn the_pairs_at_both_ends_are_read(rt: HostRuntime) {
+    let mut map: Map<u8, u8, 3> = Map::new();
+    assert_eq!(rt; (map.first(), map.last()), (None, None));
+    map.checked_insert(3, 30);
+    assert_eq!(rt; (map.first(), map.last()), (Some((&3, &30)), Some((&3, &30))));
+    map.checked_insert(1, 10);
+    map.checked_insert(2, 20);
+    map.checked_insert(3, 33);
+    assert_eq!(rt; (map.first(), map.last()), (Some((&3, &33)), Some((&2, &20))));
+    map.remove(&3);
+    assert_eq!(rt; (map.first(), map.last()), (Some((&1, &10)), Some((&2, &20))));
+}
+
+#[test]
+fn a_default_stands_for_a_missing_value(rt: HostRuntime) {
+    let mut map: Map<Marked, u8, 2> = Map::new();
+    assert_eq!(rt; map.get_or(&Marked::new(1, 'y'), 9), 9);
+    map.checked_insert(Marked::new(1, 'x'), 10);
+    assert_eq!(rt; map.get_or(&Marked::new(1, 'y'), 9), 10);
+    assert_eq!(rt; map.get_or(&Marked::new(2, 'x'), 9), 9);
+}
+
 // Inserts a pair by each call that requires room, if there is some.
 #[tactic(auto, using(micromap_core::proofs::MapLaws::map_laws))]
 fn put<const N: usize>(map: &mut Map<u8, u8, N>, key: u8, value: u8) -> bool {

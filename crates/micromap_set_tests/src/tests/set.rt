@@ -334,6 +334,17 @@ fn the_first_item_is_taken_out(rt: HostRuntime) {
 }
 
 #[test]
+fn the_items_at_both_ends_are_read(rt: HostRuntime) {
+    let mut set: Set<u8, 3> = Set::new();
+    assert_eq!(rt; (set.first(), set.last()), (None, None));
+    set.checked_insert(3);
+    assert_eq!(rt; (set.first(), set.last()), (Some(&3), Some(&3)));
+    set.checked_insert(1);
+    set.checked_insert(3);
+    assert_eq!(rt; (set.first(), set.last()), (Some(&3), Some(&1)));
+}
+
+#[test]
 fn a_walk_over_a_set_drops_what_it_owned(rt: HostRuntime) {
     for items in 0..5 {
         let counts = Counts::new();

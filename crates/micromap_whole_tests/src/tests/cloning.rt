@@ -1,4 +1,4 @@
-//! Clones of maps and sets, and two callers' proofs: numbers never lack memory, and texts stay what they are.
+//! Clones and copies of maps and sets, and two callers' proofs: numbers never lack memory, and texts stay what they are.
 ghost use Rattle.std.specs.Prelude.{◌≡◌, IfOk, Ok};
 ghost use Rattle.std.specs.List.{AllZip};
 ghost use Rattle.std.specs.String.{string_bytes};
@@ -44,6 +44,40 @@ fn a_clone_of_a_set_goes_its_own_way(rt: HostRuntime) -> Result<(), AllocError> 
     assert!(rt; holds(&set, &[2, 1, 3]));
     assert!(rt; holds(&other, &[2, 1]));
     Ok(())
+}
+
+#[test]
+fn a_copy_goes_its_own_way(rt: HostRuntime) {
+    let mut map: Map<u8, u64, 3> = Map::new();
+    map.checked_insert(2, 5);
+    map.checked_insert(1, 6);
+    let mut other = map.copied();
+    other.checked_insert(3, 7);
+    other.remove(&2);
+    assert!(rt; other.drain().eq([(1, 6), (3, 7)]));
+    assert!(rt; map.drain().eq([(2, 5), (1, 6)]));
+}
+
+#[test]
+fn a_copy_of_a_set_goes_its_own_way(rt: HostRuntime) {
+    let mut set: Set<u8, 3> = Set::from([2, 1, 2]);
+    let other = set.copied();
+    set.checked_insert(3);
+    assert!(rt; holds(&set, &[2, 1, 3]));
+    assert!(rt; holds(&other, &[2, 1]));
+}
+
+#[test]
+fn maps_of_any_capacity_are_copied(rt: HostRuntime) {
+    let none: Map<u8, u64, 0> = Map::new();
+    assert!(rt; none.copied().is_empty());
+    let mut full: Map<u8, u64, 16> = Map::new();
+    for number in 0..16 {
+        full.checked_insert(number, u64::from(number) + 100);
+    }
+    let copy = full.copied();
+    assert!(rt; copy.keys().copied().eq(0..16));
+    assert!(rt; copy.values().copied().eq(100..116));
 }
 
 #[test]
