@@ -15,13 +15,16 @@ returns-in-Occupied g c =
     let written = occupied_written g.K.PartialEq.eq v (with_entry_value o v).map o here.0 here.1 refl refl in
     let did : MayWrite g.F.FnOnce c.args.f c.get_mut.result.now v
     = record { lent = c.get_mut.result; result = c.f.result; left = _; before = refl; met = c.f.ensures; after = refl } in
-    rw c.in-Occupied.is (record { modified = record {
-      same_map = written.same_map;
-      pairs = rw written.value written.pairs;
-      occupied = refl;
-      key = written.key;
-      value = rw (c.get_mut.ensures.answer, written.value) did;
-      puts = written.puts;
-      taken = written.taken;
-      sound = written.sound;
-    }; content = λ _. c.get_mut.ensures.content v })
+    rw c.in-Occupied.is (record {
+      modified = record {
+        same_map = written.same_map;
+        pairs = rw written.value written.pairs;
+        occupied = refl;
+        key = written.key;
+        value = rw (c.get_mut.ensures.answer, written.value) did;
+        puts = written.puts;
+        taken = written.taken;
+        sound = written.sound;
+      };
+      content = λ _. c.get_mut.ensures.content v;
+    })
