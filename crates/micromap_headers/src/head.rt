@@ -1,6 +1,6 @@
 //! The head of a request, as `httparse` reads it, with its headers by their names.
 ghost use Rattle.std.specs.Prelude.{◌≡◌, take, IfErr, IfOk};
-ghost use Rattle.micromap_headers.specs.Heads.{Explains, HasHead};
+ghost use Rattle.micromap_headers.specs.Heads.{Explains, HasHead, IsUnfinished};
 ghost use Rattle.micromap_headers.specs.declared.head.HeadFault.TheVariants.{Headers};
 
 use httparse::{EMPTY_HEADER, Request, Status};
@@ -75,14 +75,21 @@ impl<'a> Head<'a> {
                 method: request.method.unwrap(),
                 target: request.path.unwrap(),
             }),
-            Ok(Status::Partial) => {
-                if text.len() > MOST_BYTES {
-                    return Err(HeadFault::TooLong);
-                }
-                Err(HeadFault::Incomplete)
-            }
+            Ok(Status::Partial) => Err(unfinished(text)),
             Err(error) => Err(HeadFault::Malformed(error)),
         }
+    }
+}
+
+// Returns why a text that can become a head is none yet.
+fn unfinished(text: &[u8]) -> HeadFault
+    requires { IsUnfinished text.now }
+    ensures { Explains text.now result }
+{
+    if text.len() > MOST_BYTES {
+        HeadFault::TooLong
+    } else {
+        HeadFault::Incomplete
     }
 }
 

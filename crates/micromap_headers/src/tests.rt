@@ -58,6 +58,55 @@ fn each_fault_has_its_message(rt: HostRuntime) -> Result<()> {
 }
 
 #[test]
+fn an_empty_value_is_a_value(rt: HostRuntime) -> Result<()> {
+    assert_eq!(rt;
+        written(rt.alloc(), b"GET / HTTP/1.1\nHost:\nA: \n\n")?.as_slice(),
+        b"GET /\nhost: \na: \n".as_slice()
+    );
+    Ok(())
+}
+
+#[test]
+fn a_malformed_head_has_its_kind(rt: HostRuntime) {
+    let alloc = rt.alloc();
+    for (text, message) in [
+        (
+            "G\x01T / HTTP/1.1\n\n",
+            "the head can't be read: invalid token",
+        ),
+        (
+            "GET /\x01 HTTP/1.1\n\n",
+            "the head can't be read: invalid token",
+        ),
+        (
+            "GET / HTTP/2.0\n\n",
+            "the head can't be read: invalid HTTP version",
+        ),
+        (
+            "GET / HTTP/1.1\r\r\n",
+            "the head can't be read: invalid new line",
+        ),
+        (
+            "GET / HTTP/1.1\nHost: \x01\n\n",
+            "the head can't be read: invalid header value",
+        ),
+    ] {
+        let refused = written(alloc, text.as_bytes());
+        assert!(rt; refused.is_err_and(|fault| displays(alloc, &fault, message)));
+    }
+}
+
+#[test]
+fn a_full_output_ends_the_program(rt: HostRuntime) {
+    let text = b"GET / HTTP/1.1\nHost: x\n\n".as_slice();
+    let mut room = [0; 8];
+    let ended = run(rt.alloc(), &[], text, &mut room.as_mut_slice());
+    assert!(rt;
+        ended.is_err_and(|fault| displays(rt.alloc(), &fault, "failed to write whole buffer"))
+    );
+}
+
+#[test]
 fn a_head_has_its_limits(rt: HostRuntime) -> Result<()> {
     let alloc = rt.alloc();
     assert!(rt; refuses(alloc, &fields(alloc, 32)?, "there is no host")?);
