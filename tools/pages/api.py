@@ -10,8 +10,8 @@ GUIDES = ["crates/micromap/CALLING.md", "crates/micromap/PROVING.md"]  # the doc
 # The groups: those of a map and of a set, by the names of calls and traits, and the others, by calls and types.
 OF_EACH = {
     "make": "new with_capacity Default",
-    "look up": "get get_key_value get_mut contains_key contains fits index index_mut Index IndexMut len is_empty "
-    "capacity",
+    "look up": "get get_or get_key_value get_mut contains_key contains fits index index_mut Index IndexMut first last "
+    "len is_empty capacity",
     "look up by probe": "get_by get_key_value_by get_mut_by contains_key_by contains_by fits_by index_by index_mut_by "
     "remove_by remove_entry_by take_by",
     "insert": "checked_insert insert replace insert_key_value insert_unchecked try_extend",
@@ -19,7 +19,7 @@ OF_EACH = {
     "update": "update_all update_disjoint",
     "iterate": "iter keys values into_keys into_values drain IntoIterator",
     "compare": "eq_with differs_at is_subset is_superset is_disjoint PartialEq",
-    "build and convert": "try_from_iter From into_capacity clone Clone Display",
+    "build and convert": "try_from_iter From into_capacity copied clone Clone Display",
     "operations": "difference intersection union symmetric_difference difference_ref bitand sub",
 }
 OTHERS = {
