@@ -256,13 +256,22 @@ fn the_pairs_at_both_ends_are_read(rt: HostRuntime) {
     let mut map: Map<u8, u8, 3> = Map::new();
     assert_eq!(rt; (map.first(), map.last()), (None, None));
     map.checked_insert(3, 30);
-    assert_eq!(rt; (map.first(), map.last()), (Some((&3, &30)), Some((&3, &30))));
+    assert_eq!(rt;
+        (map.first(), map.last()),
+        (Some((&3, &30)), Some((&3, &30)))
+    );
     map.checked_insert(1, 10);
     map.checked_insert(2, 20);
     map.checked_insert(3, 33);
-    assert_eq!(rt; (map.first(), map.last()), (Some((&3, &33)), Some((&2, &20))));
+    assert_eq!(rt;
+        (map.first(), map.last()),
+        (Some((&3, &33)), Some((&2, &20)))
+    );
     map.remove(&3);
-    assert_eq!(rt; (map.first(), map.last()), (Some((&1, &10)), Some((&2, &20))));
+    assert_eq!(rt;
+        (map.first(), map.last()),
+        (Some((&1, &10)), Some((&2, &20)))
+    );
 }
 
 #[test]
