@@ -44,7 +44,8 @@ def wrong_of_reading(page):
         lines = {path: read(path).count("\n") if os.path.exists(path) else 0 for path, _ in rows}
         wrong += [f"{TRUST}: {it} has {lines[it]} lines, and not {said}" for it, said in rows if lines[it] != int(said)]
         said, has = (int(count), int(total.replace(",", ""))), (len(rows), sum(lines.values()))
-        wrong += [] if said == has else ["{}: a table has {} files with {} lines, and not {} with {}".format(TRUST, *has, *said)]
+        amiss = "{}: a table has {} files with {} lines, and not {} with {}".format(TRUST, *has, *said)
+        wrong += [] if said == has else [amiss]
         named += lines
     all_files = [it for it in sources() if "/specs/" in it and not it.endswith("/Lib.antt")]
     wrong += [f"{TRUST}: {it} has no row in a table of files to read" for it in all_files if it not in named]
