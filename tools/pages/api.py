@@ -2,6 +2,8 @@
 import collections
 import re
 
+from pages.calls import Calls
+from pages.examples import HOME, example
 from pages.sources import TYPES, Paths, anchor, link, parts
 from pages.vocabulary import Vocabulary
 
@@ -33,9 +35,9 @@ OTHERS = {
     "Drain of a set",
     "Iterators of set operations": "Difference, Intersection, Union, SymmetricDifference, DifferenceRef",
 }
-HEAD = """# The calls of `micromap`
+HEAD = f"""# The calls of `micromap`
 
-Made by `tools/documents` from the sources. Each call has its documentation, its signature and its contract: \
+Made from the sources. Each call has its documentation, its signature and its contract: \
 what it requires and what it ensures. `K`, `V`, `T` and `N` are the parameters of `Map<K, V, N>` and `Set<T, N>`; \
 the bounds `K: Eq` and `T: Eq` are left out.
 
@@ -44,6 +46,8 @@ what `&mut self` points to at the call and at the return. `self`, also written `
 takes, as it was passed, and `self.exit` is what is left of it. Of `&mut self`, `self.entry` is the reference itself. \
 Other parameters are named in the same way, as `key.now`. `K.eq` is `==` of the keys. The [words](#words) of this library and those of the [standard \
 library](#words-of-the-standard-library) are explained at the end.
+
+Examples are proved. Their files are in {HOME}, and their imports are left out here.
 """
 LENT = """## Written through a reference
 
@@ -157,21 +161,24 @@ class Api:
             yield f"Implements {', '.join(f'`{it}`' for it in dict.fromkeys(self.traits[name]))}."
 
     def text(self):
-        out, body = [HEAD], []
-        for title, names in self.groups.items():
-            listed = ", ".join(f"[`{it.removeprefix(title.partition(':')[0] + '::')}`](#{anchor(it)})" for it in names)
-            out.append(f"- [{title}](#{anchor(title)}): {listed}")
-            paths = dict.fromkeys(it.path for name in names for _, _, it in self.entries[name])
-            body += ["", f"## {title}", "", "Source: " + ", ".join(link(it, API) for it in paths)]
-            for name in names:
-                docs, codes, _ = zip(*self.entries[name])
-                said = [it for it in (*docs, " ".join(self.facts(name))) if it]
-                code = "\n\n".join("\n".join(it) for it in codes if it)
-                body += ["", f"### `{name}`", "", "\n\n".join(said), "", "```rust", code, "```"]
         ends = [*self.lent_table(), "", *Vocabulary([*self.texts()], self.wrong).tables()]
-        titles = re.findall(r"^## (.*)", "\n".join(ends), re.M)
-        out += [f"- [{it}](#{anchor(it)})" for it in titles]
-        return "\n".join([*out, *body, "", *ends]) + "\n"
+        titles = ["Every call", *self.groups, *re.findall(r"^## (.*)", "\n".join(ends), re.M)]
+        links = ", ".join(f"[{it}](#{anchor(it)})" for it in titles)
+        out = [HEAD, f"Sections: {links}.", "", *Calls(self).lines()]
+        for title, names in self.groups.items():
+            paths = dict.fromkeys(it.path for name in names for _, _, it in self.entries[name])
+            out += ["", f"## {title}", "", "Source: " + ", ".join(link(it, API) for it in paths)]
+            out += example(title, [doc for name in names for doc, _, _ in self.entries[name]], self.wrong)
+            for name in names:
+                out += self.section(name)
+        return "\n".join([*out, "", *ends]) + "\n"
+
+    def section(self, name):
+        """What is said of a call or a type, and its code."""
+        docs, codes, _ = zip(*self.entries[name])
+        said = [it for it in (*docs, " ".join(self.facts(name))) if it]
+        code = "\n\n".join("\n".join(it) for it in codes if it)
+        return ["", f"### `{name}`", "", "\n\n".join(said), "", "```rust", code, "```"]
 
     def lent_table(self):
         """The clauses `writes_back`."""
@@ -180,6 +187,7 @@ class Api:
         for call, text in sorted(self.lent, key=lambda it: order.get(self.heading(it[0]), -1)):
             if self.heading(call):
                 yield f"| [`{call}`](#{anchor(self.heading(call))}) | `{text}` |"
+        yield from example(re.search("## (.*)", LENT)[1], [], self.wrong)
 
     def texts(self):
         """Each piece of code and each view, with the imports of its file."""
