@@ -85,8 +85,8 @@ class Calls:
         clauses = [it for it in clauses if re.match(r"requires\b|ghost can_", it)]
         said, test = self.required.get(anchor(call), ("", ""))
         general = (it for it in clauses if re.search(f"{SOUND}|{CLOSURE}", it))
-        if len(clauses) > len([*general]) and not said:
-            self.api.wrong.append(f"{GUIDE}: the table of preconditions doesn't have {call}")
+        if (len(clauses) > len([*general])) != (said != "" and not said.startswith("in a generic function")):
+            self.api.wrong.append(f"{GUIDE}: the table of preconditions and the contract of {call} don't agree")
         yield from [f"{said} ({test})" if test else said] if said else []
         yield from ["a sound entry"] * any(re.search(SOUND, it) for it in clauses)
         yield from ["a closure that can be called on what it is given"] * any(re.search(CLOSURE, it) for it in clauses)
