@@ -27,7 +27,7 @@ SCANS = {
     "Keys::over, Values::over, IntoIter::over, IntoKeys::over, IntoValues::over",
 }
 SAID = {call: scans for scans, calls in SCANS.items() for call in calls.split(", ")}
-SCAN = r"\bscans? of\b|\b(?:one|a|second one) scan\b|ompares (?:no|any two|nothing|none)|\bcosts? (?:what|one)|cost no comparison"
+SCAN = r"\b(?:one|a) scan\b|ompares (?:no|any two|nothing|none)\b|\bcosts (?:what|one)\b"
 # How a sentence of the documentation becomes shorter in the table.
 SHORTER = [
     (r"^.*\bcompares none\b|^.*, and compares no key\b|^Compares (?:no (?:key|item)|nothing)\b", "none"),
@@ -35,7 +35,7 @@ SHORTER = [
     (r"\. Else it costs ", ", else "),
     (r"\. If ", "; if "),
     (r"^Makes |^It costs ", ""),
-    (r"^Making (?:it|the iterator) compares nothing\. All calls of `next` together make ", "all calls of `next` together: "),
+    (r"^Making (?:it|the iterator) compares nothing\. All calls of `next` together make ", "run to the end, "),
 ]
 SOUND, CLOSURE = r"\bIsSound\b", r"\.pre\b|\.FnMut\b|\.FnOnce\b"
 
@@ -43,7 +43,7 @@ SOUND, CLOSURE = r"\bIsSound\b", r"\.pre\b|\.FnMut\b|\.FnOnce\b"
 def sentences(text):
     """The sentences of a doc comment, but for its blocks."""
     plain = " ".join(re.sub(r"^```.*?^```$", "", text, flags=re.M | re.S).split())
-    return re.split(r"(?<=[.:])(?<!e\.g\.) (?=[A-Z`])", plain) if plain else []
+    return re.split(r"(?<=\.) (?=[A-Z`])", plain) if plain else []
 
 
 def does(docs):
@@ -84,19 +84,21 @@ class Calls:
         clauses = [line.strip() for _, code, _ in self.api.entries[call] for line in code]
         clauses = [it for it in clauses if re.match(r"requires\b|ghost can_", it)]
         said, test = self.required.get(anchor(call), ("", ""))
-        general = (it for it in clauses if re.search(f"{SOUND}|{CLOSURE}", it))
-        if (len(clauses) > len([*general])) != (said != "" and not said.startswith("in a generic function")):
+        has_own = any(not re.search(f"{SOUND}|{CLOSURE}", it) for it in clauses)
+        if has_own != (said != "" and not said.startswith("in a generic function")):
             self.api.wrong.append(f"{GUIDE}: the table of preconditions and the contract of {call} don't agree")
         yield from [f"{said} ({test})" if test else said] if said else []
         yield from ["a sound entry"] * any(re.search(SOUND, it) for it in clauses)
         yield from ["a closure that can be called on what it is given"] * any(re.search(CLOSURE, it) for it in clauses)
 
     def row(self, call):
+        """The row of a call or a type."""
         docs = [it for it, _, _ in self.api.entries[call]]
         items = [it for _, _, it in self.api.entries[call]]
         is_type = any(it.kind in TYPES for it in items)
-        of_type = " ".join(it for it, _, _ in self.api.entries.get(call.split("::")[0], []))
-        cost = "" if is_type else scans(call, docs, of_type * ("::" in call))
+        owner = call.partition("::")[0] if "::" in call else ""
+        of_type = " ".join(it for it, _, _ in self.api.entries.get(owner, []))
+        cost = "" if is_type else scans(call, docs, of_type)
         if not cost and not is_type:
             self.api.wrong.append(f"tools/pages/calls.py: nothing says how many keys {call} compares")
         return f"| [`{call}`](#{anchor(call)}) | {' '.join(does(docs))} | {'; '.join(self.requires(call))} | {cost} |"

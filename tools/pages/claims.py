@@ -80,7 +80,8 @@ class Claims:
         goals = re.findall(r"^\|.*\| \[.*\]\(\.\./(\S+\.edit)\) \| (.+) \|$", page, re.M)
         rest = page.partition(f"\n## {WITHOUT}\n")[2]
         tried = re.findall(r"^\| \[`(.+?)`\].*\|.*\| (.+) \|$", rest, re.M)
-        tried += [(it, NONE) for it in re.findall(r"`(.+?)`", "".join(re.findall(rf"^- \*\*{NONE}\*\*.*\. (.*)$", rest, re.M | re.I)))]
+        silent = re.findall(rf"^- \*\*{NONE}\*\*.*\. (.*)$", rest, re.M | re.I)
+        tried += [(it, NONE) for it in re.findall(r"`(.+?)`", "".join(silent))]
         self.goals, self.tried = ({it: said for it, said in rows if said != UNKNOWN} for rows in (goals, tried))
 
     def take_logs(self, gate, plants):
@@ -143,8 +144,9 @@ class Claims:
 
     def library(self):
         """The library's clauses by their names."""
-        items = reversed(self.clauses.items())
-        return {name: it for name, it in items if it.item.path.split("/")[1] in LIBRARY and not it.item.path.endswith("/slot.rt")}
+        paths = {name: it.item.path for name, it in reversed(self.clauses.items())}
+        inner = {name for name, it in paths.items() if it.split("/")[1] not in LIBRARY or it.endswith("/slot.rt")}
+        return {name: self.clauses[name] for name in paths if name not in inner}
 
     def unnamed(self):
         """The names of the library's clauses that no edit is for, by their calls."""

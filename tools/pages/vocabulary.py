@@ -48,16 +48,16 @@ def kinds_of(signature):
     return [name for it in found[:-1] if it[0][0] != "{" for name in given_names(it[0]) or [" ".join(it)]]
 
 
-def modules_above(lines):
-    """The parameters of the modules in which the next line after these stands, at an indentation below `indent`."""
-    stack = []
+def names_above(lines, indent):
+    """The parameters of the modules in which the next line after these stands, at this indentation."""
+    modules = []
     for line in lines:
-        indent = len(line) - len(line.lstrip())
+        depth = len(line) - len(line.lstrip())
         if line.strip() and not line.lstrip().startswith("--"):
-            stack = [it for it in stack if it[0] < indent]
+            modules = [it for it in modules if it[0] < depth]
         found = re.match(r" *module _ (.*) where$", line)
-        stack += [(indent, given_names(found[1]))] if found else []
-    return stack
+        modules += [(depth, given_names(found[1]))] if found else []
+    return [name for depth, names in modules if depth < indent for name in names]
 
 
 class Definition:
@@ -65,16 +65,14 @@ class Definition:
 
     def __init__(self, path, word):
         lines = read(path).split("\n")
-        kinds = r"(?:abbrev |unfoldable )?pub (?:record |data )?"
-        at = next(i for i, it in enumerate(lines) if re.match(rf" *{kinds}{re.escape(word)}(?= )", it))
-        above = [*lines[:at], lines[at]]
-        indent = len(lines[at]) - len(lines[at].lstrip())
-        outer = [name for depth, names in modules_above(above) if depth < indent for name in names]
-        head, _, rest = lines[at].partition(f" {word} ")
-        rest, is_record = rest.removesuffix(" where"), head.endswith(("record", "data"))
-        inner = given_names(" ".join(takewhile(":".__ne__, groups_of(rest)))) if is_record else self.named(lines[at + 1])
-        self.count = len(outer) + (len(inner) if is_record else len(kinds_of(rest.removeprefix(": "))))
-        self.names = [*outer, *inner]
+        found = re.compile(rf"( *)(?:abbrev |unfoldable )?pub (record |data )?{re.escape(word)} (.*?)(?: where)?$")
+        at = next(i for i, it in enumerate(lines) if found.match(it))
+        indent, kind, rest = found.match(lines[at]).groups()
+        given = given_names(" ".join(takewhile(":".__ne__, groups_of(rest))))
+        own = given if kind else self.named(lines[at + 1])
+        outer = names_above(lines[:at], len(indent))
+        self.count = len(outer) + len(own if kind else kinds_of(rest.removeprefix(": ")))
+        self.names = [*outer, *own]
         self.comment = self.comment_above(lines[:at])
 
     @staticmethod
@@ -84,6 +82,7 @@ class Definition:
 
     @staticmethod
     def comment_above(lines):
+        """The comment that ends these lines, if one does."""
         said = []
         while lines and re.match(r" *-- ", lines[-1]):
             said, lines = [lines[-1].strip()[3:], *said], lines[:-1]
@@ -98,8 +97,9 @@ class Definition:
 def with_marks(meaning, form):
     """A meaning with the arguments of its word marked as code, where their names aren't words of a sentence."""
     for name in form.split()[1:]:
-        if re.fullmatch(r"(?:[b-zA-Z]|eq|xs|ys|[a-z]')", name) and name not in ("A", "I"):
-            meaning = re.sub(rf"(?<![\w`'.]){re.escape(name)}(?![\w`'.]\w*)(?=[^`]*(?:`[^`]*`[^`]*)*$)", f"`{name}`", meaning)
+        outside = r"(?=[^`]*(?:`[^`]*`[^`]*)*$)"  # of what is marked already
+        if re.fullmatch(r"(?:[b-zB-Z]|eq|xs|ys|[a-z]')", name):
+            meaning = re.sub(rf"(?<![\w`'.]){re.escape(name)}(?![\w`'.]\w*){outside}", f"`{name}`", meaning)
     return meaning
 
 
