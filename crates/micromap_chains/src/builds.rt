@@ -1,7 +1,7 @@
 //! Maps and sets that are built by chains.
 #![tactic(auto, using(micromap::proofs::Rules::caller, micromap::proofs::ChainLaws::chain_laws))]
 
-ghost use Rattle.std.specs.Prelude.{◌≡◌, ◌↔◌, ◌<◌, ◌++◌, IfOk, IsErr, filter, length, map, nat_eq, nat_lt};
+ghost use Rattle.std.specs.Prelude.{◌≡◌, ◌↔◌, ◌<◌, ◌++◌, ◌/◌, IfOk, IsErr, IsOk, filter, length, map, nat_eq, nat_lt};
 ghost use Rattle.std.specs.Map.{keys_of};
 ghost use Rattle.micromap.specs.Build.{build};
 ghost use Rattle.micromap.specs.Extend.{distinct};
@@ -80,4 +80,32 @@ pub fn set_of_difference<const N: usize, const M: usize, const L: usize>(
     ensures refused { IsErr result ↔ (L < length (difference nat_eq a.now b.now)) }
 {
     Set::try_from_iter(a.difference(b).copied())
+}
+
+/// Returns the keys of a map as a set, which has room for them.
+pub fn set_of_all_keys<const N: usize>(pairs: &Map<u8, u32, N>) -> Result<Set<u8, N>, Overfull>
+    ensures { IsOk result }
+{
+    Set::try_from_iter(pairs.keys().copied())
+}
+
+/// Returns the distinct values of a map as a set.
+pub fn set_of_values<const N: usize>(pairs: &Map<u8, u32, N>) -> Result<Set<u32, N>, Overfull>
+    ensures { IfOk result (λ s. s ≡ distinct nat_eq (map (λ p. p.1) pairs.now)) }
+{
+    Set::try_from_iter(pairs.values().copied())
+}
+
+/// Returns the halves of a list as a set.
+pub fn set_of_halves<const N: usize>(list: &[u8]) -> Result<Set<u8, N>, Overfull>
+    ensures { IfOk result (λ s. s ≡ distinct nat_eq (map (λ x. x / 2) list.now)) }
+{
+    Set::try_from_iter(list.iter().map(|x| *x / 2))
+}
+
+/// Returns a map with the halves of a map's values, which has room for them.
+pub fn map_of_halves<const N: usize>(pairs: &Map<u8, u32, N>) -> Result<Map<u8, u32, N>, Overfull>
+    ensures { IsOk result }
+{
+    Map::try_from_iter(pairs.iter().map(|(k, v)| (*k, *v / 2)))
 }

@@ -1,10 +1,12 @@
 //! Maps and sets that are made by `fold`, where no call makes them. A fold moves the map in each turn.
 #![tactic(auto)]
 
-ghost use Rattle.std.specs.Prelude.{◌≡◌, ◌/◌, ◌+◌, [], Some, List, ℕ, filter, fold, nat_eq, nat_lt, not, unwrap_or};
+ghost use Rattle.std.specs.Prelude.{◌≡◌, ◌/◌, ◌+◌, ◌&&◌, [], Some, None, List, Option, ℕ, true, filter, fold, if◌then◌else◌, is_none, max, nat_eq, nat_lt, not, unwrap_or};
+ghost use Rattle.std.specs.Set.{is_member};
 ghost use Rattle.std.specs.Ordering.{on};
 ghost use Rattle.std.specs.Str.{bytes_eq};
 ghost use Rattle.micromap.specs.Items.{put_item_if_fits, take_item};
+ghost use Rattle.micromap.specs.Operations.{difference};
 ghost use Rattle.micromap.specs.Pairs.{at, has, put_if_fits};
 
 use micromap::{Map, Set};
@@ -90,4 +92,33 @@ pub fn named<'a>(words: &[&'a str]) -> Map<&'a str, u32, 16>
         m.checked_insert(*v, 1);
         m
     })
+}
+
+/// Returns `true` if a set has all items of a list.
+pub fn has_all(set: &Set<u8, 16>, list: &[u8]) -> bool
+    ensures { result ≡ fold (λ all x. all && is_member nat_eq set.now x) true list.now }
+{
+    list.iter().fold(true, |all, x| all && set.contains(x))
+}
+
+/// Returns the first key whose value is above a limit, if any.
+pub fn first_above(pairs: &Map<u8, u32, 16>, limit: u32) -> Option<u8>
+    ensures { result ≡ fold
+        (λ (found : Option ℕ) (p : ℕ × ℕ). if is_none found && nat_lt limit p.1 then Some p.0 else found) None pairs.now }
+{
+    pairs.iter().fold(None, |found, (k, v)| {
+        if found.is_none() && *v > limit {
+            Some(*k)
+        } else {
+            found
+        }
+    })
+}
+
+/// Returns the greatest member of a difference, or 0.
+pub fn greatest_alone(a: &Set<u8, 16>, b: &Set<u8, 16>) -> u8
+    ensures { result ≡ fold max 0 (difference nat_eq a.now b.now) }
+{
+    a.difference(b)
+        .fold(0, |most, x| if most < *x { *x } else { most })
 }

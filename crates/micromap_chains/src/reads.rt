@@ -1,11 +1,12 @@
 //! What is read of a map, and of sets.
 #![tactic(auto, using(micromap::proofs::Rules::caller))]
 
-ghost use Rattle.std.specs.Prelude.{◌≡◌, ◌^◌, ◌<◌, ◌&&◌, ◌==◌, IfOk, count_by, filter, map, max, min, nat_eq, nat_lt, position, sum};
+ghost use Rattle.std.specs.Prelude.{◌≡◌, ◌-◌, ◌^◌, ◌<◌, ◌&&◌, ◌==◌, IfOk, count_by, filter, length, map, max, min, nat_eq, nat_lt, position, slice_get, sum};
 ghost use Rattle.std.specs.List.{enumerate_from, find, fold, list_all, list_any, reduce, zip};
 ghost use Rattle.std.specs.Map.{keys_of, values_of};
-ghost use Rattle.std.specs.Option.{option_copied};
-ghost use Rattle.micromap.specs.Operations.{union};
+ghost use Rattle.std.specs.Map.Iter.{deref_pair};
+ghost use Rattle.std.specs.Option.{option_copied, option_map};
+ghost use Rattle.micromap.specs.Operations.{intersection, union};
 
 use micromap::{Map, Set};
 use std::alloc::{AllocError, Global};
@@ -149,4 +150,54 @@ pub fn count_items_above<const N: usize>(set: &Set<u8, N>) -> usize
     ensures { result ≡ count_by (nat_lt 9) set.now }
 {
     set.iter().filter(|x| **x > 9).count()
+}
+
+/// Returns the last value, if any.
+pub fn last_value<const N: usize>(pairs: &Map<u8, u32, N>) -> Option<u32>
+    ensures { result ≡ slice_get (values_of pairs.now) (length pairs.now - 1) }
+{
+    pairs.values().copied().last()
+}
+
+/// Returns the pair at an index, if any.
+pub fn pair_at<const N: usize>(pairs: &Map<u8, u32, N>, index: usize) -> Option<(&u8, &u32)>
+    ensures { option_map deref_pair result ≡ slice_get pairs.now index }
+{
+    pairs.iter().nth(index)
+}
+
+/// Returns the sum of the values of a map by value, which must fit.
+pub fn total_of(pairs: Map<u8, u32, 8>) -> u32
+    requires { sum (values_of pairs) < 2 ^ 32 }
+    ensures { result ≡ sum (values_of pairs) }
+{
+    pairs.into_values().sum()
+}
+
+/// Returns how many pairs of a map by value have a value above 9.
+pub fn count_of(pairs: Map<u8, u32, 8>) -> usize
+    ensures { result ≡ count_by (λ p. nat_lt 9 p.1) pairs }
+{
+    pairs.into_iter().filter(|p| p.1 > 9).count()
+}
+
+/// Returns `true` if an item is above a limit.
+pub fn any_item_above<const N: usize>(set: &Set<u8, N>, limit: u8) -> bool
+    ensures { result ≡ list_any (nat_lt limit) set.now }
+{
+    set.iter().any(|x| *x > limit)
+}
+
+/// Returns how many members a union has.
+pub fn count_union<const N: usize, const M: usize>(a: &Set<u8, N>, b: &Set<u8, M>) -> usize
+    ensures { result ≡ length (union nat_eq a.now b.now) }
+{
+    a.union(b).count()
+}
+
+/// Returns how many items of a set are in another.
+pub fn count_common<const N: usize, const M: usize>(a: &Set<u8, N>, b: &Set<u8, M>) -> usize
+    ensures { result ≡ length (intersection nat_eq a.now b.now) }
+{
+    a.intersection(b).count()
 }
