@@ -2,11 +2,12 @@
 import collections
 import re
 
-from pages.sources import TYPES, Paths, anchor, link, parts, read, spec_of
-from pages.words import FORM_OF, FORMS, PLAIN
+from pages.calls import Calls
+from pages.examples import HOME, example
+from pages.sources import TYPES, Paths, anchor, link, parts
+from pages.vocabulary import Vocabulary
 
 API = "crates/micromap/API.md"
-GUIDES = ["crates/micromap/CALLING.md", "crates/micromap/PROVING.md"]  # the documents that name words for callers
 # The groups: those of a map and of a set, by the names of calls and traits, and the others, by calls and types.
 OF_EACH = {
     "make": "new with_capacity Default",
@@ -34,9 +35,9 @@ OTHERS = {
     "Drain of a set",
     "Iterators of set operations": "Difference, Intersection, Union, SymmetricDifference, DifferenceRef",
 }
-HEAD = """# The calls of `micromap`
+HEAD = f"""# The calls of `micromap`
 
-Made by `tools/documents` from the sources. Each call has its documentation, its signature and its contract: \
+Made from the sources. Each call has its documentation, its signature and its contract: \
 what it requires and what it ensures. `K`, `V`, `T` and `N` are the parameters of `Map<K, V, N>` and `Set<T, N>`; \
 the bounds `K: Eq` and `T: Eq` are left out.
 
@@ -45,6 +46,8 @@ what `&mut self` points to at the call and at the return. `self`, also written `
 takes, as it was passed, and `self.exit` is what is left of it. Of `&mut self`, `self.entry` is the reference itself. \
 Other parameters are named in the same way, as `key.now`. `K.eq` is `==` of the keys. The [words](#words) of this library and those of the [standard \
 library](#words-of-the-standard-library) are explained at the end.
+
+Examples are proved. Their files are in {HOME}, and their imports are left out here.
 """
 LENT = """## Written through a reference
 
@@ -53,19 +56,6 @@ once the borrow ends: at the key, the value that was written last.
 
 | Call | `ensures* writes_back` |
 |---|---|"""
-OWN_WORDS = """## Words
-
-Each word of contracts and of the documents for callers has the module that it is imported from, as `ghost use \
-Rattle.micromap.specs.Pairs.{put};`, and the comment at its definition. Signs: `≡` is equality, `→` "if, then" or a function, `↔` "exactly if", `×` "and", `λ x. ..` a function of `x`. `[]` is the empty list, `x ∷ xs` the list `xs` with `x` before it, `++` joins two lists, `⊤` always holds, `ℕ` are the natural numbers.
-
-| Word | Module | Meaning |
-|---|---|---|"""
-STANDARD_WORDS = """## Words of the standard library
-
-A word is shown with its arguments. A dot begins a member of a trait, as `K.eq x y` has it.
-
-| Word | Module | Meaning |
-|---|---|---|"""
 
 
 def signature(function, where=(), indent=""):
@@ -171,21 +161,24 @@ class Api:
             yield f"Implements {', '.join(f'`{it}`' for it in dict.fromkeys(self.traits[name]))}."
 
     def text(self):
-        out, body = [HEAD], []
+        ends = [*self.lent_table(), "", *Vocabulary([*self.texts()], self.wrong).tables()]
+        titles = ["Every call", *self.groups, *re.findall(r"^## (.*)", "\n".join(ends), re.M)]
+        links = ", ".join(f"[{it}](#{anchor(it)})" for it in titles)
+        out = [HEAD, f"Sections: {links}.", "", *Calls(self).lines()]
         for title, names in self.groups.items():
-            listed = ", ".join(f"[`{it.removeprefix(title.partition(':')[0] + '::')}`](#{anchor(it)})" for it in names)
-            out.append(f"- [{title}](#{anchor(title)}): {listed}")
             paths = dict.fromkeys(it.path for name in names for _, _, it in self.entries[name])
-            body += ["", f"## {title}", "", "Source: " + ", ".join(link(it, API) for it in paths)]
+            out += ["", f"## {title}", "", "Source: " + ", ".join(link(it, API) for it in paths)]
+            out += example(title, [doc for name in names for doc, _, _ in self.entries[name]], self.wrong)
             for name in names:
-                docs, codes, _ = zip(*self.entries[name])
-                said = [it for it in (*docs, " ".join(self.facts(name))) if it]
-                code = "\n\n".join("\n".join(it) for it in codes if it)
-                body += ["", f"### `{name}`", "", "\n\n".join(said), "", "```rust", code, "```"]
-        ends = [*self.lent_table(), "", *self.words()]
-        titles = re.findall(r"^## (.*)", "\n".join(ends), re.M)
-        out += [f"- [{it}](#{anchor(it)})" for it in titles]
-        return "\n".join([*out, *body, "", *ends]) + "\n"
+                out += self.section(name)
+        return "\n".join([*out, "", *ends]) + "\n"
+
+    def section(self, name):
+        """What is said of a call or a type, and its code."""
+        docs, codes, _ = zip(*self.entries[name])
+        said = [it for it in (*docs, " ".join(self.facts(name))) if it]
+        code = "\n\n".join("\n".join(it) for it in codes if it)
+        return ["", f"### `{name}`", "", "\n\n".join(said), "", "```rust", code, "```"]
 
     def lent_table(self):
         """The clauses `writes_back`."""
@@ -194,25 +187,7 @@ class Api:
         for call, text in sorted(self.lent, key=lambda it: order.get(self.heading(it[0]), -1)):
             if self.heading(call):
                 yield f"| [`{call}`](#{anchor(self.heading(call))}) | `{text}` |"
-
-    def words(self):
-        """The tables of the words of all clauses, and the words that mean what their names say."""
-        modules, plain, own, standard = self.modules(), collections.defaultdict(list), [], []
-        for word, module in modules.items():
-            path = spec_of(module)
-            if word in PLAIN:
-                plain[module].append(word)
-            elif path:
-                own.append(f"| `{word}` | {link(path, API, module)} | {self.meaning(path, word)} |")
-            elif word in FORM_OF:
-                standard.append(f"| `{FORM_OF[word]}` | `{module}` | {FORMS[FORM_OF[word]]} |")
-            else:
-                self.wrong.append(f"tools/pages/words.py: the word {word} of {module} isn't explained")
-        yield "\n".join([OWN_WORDS, *own])
-        yield ""
-        yield "\n".join([STANDARD_WORDS, *standard, *self.member_rows()])
-        lists = (f"{', '.join(f'`{it}`' for it in words)} of `{module}`" for module, words in plain.items())
-        yield f"\nThese mean what their names say: {'; '.join(lists)}."
+        yield from example(re.search("## (.*)", LENT)[1], [], self.wrong)
 
     def texts(self):
         """Each piece of code and each view, with the imports of its file."""
@@ -220,46 +195,3 @@ class Api:
         yield from ((it.ghosts[0][3], it.imports) for it in self.views.values())
         imports = {name: module for it in self.sources.items for name, module in it.imports.items()}
         yield from ((text, imports) for _, text in self.lent)
-
-    def modules(self):
-        """The modules of the words of all clauses, and of those that the definitions name and words.py explains."""
-        exported, modules = read("crates/micromap/specs/Lib.antt"), {}
-        for text, imports in self.texts():
-            for word in re.findall(r"[\w-]+", text):
-                if word in imports:
-                    module = imports[word]
-                    is_ours = f"pub use Rattle.{module}\n" in exported
-                    modules[word] = module.replace("micromap_core", "micromap") if is_ours else module
-        modules |= dict(self.guided(exported))
-        for path in dict.fromkeys(spec_of(it) for it in modules.values() if spec_of(it)):
-            for module, names in re.findall(r"^use Rattle\.([\w.]+)\.\{([^}]*)\}", read(path), re.M):
-                modules |= {it: module for it in parts(names) if it in FORM_OF and it not in modules}
-        unnamed = (it for it in FORM_OF if it[0] != "." and it not in modules)
-        self.wrong += [f"tools/pages/words.py: no clause and no definition names {it}" for it in unnamed]
-        return dict(sorted(modules.items(), key=lambda it: (it[0].lower(), it)))
-
-    def guided(self, exported):
-        """The modules of the words that the documents for callers import, or name by themselves."""
-        named = set(re.findall(r"`([\w-]+)[^`\n]*`", "".join(map(read, GUIDES))))
-        for crate, name in re.findall(r"^pub (?:mod|use Rattle\.(\w+)\.specs\.)\s*(\w+)$", exported, re.M):
-            module = f"micromap.specs.{name}"
-            kinds = r"(?:(?:abbrev|unfoldable) pub|pub (?:record|data))"
-            defined = re.findall(rf"^ *{kinds} ([\w-]+)(?= )", read(spec_of(module)), re.M)
-            yield from ((word, module) for word in defined if word in named)
-
-    def meaning(self, path, word):
-        """The last comment above the definition of a word: its own, or that of the words that it stands among."""
-        above = re.search(rf"\A((?:.*\n)*?) *(?:\w+ )*pub (?:\w+ )*{re.escape(word)}(?= )", read(path), re.M)
-        blocks = re.findall(r"((?:^ *-- .*\n)+)", above[1], re.M) if above else []
-        said = " ".join(re.findall(r"-- (.*)", blocks[-1])) if blocks else ""
-        self.wrong += [] if said else [f"{path}: no comment says what {word} means"]
-        return said
-
-    def member_rows(self):
-        """The rows of the members of traits that clauses name."""
-        named = {f".{it}" for text, _ in self.texts() for it in re.findall(r"\b[A-Z]\w*\.(\w+)", text)}
-        known = {it for it in FORM_OF if it[0] == "."}
-        self.wrong += [f"tools/pages/words.py: no clause names {it}" for it in sorted(known - named)]
-        self.wrong += [f"tools/pages/words.py: {it} isn't explained" for it in sorted(named - known - {*PLAIN})]
-        for form in sorted({FORM_OF[it] for it in named & known}):
-            yield f"| `{form}` | | {FORMS[form]} |"

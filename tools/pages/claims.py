@@ -5,7 +5,7 @@ import os
 import re
 
 from pages.api import API
-from pages.logs import goals_of, plants_of
+from pages.logs import NONE, goals_of, plants_of
 from pages.sources import LIBRARY, Sources, anchor, read
 
 CLAIMS = "docs/CLAIMS.md"
@@ -20,8 +20,11 @@ HEAD = """# Claims
 
 Made by `tools/documents` from the sources, from the edits and from what the gate said of them.
 
-Every clause is proved. An *edit* tests whether a clause says enough: it puts a wrong body in the place of the right \
-one, and the prover must refuse it. A row has the clauses that an edit is for, what is wrong in its body, and the first goal at \
+Every clause is proved. Whether it says enough is tested by wrong bodies, which the prover must refuse:
+
+TOTALS
+
+An *edit* puts a wrong body in the place of the right one. A row has the clauses that an edit is for, what is wrong in its body, and the first goal at \
 which the gate refused it; the same body may break others. An edit is a file in `must-fail/` of a crate. Some change lines of the proof too, so that \
 nothing but the clause refuses the body.
 
@@ -32,15 +35,22 @@ that of a loop. What follows, as `-in-Some` or `-then-len`, names the branch or 
 """
 WITHOUT = "Clauses without an edit"
 WITHOUT_HEAD = """
-These are proved as all others are. `rt plant` tries bodies of its own on each function: such that give up, as `None` \
-does, and such that call the right one with an argument, the result or a field changed. The last column says what came \
-of those that it tried on the call's functions.
+These are proved as all others are. `rt plant` tries bodies of its own on a function: such that give up, as `None` does, \
+and such that call the right one with an argument, the result or a field changed. A body is tried against all clauses of \
+the function at once. So what came of it stands here only of calls of which no clause has an edit.
 
 | Call | Clauses | Tried |
 |---|---|---|"""
+# Why nothing was tried of the other clauses without an edit, by a title that this page is read back by.
+SILENT = {
+    NONE: "a planted body has no verdict if it doesn't compile, as one that drops a value of a type without `Drop`, if only a "
+    "precondition of a call in it isn't proved, or if the tactics can't prove even a body that calls the right one",
+    "another clause has an edit": "a planted body that is refused may be refused by that clause",
+    "the body is an implementation's": "the clause is a trait's, and each implementation has it",
+    "not recorded": "nothing was tried on the call since it got its clauses",
+}
 ROWS = "\n| Clauses | What is wrong in the body | Refused at |\n|---|---|---|"
-UNKNOWN = "not recorded"
-OF_TRAIT = "its body is an implementation's"
+_, SHARED, OF_TRAIT, UNKNOWN = SILENT
 Edit = collections.namedtuple("Edit", "path wrong claims")  # claims: pairs of a call and the names of its clauses
 
 
@@ -68,7 +78,10 @@ class Claims:
         self.edits = [edit_of(it, self.required | self.clauses, wrong) for it in paths]
         page = read(CLAIMS) if os.path.exists(CLAIMS) else ""
         goals = re.findall(r"^\|.*\| \[.*\]\(\.\./(\S+\.edit)\) \| (.+) \|$", page, re.M)
-        tried = re.findall(r"^\| \[`(.+?)`\].*\|.*\| (.+) \|$", page.partition(f"\n## {WITHOUT}\n")[2], re.M)
+        rest = page.partition(f"\n## {WITHOUT}\n")[2]
+        tried = re.findall(r"^\| \[`(.+?)`\].*\|.*\| (.+) \|$", rest, re.M)
+        silent = re.findall(rf"^- \*\*{NONE}\*\*.*\. (.*)$", rest, re.M | re.I)
+        tried += [(it, NONE) for it in re.findall(r"`(.+?)`", "".join(silent))]
         self.goals, self.tried = ({it: said for it, said in rows if said != UNKNOWN} for rows in (goals, tried))
 
     def take_logs(self, gate, plants):
@@ -114,7 +127,7 @@ class Claims:
         for edit in sorted(self.edits, key=lambda it: (self.section(it)[1], it.path)):
             sections[self.section(edit)[0]].append(edit)
         order = [*self.api.groups, *PROGRAMS.values(), *sections]
-        out = [HEAD]
+        out = [HEAD.replace("TOTALS", "\n".join(self.totals()))]
         for title in dict.fromkeys(it for it in order if it in sections):
             out.append(f"- [{title}](#{anchor(title)}): {len(sections[title])}")
         out.append(f"- [{WITHOUT}](#{anchor(WITHOUT)})")
@@ -125,15 +138,59 @@ class Claims:
             self.notes.append(f"{CLAIMS}: no goal is recorded of {unrecorded} edits: give a log of rt ci by --log")
         return "\n".join([*out, "", f"## {WITHOUT}", WITHOUT_HEAD, *self.without()]) + "\n"
 
+    def named(self):
+        """The clauses that an edit is for."""
+        return {it for edit in self.edits for _, names in edit.claims for it in names}
+
+    def library(self):
+        """The library's clauses by their names."""
+        paths = {name: it.item.path for name, it in reversed(self.clauses.items())}
+        inner = {name for name, it in paths.items() if it.split("/")[1] not in LIBRARY or it.endswith("/slot.rt")}
+        return {name: self.clauses[name] for name in paths if name not in inner}
+
+    def unnamed(self):
+        """The names of the library's clauses that no edit is for, by their calls."""
+        calls, named = collections.defaultdict(list), self.named()
+        for name, clause in self.library().items():
+            calls[clause.call] += [name] if name not in named else []
+        return {call: names for call, names in calls.items() if names}
+
+    def verdict(self, call):
+        """What is known of a call's clauses without an edit: what was tried, or why nothing was."""
+        clauses = {name: it for name, it in self.library().items() if it.call == call}
+        if self.named() & {*clauses}:
+            return SHARED
+        is_of_trait = next(iter(clauses.values())).item.kind == "trait"
+        return OF_TRAIT if is_of_trait else self.tried.get(call, UNKNOWN)
+
     def without(self):
-        """The rows of the library's clauses that no edit is for."""
-        named = {it for edit in self.edits for _, names in edit.claims for it in names}
-        calls = collections.defaultdict(dict)
-        for name, clause in reversed(self.clauses.items()):
-            if name not in named and clause.item.path.split("/")[1] in LIBRARY and not clause.item.path.endswith("/slot.rt"):
-                calls[clause.call][f"`{name[len(clause.call) + 2 :]}`" if name != clause.call else "its only clause"] = clause
-        for call, found in calls.items():
-            clause = next(iter(found.values()))
-            names = ", ".join(it for it in found if it)
-            untried = OF_TRAIT if clause.item.kind == "trait" else UNKNOWN
-            yield f"| {self.linked(call, clause)} | {names} | {self.tried.get(call, untried)} |"
+        """The table of what was tried on calls without an edit, and the calls of which there is nothing to say."""
+        silent, library = collections.defaultdict(dict), self.library()
+        for call, names in self.unnamed().items():
+            verdict = self.verdict(call)
+            if verdict in SILENT:
+                silent[verdict][call] = names
+                continue
+            shown = (f"`{it[len(call) + 2 :]}`" if it != call else "its only clause" for it in names)
+            yield f"| {self.linked(call, library[names[0]])} | {', '.join(shown)} | {verdict} |"
+        yield ""
+        yield "Of the other clauses no planted body says anything:"
+        yield ""
+        for verdict, why in SILENT.items():
+            count = sum(map(len, silent[verdict].values()))
+            calls = ", ".join(f"`{it}`" for it in silent[verdict])
+            yield from [f"- **{verdict[0].upper()}{verdict[1:]}**, {count} clauses: {why}. {calls}"] * bool(count)
+
+    def totals(self):
+        """How many clauses have an edit, how many have refused planted bodies alone, and how many have neither."""
+        unnamed, library = self.unnamed(), self.library()
+        without = {call: len(names) for call, names in unnamed.items()}
+        tried = sum(count for call, count in without.items() if self.verdict(call) not in SILENT)
+        rows = {
+            "with an edit": len(library) - sum(without.values()),
+            f"[without an edit](#{anchor(WITHOUT)}), but with planted bodies that were judged": tried,
+            "with neither": sum(without.values()) - tried,
+            "all": len(library),
+        }
+        yield "| The library's clauses | |\n|---|---|"
+        yield from (f"| {what} | {count} |" for what, count in rows.items())

@@ -1,4 +1,4 @@
-"""What the words of the standard library that contracts name mean, as the user of a map meets them."""
+"""What words of the standard library, and some of this library, mean, as the user of a map meets them."""
 
 # A line has a word as it is written in a clause, and its meaning. A dot begins a member of a trait.
 MEANINGS = """
@@ -90,3 +90,56 @@ PLAIN = """AllocError Bool length List Memory None not Occupied Ok Option Some t
 .Error .faults .last_fault .left .matches .taken""".split()
 FORMS = dict(line.split(" | ") for line in MEANINGS.strip().split("\n"))
 FORM_OF = {it.split()[0]: form for form in FORMS for it in form.split(", ")}
+# Words of this library with their arguments, where a definition doesn't name them, and with a meaning, where it has no
+# comment of its own or one that rests on another's. Without a meaning here, the comment stands.
+OWN_MEANINGS = """
+all_fit eq N items |
+all_items_fit eq N items |
+build eq items |
+code fault |
+difference_hint w | a lower and an upper bound of how many members a difference has left at `w`
+difference_left eq w | the members that a difference has left at `w`
+difference_on eq w | where a call of `next` leads a difference from `w`: past the next member, or to the end if there is none
+distinct eq items |
+entry_key e |
+entry_put e v |
+entry_taken e |
+entry_value e |
+intersection_hint w | a lower and an upper bound of how many members an intersection has left at `w`
+intersection_left eq w | the members that an intersection has left at `w`
+intersection_on eq w | where a call of `next` leads an intersection from `w`: past the next member, or to the end if there is none
+Faults faults last_fault old new fault | one fault came between `old` and `new`, and it is `fault`
+IntoIterFits K.row V.row N.row | an `IntoIter<K, V, N>`, which `drain` and a loop by value make, has fewer than 2^63 bytes
+IntoKeysFits K.row V.row N.row | an `IntoKeys<K, V, N>` has fewer than 2^63 bytes
+IntoValuesFits K.row V.row N.row | an `IntoValues<K, V, N>` has fewer than 2^63 bytes
+is_occupied e |
+is_same eq same first second |
+IsSound eq e |
+ItemMisfitIn eq N old items position | `position` is that of the first of the items that doesn't fit a set of capacity `N` with `old`
+map_text key_text value_text pairs |
+MapFits K.row V.row N.row K.eq | a `Map<K, V, N>` has fewer than 2^63 bytes, so that it can be a local
+MapReads eq N old new read | `read` is what a reading of a map of capacity `N` may return from a source that is `old` before it and `new` after it
+members pairs |
+message fault |
+MisfitIn eq N old items position | `position` is that of the first of the items that doesn't fit a map of capacity `N` with the pairs `old`
+Probes eq test | `eq` is an equivalence, `test` passes equal keys alike, and keys that pass are equal
+put_all eq pairs items |
+put_all_items eq old items |
+PutsAll eq N old new items |
+PutsAllItems eq N old new items |
+PutsBefore eq N old new items position | the first of the items that doesn't fit stands at `position`, and `new` is `put_all` of those before it
+PutsItemsBefore eq N old new items position | the same of a set and `put_all_items`
+read_fault_text fault_text fault |
+Same eq same first second | each pair of either list has an equal key with an equal value in the other
+SetFits T.row N.row T.eq | a `Set<T, N>` has fewer than 2^63 bytes, so that it can be a local
+SetIntoIterFits T.row N.row | an `IntoIter<T, N>` of a set, which `drain` and a loop by value make, has fewer than 2^63 bytes
+symmetric_hint w | a lower and an upper bound of how many members a symmetric difference has left at `w`
+symmetric_left eq w | the members that a symmetric difference has left at `w`
+symmetric_on eq w | where a call of `next` leads a symmetric difference from `w`: past the next member, or to the end if there is none
+union_hint w | a lower and an upper bound of how many members a union has left at `w`
+union_left eq w | the members that a union has left at `w`
+union_on eq w | where a call of `next` leads a union from `w`: past the next member, or to the end if there is none
+updated_disjoint eq h pairs keys | the pairs once each of `keys` that is stored has the value that `h` makes of its position in `keys` and its old value
+"""
+OWN = {it.split()[0]: it.rstrip("|").strip().split(" | ") for it in OWN_MEANINGS.strip().split("\n")}
+OWN = {word: (form, "".join(meaning)) for word, (form, *meaning) in OWN.items()}

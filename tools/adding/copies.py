@@ -1,0 +1,115 @@
+"""What `tools/add` copies: the files of this library, its lines of crates.txt, and the list of the copied files."""
+import hashlib
+import os
+import re
+import subprocess
+
+TOP = os.path.dirname(os.path.dirname(os.path.dirname(os.path.realpath(__file__))))
+LIBRARY = ["micromap_walk", "micromap_core", "micromap"]
+PROGRAM = "micromap_first"  # the crate whose files CRATE gets
+ORIGIN, LICENSE, LIST, IGNORED = "crates/micromap/ORIGIN", "crates/micromap/LICENSE", "crates.txt", ".gitignore"
+
+
+class Refused(Exception):
+    """Why nothing was changed."""
+
+
+def read(path):
+    with open(path, "rb") as file:
+        return file.read()
+
+
+def text_of(path):
+    return read(path).decode() if os.path.exists(path) else ""
+
+
+def write(path, content):
+    """Makes a file, or replaces it as a whole."""
+    os.makedirs(os.path.dirname(path), exist_ok=True)
+    with open(f"{path}.new", "wb") as file:
+        file.write(content)
+    os.replace(f"{path}.new", path)
+
+
+def sum_of(content):
+    return hashlib.sha256(content).hexdigest()
+
+
+def files_of(top, crate, left_out=("must-fail", "out")):
+    """The paths of a crate's files from a repository's top, but for hidden ones and those in some of its folders."""
+    folder = f"{top}/crates/{crate}"
+    for at, folders, names in os.walk(folder):
+        folders[:] = sorted(it for it in folders if it[0] != "." and (at != folder or it not in left_out))
+        yield from (os.path.relpath(f"{at}/{it}", top) for it in sorted(names) if it[0] != ".")
+
+
+def library():
+    """The files of the copy, with their content."""
+    files = {path: read(f"{TOP}/{path}") for crate in LIBRARY for path in files_of(TOP, crate)}
+    return files | {LICENSE: read(f"{TOP}/LICENSE")}
+
+
+def program_as(crate):
+    """The files of the first program by their paths in a crate of this name, with their content."""
+    start = f"crates/{PROGRAM}/"
+    return {it.replace(start, f"crates/{crate}/", 1): read(f"{TOP}/{it}") for it in files_of(TOP, PROGRAM)}
+
+
+def row_name(line):
+    """The name of the crate that a line of a crates.txt lists, as code writes it."""
+    found = re.match(r"\s*(?:[\w-]+/)*([\w-]+)", line.partition("#")[0])
+    return found[1].replace("-", "_") if found else ""
+
+
+def rows_of(top):
+    """The lines of a repository's crates.txt by the names of their crates, without comments."""
+    return {row_name(it): it.partition("#")[0].strip() for it in text_of(f"{top}/{LIST}").splitlines() if row_name(it)}
+
+
+def rows_for(crate):
+    """The lines that a crates.txt gets, by the names of their crates."""
+    own = rows_of(TOP)
+    return {it: own[it] for it in LIBRARY} | ({crate: own[PROGRAM].replace(PROGRAM, crate, 1)} if crate else {})
+
+
+def with_rows(listed, rows):
+    """The text of a crates.txt with some lines, each in the place of its crate's first line, or else at the end."""
+    left, lines = dict(rows), []
+    for line in listed.splitlines():
+        name, (old, mark, comment) = row_name(line), line.partition("#")
+        if name not in rows:
+            lines.append(line)
+        elif name in left:
+            new = left.pop(name)
+            lines.append(line if old.split() == new.split() else f"{new} {mark}{comment}".strip())
+        elif mark:
+            lines.append(mark + comment)
+    return "".join(f"{it}\n" for it in [*lines, *left.values()])
+
+
+def version():
+    """The version of this library, and the commit that its sources are of, where git says so."""
+    found = re.search(r"^## (\S+?),? ", text_of(f"{TOP}/CHANGELOG.md"), re.M)
+    sources = ["LICENSE", *(f"crates/{it}" for it in LIBRARY)]
+    try:
+        asked = (["rev-parse", "HEAD"], ["status", "--porcelain", "--", *sources])
+        runs = [subprocess.run(["git", "-C", TOP, *it], capture_output=True, text=True, check=True) for it in asked]
+    except (OSError, subprocess.CalledProcessError):
+        return found[1], ""
+    commit, changes = (it.stdout.strip() for it in runs)
+    return found[1], f", commit {commit}{' with changes' if changes else ''}"
+
+
+def origin_of(files):
+    """The text of ORIGIN: what the copy is of, and the checksums, as `sha256sum --check` reads them."""
+    what = f"# micromap {''.join(version())}, copied by its tools/add, which also brings the copy up to date\n"
+    return what + "".join(f"{sum_of(content)}  {path}\n" for path, content in files.items())
+
+
+def recorded(dest):
+    """The checksums that a copy was made with, by the paths of its files."""
+    lines = [it for it in text_of(f"{dest}/{ORIGIN}").splitlines() if not it.startswith("#")]
+    rows = [re.fullmatch(rf"([0-9a-f]{{64}})  (crates/(?:{'|'.join(LIBRARY)})/.+)", it) for it in lines]
+    if not all(it and os.path.normpath(it[2]) == it[2] for it in rows):
+        raise Refused(f"{dest}/{ORIGIN} was changed, so nothing says which files of the copy were")
+    return {it[2]: it[1] for it in rows}

@@ -1,0 +1,114 @@
+"""The table of every call atop API.md: what it does, what it requires, and its scans of the stored keys."""
+import os
+import re
+
+from pages.sources import TYPES, anchor, read
+
+GUIDE = "crates/micromap/CALLING.md"  # has the table of preconditions
+HEAD = """## Every call
+
+In brackets is what tests a precondition; [`CALLING.md`](CALLING.md#preconditions) says what a *sound* entry is, and \
+lists the calls by what they require. A *scan* compares the stored keys from the front, each at most once.
+
+| Call | What it does | Requires | Scans |
+|---|---|---|---|"""
+# The scans of calls whose documentation doesn't say them.
+SCANS = {
+    "one scan": "IndexMut for Map, Map::insert_unchecked, Set::insert_unchecked",
+    "one comparison": "Steps::same",
+    "as `get`": "Map::get_counted",
+    "as `eq_with`": "Map::eq_with_counted, PartialEq for Map, PartialEq for Set",
+    "as `is_subset`": "Set::is_superset",
+    "none": "Map::new, Map::with_capacity, Default for Map, Map::len, Map::is_empty, Map::capacity, Map::clear, Map::iter, "
+    "Map::keys, Map::values, Map::into_keys, Map::into_values, Map::drain, IntoIterator for Map, Clone for Map, "
+    "Display for Map, Set::new, Default for Set, Set::len, Set::is_empty, Set::capacity, Set::clear, Set::iter, Set::drain, "
+    "IntoIterator for Set, Clone for Set, Display for Set, VecSink::new, VecSink::entries, VecSink::into_entries, "
+    "SliceSource::over, SliceSource::left, map_to_json, set_to_json, JsonFault::code, Steps::new, Steps::count, Iter::over, "
+    "Keys::over, Values::over, IntoIter::over, IntoKeys::over, IntoValues::over",
+}
+SAID = {call: scans for scans, calls in SCANS.items() for call in calls.split(", ")}
+SCAN = r"\b(?:one|a) scan\b|ompares (?:no|any two|nothing|none)\b|\bcosts (?:what|one)\b"
+# How a sentence of the documentation becomes shorter in the table.
+SHORTER = [
+    (r"^.*\bcompares none\b|^.*, and compares no key\b|^Compares (?:no (?:key|item)|nothing)\b", "none"),
+    (r"\. Else it makes ", ", else "),
+    (r"\. Else it costs ", ", else "),
+    (r"\. If ", "; if "),
+    (r"^Makes |^It costs ", ""),
+    (r"^Making (?:it|the iterator) compares nothing\. All calls of `next` together make ", "run to the end, "),
+]
+SOUND, CLOSURE = r"\bIsSound\b", r"\.pre\b|\.FnMut\b|\.FnOnce\b"
+
+
+def sentences(text):
+    """The sentences of a doc comment, but for its blocks."""
+    plain = " ".join(re.sub(r"^```.*?^```$", "", text, flags=re.M | re.S).split())
+    return re.split(r"(?<=\.) (?=[A-Z`])", plain) if plain else []
+
+
+def does(docs):
+    """The first sentence of each doc comment, and the next if it goes on with what is returned."""
+    for doc in filter(None, docs):
+        first, *rest = sentences(doc.split("\n\n")[0])
+        yield " ".join([first, *(it for it in rest[:1] if it.startswith("Returns "))])
+
+
+def scans(call, docs, of_type):
+    """What is said of a call's scans, as short as it stands in a table."""
+    found = [it for doc in docs for it in sentences(doc) if re.search(SCAN, it)]
+    if not found:
+        return SAID.get(call, "none" if "None compares a key." in of_type else "")
+    said = " ".join(found).rstrip(".")
+    for pattern, short in SHORTER:
+        said = re.sub(pattern, short, said)
+    return said if said[0] == "`" else said[0].lower() + said[1:]
+
+
+def preconditions():
+    """The rows of the table of preconditions: what is required and its test, by the anchor of each call."""
+    table = read(GUIDE).partition("\n## Preconditions\n")[2].partition("\n\n- ")[0]
+    rows = re.findall(r"^\| (.*\]\(API\.md#.*) \| (.+) \| (.*?) ?\|$", table, re.M)
+    for calls, required, test in rows:
+        required = required.replace("](#", f"]({os.path.basename(GUIDE)}#")
+        yield from ((it, (required, test)) for it in re.findall(r"\(API\.md#([\w-]+)\)", calls))
+
+
+class Calls:
+    """The table, by the entries of API.md. What is amiss is added to `wrong`."""
+
+    def __init__(self, api):
+        self.api, self.required = api, dict(preconditions())
+
+    def requires(self, call):
+        """What a call requires, as CALLING.md says it, and what entries and closures require."""
+        clauses = [line.strip() for _, code, _ in self.api.entries[call] for line in code]
+        clauses = [it for it in clauses if re.match(r"requires\b|ghost can_", it)]
+        said, test = self.required.get(anchor(call), ("", ""))
+        has_own = any(not re.search(f"{SOUND}|{CLOSURE}", it) for it in clauses)
+        if has_own != (said != "" and not said.startswith("in a generic function")):
+            self.api.wrong.append(f"{GUIDE}: the table of preconditions and the contract of {call} don't agree")
+        yield from [f"{said} ({test})" if test else said] if said else []
+        yield from ["a sound entry"] * any(re.search(SOUND, it) for it in clauses)
+        yield from ["a closure that can be called on what it is given"] * any(re.search(CLOSURE, it) for it in clauses)
+
+    def row(self, call):
+        """The row of a call or a type."""
+        docs = [it for it, _, _ in self.api.entries[call]]
+        items = [it for _, _, it in self.api.entries[call]]
+        is_type = any(it.kind in TYPES for it in items)
+        owner = call.partition("::")[0] if "::" in call else ""
+        of_type = " ".join(it for it, _, _ in self.api.entries.get(owner, []))
+        cost = "" if is_type else scans(call, docs, of_type)
+        if not cost and not is_type:
+            self.api.wrong.append(f"tools/pages/calls.py: nothing says how many keys {call} compares")
+        return f"| [`{call}`](#{anchor(call)}) | {' '.join(does(docs))} | {'; '.join(self.requires(call))} | {cost} |"
+
+    def lines(self):
+        """The lines of the table, by groups."""
+        yield HEAD
+        for title, calls in self.api.groups.items():
+            yield f"| **[{title}](#{anchor(title)})** | | | |"
+            yield from map(self.row, calls)
+        known = {anchor(it) for it in self.api.entries}
+        self.api.wrong += [f"{GUIDE}: no call of {it}" for it in self.required if it not in known]
+        self.api.wrong += [f"tools/pages/calls.py: no call is {it}" for it in SAID if it not in self.api.entries]

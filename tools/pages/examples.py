@@ -1,0 +1,63 @@
+"""The example of each section of API.md: a proved caller, as its file has it."""
+import os
+import re
+
+from pages.sources import read
+
+HOME = "micromap's own repository"  # what a copied document says of a file that isn't copied
+# The sections with an example of a file, by the file and the first words of the caller. Others have one in a comment.
+EXAMPLES = {
+    "Map: make": "micromap_uses_tests/src/tests/generic.rt: fn no_ages",
+    "Map: look up": "micromap_uses_tests/src/tests/copies.rt: fn pieces",
+    "Map: remove": "micromap_uses/src/board.rt: pub fn move_piece",
+    "Map: iterate": "micromap_chains/src/reads.rt: pub fn total",
+    "Map: build and convert": "micromap_chains/src/builds.rt: pub fn map_of_list",
+    "Set: make": "micromap_uses_tests/src/tests/generic.rt: fn no_words",
+    "Set: look up": "micromap_uses_tests/src/tests/copies.rt: fn ends",
+    "Set: look up by probe": "micromap_uses_tests/src/tests/texts.rt: fn take_word",
+    "Set: remove": "micromap_uses/src/permissions.rt: pub fn revoke",
+    "Set: iterate": "micromap_chains/src/reads.rt: pub fn count_items_above",
+    "Set: compare": "micromap_uses/src/permissions.rt: pub fn may_the_same",
+    "Probes": "micromap_uses_tests/src/tests/folded.rt: impl<'a> Probe<String> for AnyCase",
+    "Streams": "micromap_whole_tests/src/tests/streams.rt: fn in_capacity",
+    "JSON": "micromap_whole_tests/src/tests/json.rt: fn rewritten",
+    "Errors": "micromap_chains/src/builds.rt: pub fn set_of_difference",
+    "Counting comparisons": "micromap_whole_tests/src/tests/counted.rt: fn looked_up",
+    "Iterators": "micromap_chains/src/reads.rt: pub fn greatest",
+    "Iterators of set operations": "micromap_chains/src/reads.rt: pub fn list_of_union",
+    "Written through a reference": "micromap_uses/src/frame.rt: pub fn update",
+}
+
+
+def caller(path, begins):
+    """A caller with the comment and the attributes above it, by its first words, or nothing if the file has none."""
+    lines = read(f"crates/{path}").split("\n") if os.path.exists(f"crates/{path}") else []
+    first = next((at for at, it in enumerate(lines) if re.match(rf" *{re.escape(begins)}\b", it)), None)
+    if first is None:
+        return ""
+    indent = re.match(" *", lines[first])[0]
+    last = lines.index(indent + "}", first)
+    while first > 0 and re.match(r" *(?:///? |#\[)", lines[first - 1]):
+        first -= 1
+    return "\n".join(it.removeprefix(indent) for it in lines[first : last + 1])
+
+
+def tactic(path):
+    """The line `#![tactic(..)]` that a file has, or the next module above it."""
+    folder = os.path.dirname(path)
+    above = f"{folder}.rt" if not folder.endswith("/src") else f"{folder}/lib.rt"
+    found = re.search(r"^#!\[tactic\(.*\)\]$", read(f"crates/{path}"), re.M)
+    return found[0] if found else tactic(above)
+
+
+def example(title, docs, wrong):
+    """The lines of a section's example, unless one of its doc comments has one."""
+    path, _, begins = EXAMPLES.get(title, "").partition(": ")
+    found = caller(path, begins) if path else ""
+    if path and not found:
+        wrong.append(f"tools/pages/examples.py: {path} has no {begins}")
+    if not path and not any("```" in it for it in docs):
+        wrong.append(f"tools/pages/examples.py: {title} has no example")
+    if not found:
+        return []
+    return ["", f"An example under `{tactic(path)}`, of `{path}`:", "", "```rust", found, "```"]
