@@ -26,7 +26,8 @@ TOTALS
 
 An *edit* puts a wrong body in the place of the right one. A row has the clauses that an edit is for, what is wrong in its body, and the first goal at \
 which the gate refused it; the same body may break others. An edit is a file in `must-fail/` of a crate. Some change lines of the proof too, so that \
-nothing but the clause refuses the body.
+nothing but the clause refuses the body. If the goal is in a written proof, the refusal shows only that this proof doesn't serve the wrong \
+body. `not recorded` is said of an edit that no recorded run of the gate has tried.
 
 In a goal's name `returns` is what holds at the return, and `returns-clause-pairs` is the clause `pairs` of it. \
 `insert-requires` is the precondition of a call of `insert`, `invariant_of-..` the invariant of a type, and `loop-..` \
