@@ -121,12 +121,13 @@ class Proved:
         found = re.search(rf"^{begins}[^\n]*\n(.*?)^\2\}}$", text, re.M | re.S)
         self.attributes, self.text = (found[1], found[3]) if found else ("", "")
         folder = f"crates/{self.crate}/proofs/**/{module}/**/"
-        self.proofs = {os.path.basename(it) for it in self.files(folder, "Answers")}
-        self.invariants = next(iter(self.files(folder, "Invariants")), "")
+        self.answers, self.invariants = (self.proof(f"{folder}*{self.name}/{it}.antt") for it in ("Answers", "Invariants"))
         wrong += [] if found else [f"tools/pages/loops.py: {self.path or self.crate} has no function {rest}"]
 
-    def files(self, folder, kind):
-        return sorted({it for mark in ("", "+") for it in glob.glob(f"{folder}{mark}{self.name}/{kind}.antt", recursive=True)})
+    def proof(self, pattern):
+        """The file of this pattern in the function's folder, which has a `+` before its name if the function is recursive."""
+        paths = sorted(glob.glob(pattern, recursive=True))
+        return next((it for it in paths if it.split("/")[-2].lstrip("+") == self.name), "")
 
     @property
     def where(self):
@@ -134,10 +135,10 @@ class Proved:
         return f"`{self.name}`, `{self.file}`" + f" of `{self.crate}`" * self.is_elsewhere
 
     @property
-    def rulesets(self):
-        """What is named in the line `tactic` of the function, or of its file, or of the next module above that has one."""
+    def tactic(self):
+        """What the line `tactic` of the function says, or that of its file, or of the next module above that has one."""
         line = self.attributes if "tactic(" in self.attributes else tactic(self.path.removeprefix("crates/"))
-        return next(iter(re.findall(r"using\(.*?\)", line)), "")
+        return re.search(r"tactic\(.*\)(?=\])", line)[0]
 
     @property
     def body(self):
@@ -148,7 +149,7 @@ class Proved:
     def as_chain(self):
         """The chain or the call with its place."""
         body = self.body.replace("|", "\\|")
-        needs = " (with an answer)" * bool(self.proofs)
+        needs = " (with an answer)" * bool(self.answers)
         return (f"`{body}`: " if len(body) <= MOST else "") + self.where + needs
 
     def as_loop(self, page):
@@ -165,11 +166,10 @@ class Proved:
     def entry(self):
         """The invariant as its file has it, in a crate of the user's, and what proves the loop."""
         loops = re.findall(r"^ *(for .*) \{$", self.text, re.M)
-        under = f"under `#[tactic(auto, {self.rulesets})]`" if self.rulesets else "under no ruleset"
-        needs = ", with an answer" * bool(self.proofs)
+        needs = ", with an answer" * bool(self.answers)
         goal = rf"^(use Rattle\.)[\w.+]*\.\+?({self.name})(?=\.Given as goal$)"
         text = re.sub(goal, r"\1my_crate.proofs.\2", read(self.invariants), flags=re.M)
-        head = f"`{'`, `'.join(loops)}`, {under}{needs}. In `{self.invariants.removeprefix('crates/')}`:"
+        head = f"`{'`, `'.join(loops)}`, under `#[{self.tactic}]`{needs}. In `{self.invariants.removeprefix('crates/')}`:"
         return f"### {self.title}\n\n{head}\n\n```antt\n{text.strip()}\n```\n"
 
 
@@ -199,15 +199,15 @@ def index(groups, page):
         yield f"### {title}\n\n| To | A chain or a call | A loop |\n|---|---|---|"
         for want, chains, loops in rows:
             cells = "; ".join(it.as_chain() for it in chains), "; ".join(it.as_loop(page) for it in loops)
-            yield " | ".join(["|", want, *cells, "|"]).replace("| |", "|").replace("|  |", "| |")
+            yield "|" + "".join(f" {it} |" if it else " |" for it in (want, *cells))
         yield ""
-    yield "| Chains and calls of | Rulesets |\n|---|---|"
-    chains = [it for rows in groups.values() for _, chains, _ in rows for it in chains]
-    files = ((it.path, f"| `{it.file}` of `{it.crate}` | {f'`{it.rulesets}`' if it.rulesets else 'none'} |") for it in chains)
-    yield from (row for _, row in sorted({*files}))
+    yield "| Chains and calls of | Are under |\n|---|---|"
+    chains = (it for rows in groups.values() for _, chains, _ in rows for it in chains if it.text)
+    lines = {(it.path, f"| `{it.file}` of `{it.crate}` | `#![{it.tactic}]` |") for it in chains}
+    yield from (line for _, line in sorted(lines))
 
 
 def entries(groups, page):
     """The invariants of the loops that the page doesn't have in its text."""
-    loops = {it.title: it for it in loops_of(groups) if it.invariants and not it.is_quoted(page)}
+    loops = {it.title: it for it in loops_of(groups) if it.text and it.invariants and not it.is_quoted(page)}
     yield "\n".join(it.entry() for it in loops.values())

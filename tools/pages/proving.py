@@ -17,8 +17,8 @@ def proving(wrong):
     parts |= {title: statements(by_hand, title, wrong) for title in SECTIONS}
     made = {name: "\n".join(lines).strip("\n") for name, lines in parts.items()}
     places = [name for _, name, _ in re.findall(PART, page, re.M | re.S)]
-    quoted = [it for it in loops_of(groups) if it.invariants and it.is_quoted(by_hand)]
-    wrong += [f"{PROVING}: {it.title} is quoted without {it.rulesets}" for it in quoted if it.rulesets not in by_hand]
+    quoted = [it for it in loops_of(groups) if it.text and it.invariants and it.is_quoted(by_hand)]
+    wrong += [f"{PROVING}: {it.title} is quoted without {it.tactic}" for it in quoted if it.tactic not in by_hand]
     wrong += [f"{PROVING}: {it} has {places.count(it)} places" for it in made if places.count(it) != 1]
     wrong += [f"tools/pages/proving.py: nothing makes {it}" for it in places if it not in made]
     return re.sub(PART, lambda it: f"{it[1]}\n{made.get(it[2], '')}\n\n{it[3]}", page, flags=re.M | re.S)
