@@ -70,7 +70,8 @@ def places(section):
 def wrong_of(section, known, title):
     """The names in those places that are no law, no module and no lemma of the standard library."""
     proofs = "".join(read(it) for it in glob.glob("crates/micromap*/proofs/*.antt"))
-    standard = {it for names in re.findall(r"^use Rattle\.std\.[\w.]+\.\{(.*)\}", proofs, re.M) for it in names.split(", ")}
+    imported = re.findall(r"^use Rattle\.std\.[\w.]+\.\{(.*)\}", proofs, re.M)
+    standard = {it for names in imported for it in names.split(", ")}
     for it in (it for place in places(section) for it in re.findall(NAME, place)):
         module, dot, name = it.rpartition(".")
         is_law = name in standard or name in known and known[name][0].endswith(dot + module)

@@ -163,13 +163,22 @@ class Proved:
         """Whether the page has the invariant in its text."""
         return self.invariants.removeprefix("crates/") in page
 
+    @property
+    def needs(self):
+        """What the proof needs beside the invariant."""
+        loop, content = (re.search(rf"^ *({it})$", self.text, re.M) for it in ("for .*", "let _content.*;"))
+        if content:
+            yield f"with `{content[1]}` {'before' if content.start() < loop.start() else 'after'} it"
+        if self.answers:
+            yield "with an answer"
+
     def entry(self):
         """The invariant as its file has it, in a crate of the user's, and what proves the loop."""
         loops = re.findall(r"^ *(for .*) \{$", self.text, re.M)
-        needs = ", with an answer" * bool(self.answers)
+        under = ", ".join([f"under `#[{self.tactic}]`", *self.needs])
         goal = rf"^(use Rattle\.)[\w.+]*\.\+?({self.name})(?=\.Given as goal$)"
         text = re.sub(goal, r"\1my_crate.proofs.\2", read(self.invariants), flags=re.M)
-        head = f"`{'`, `'.join(loops)}`, under `#[{self.tactic}]`{needs}. In `{self.invariants.removeprefix('crates/')}`:"
+        head = f"`{'`, `'.join(loops)}`, {under}. In `{self.invariants.removeprefix('crates/')}`:"
         return f"### {self.title}\n\n{head}\n\n```antt\n{text.strip()}\n```\n"
 
 
@@ -182,9 +191,11 @@ def rows_of_index(wrong):
             continue
         want, *named = line.split("|")
         chains, loops = ([it.strip() for it in names.split(",") if it.strip()] for names in named)
-        rows.append((want.strip(), [Proved(it, CHAINS, wrong) for it in chains], [Proved(it, LOOPS, wrong) for it in loops]))
+        chains, loops = [Proved(it, CHAINS, wrong) for it in chains], [Proved(it, LOOPS, wrong) for it in loops]
+        rows.append((want.strip(), chains, loops))
     paths = {it.title: it.path for it in loops_of(groups)}
-    wrong += [f"tools/pages/loops.py: two loops are {it.title}" for it in loops_of(groups) if it.path != paths[it.title]]
+    twice = (it.title for it in loops_of(groups) if it.path != paths[it.title])
+    wrong += [f"tools/pages/loops.py: two loops are {it}" for it in twice]
     return groups
 
 
