@@ -61,6 +61,17 @@ impl<T, const N: usize> Column<T, N> {
     }
 }
 
+impl<T: Copy, const N: usize> Column<T, N> {
+    #[inline]
+    fn copied(&self) -> Self {
+        let mut copy: Self = Column::new();
+        // SAFETY: there are at most as many items as slots, here and in the copy, and they are `Copy`.
+        unsafe { ptr::copy_nonoverlapping(self.slots.as_ptr(), copy.slots.as_mut_ptr(), self.len) };
+        copy.len = self.len;
+        copy
+    }
+}
+
 impl<T, const N: usize> Drop for Column<T, N> {
     #[inline]
     fn drop(&mut self) {
@@ -192,6 +203,13 @@ impl<K: Clone, V: Clone, const N: usize> Clone for Columns<K, V, N> {
     }
 }
 
+impl<K: Copy, V: Copy, const N: usize> Columns<K, V, N> {
+    #[inline]
+    fn copied(&self) -> Self {
+        Columns { keys: self.keys.copied(), values: self.values.copied() }
+    }
+}
+
 impl<const N: usize> Numbers for Columns<u64, u64, N> {
     #[inline]
     fn with_room(_memory: Global, _room: u64) -> Self {
@@ -245,6 +263,12 @@ impl<const N: usize> Numbers for Columns<u64, u64, N> {
     #[inline]
     fn clone_and_find(&self, key: u64) -> u64 {
         let copy = self.clone();
+        copy.find(key).unwrap_or(0).wrapping_add(copy.count())
+    }
+
+    #[inline]
+    fn copy_and_find(&self, key: u64) -> u64 {
+        let copy = self.copied();
         copy.find(key).unwrap_or(0).wrapping_add(copy.count())
     }
 

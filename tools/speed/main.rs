@@ -5,8 +5,8 @@
 //!     size  TYPE  CAPACITY  BYTES  BYTES
 //!
 //! The nanoseconds are those of a round at the Rust crate. The ratios are the times over the Rust crate's of this library,
-//! of its layout in `unsafe` Rust and, for numbers, of the scan by hand and of the `IndexMap`. Each figure is a median over
-//! the turns. A `~` follows a ratio if the medians over the first half of the turns and over the second differ by more than
+//! of its layout in `unsafe` Rust and, for numbers, of the scan by hand, `IndexMap`, `HashMap` and `BTreeMap`. Each figure
+//! is a median over the turns. A `~` follows a ratio if the medians over the first half of the turns and over the second differ by more than
 //! a tenth. The bytes are this library's and the Rust crate's.
 
 // The files of workloads are those of the static library, so that both sides run the same text.
@@ -100,7 +100,7 @@ macro_rules! subject {
 
 fn subjects() -> [Subject; 4] {
     [
-        subject!("numbers", "Map<u64, u64, N>", numbers, NumberMap, NumberColumns, [0, 1, 2]),
+        subject!("numbers", "Map<u64, u64, N>", numbers, NumberMap, NumberColumns, [0, 1, 2, 6, 7]),
         subject!("set of bytes", "Set<u8, N>", bytes, ByteSet, ByteColumns, [3]),
         subject!("texts", "Map<String, u64, N>", texts, TextMap, TextColumns, [4]),
         subject!("24-byte values", "Map<u64, [u64; 3], N>", wide, WideMap, WideColumns, [5]),

@@ -1,14 +1,16 @@
 //! Workloads over this library's map and set, for the driver in `tools/speed` that times them beside the Rust crate's.
 //!
 //! `inputs` and the files of workloads (`bytes`, `numbers`, `texts` and `wide`) have no clause and are Rust as well:
-//! the driver compiles the same files. `library` has the workloads' calls at this library's types, and `scan` and
-//! `index_map` have them at types that a user might take in their place. A workload is proved to be safe and to end.
-//! The driver compares what it returns.
+//! the driver compiles the same files. `library` has the workloads' calls at this library's types, and `scan`,
+//! `index_map`, `hash_map` and `btree_map` have them at types that a user might take in their place. A workload is proved
+//! to be safe and to end. The driver compares what it returns.
 #![tactic(auto)]
 
 ghost use Rattle.std.specs.Prelude.{◌≤◌};
 
+mod btree_map;
 pub mod bytes;
+mod hash_map;
 mod index_map;
 pub mod inputs;
 mod library;
@@ -22,6 +24,7 @@ use arrayvec::ArrayVec;
 use indexmap::IndexMap;
 use micromap::{Map, Set};
 use std::alloc::Global;
+use std::collections::{BTreeMap, HashMap};
 use std::mem;
 
 type NumberMap<const N: usize> = Map<u64, u64, N>;
@@ -66,6 +69,8 @@ fn run<const N: usize>(memory: Global, subject: u64, workload: u64, salt: u64, r
         3 => bytes::run::<ByteSet<N>, N>(memory, workload, salt, rounds),
         4 => texts::run::<TextMap<N>, N>(memory, workload, salt, rounds),
         5 => wide::run::<WideMap<N>, N>(memory, workload, salt, rounds),
+        6 => numbers::run::<HashMap<u64, u64>, N>(memory, workload, salt, rounds),
+        7 => numbers::run::<BTreeMap<u64, u64>, N>(memory, workload, salt, rounds),
         _ => u64::MAX,
     }
 }

@@ -69,6 +69,12 @@ impl<const N: usize> Numbers for Map<u64, u64, N> {
     }
 
     #[inline]
+    fn copy_and_find(&self, key: u64) -> u64 {
+        let copy = self.copied();
+        copy.find(key).unwrap_or(0).wrapping_add(copy.count())
+    }
+
+    #[inline]
     fn collect_and_find(&self, _memory: Global, _room: u64, first: u64, key: u64) -> u64 {
         let made: Result<Map<u64, u64, N>, Overfull> = Map::try_from_iter((0..N as u64).map(
             |index| (key_of(index, first), index),

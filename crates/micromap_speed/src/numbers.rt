@@ -31,6 +31,12 @@ pub trait Numbers: Drop {
     /// Clones the map, and looks a key up in the clone: its value plus the number of keys.
     fn clone_and_find(&self, key: u64) -> u64;
 
+    /// The same with a call that copies pairs that are `Copy`, where there is one.
+    #[inline]
+    fn copy_and_find(&self, key: u64) -> u64 {
+        self.clone_and_find(key)
+    }
+
     /// Makes another map of `room` pairs, by a call that takes an iterator where there is one, and looks a key up in it: its
     /// value plus the number of keys. Each pair is the key of an index from the odd number `first`, and that index.
     #[inline]
@@ -186,12 +192,23 @@ fn walk<M: Numbers, const N: usize>(memory: Global, salt: u64, rounds: u64) -> u
 }
 
 #[inline(never)]
-fn copy<M: Numbers, const N: usize>(memory: Global, salt: u64, rounds: u64) -> u64 {
+fn cloned<M: Numbers, const N: usize>(memory: Global, salt: u64, rounds: u64) -> u64 {
     let mut map: M = filled::<M, N>(memory, salt);
     let mut sum = 0u64;
     for round in 0..rounds {
         let _old = map.put(salt, round);
         sum = sum.wrapping_add(map.clone_and_find(salt));
+    }
+    sum
+}
+
+#[inline(never)]
+fn copied<M: Numbers, const N: usize>(memory: Global, salt: u64, rounds: u64) -> u64 {
+    let mut map: M = filled::<M, N>(memory, salt);
+    let mut sum = 0u64;
+    for round in 0..rounds {
+        let _old = map.put(salt, round);
+        sum = sum.wrapping_add(map.copy_and_find(salt));
     }
     sum
 }
@@ -243,7 +260,7 @@ fn hand_on<M: Numbers, const N: usize>(memory: Global, salt: u64, rounds: u64) -
 }
 
 /// The names of the workloads, by their numbers.
-pub const NAMES: [&'static str; 12] = [
+pub const NAMES: [&'static str; 13] = [
     "get, hit",
     "get, miss",
     "overwrite",
@@ -253,6 +270,7 @@ pub const NAMES: [&'static str; 12] = [
     "count by entries",
     "walk",
     "clone",
+    "copied",
     "from an iterator",
     "from an array",
     "put one, hand on",
@@ -274,10 +292,11 @@ pub fn run<M: Numbers, const N: usize>(
         5 => retain::<M, N>(memory, salt, rounds),
         6 => count_keys::<M, N>(memory, salt, rounds),
         7 => walk::<M, N>(memory, salt, rounds),
-        8 => copy::<M, N>(memory, salt, rounds),
-        9 => collect::<M, N>(memory, salt, rounds),
-        10 => from_array::<M, N>(memory, salt, rounds),
-        11 => hand_on::<M, N>(memory, salt, rounds),
+        8 => cloned::<M, N>(memory, salt, rounds),
+        9 => copied::<M, N>(memory, salt, rounds),
+        10 => collect::<M, N>(memory, salt, rounds),
+        11 => from_array::<M, N>(memory, salt, rounds),
+        12 => hand_on::<M, N>(memory, salt, rounds),
         _ => u64::MAX,
     }
 }

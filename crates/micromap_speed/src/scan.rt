@@ -85,4 +85,11 @@ impl<const N: usize> Numbers for ArrayVec<(u64, u64), N> {
             Err(_) => u64::MAX,
         }
     }
+
+    #[inline]
+    fn copy_and_find(&self, key: u64) -> u64 {
+        let mut copy: Self = ArrayVec::new();
+        let _full = copy.try_extend_from_slice(self.as_slice());
+        copy.find(key).unwrap_or(0).wrapping_add(copy.count())
+    }
 }
