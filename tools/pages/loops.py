@@ -1,0 +1,224 @@
+"""The index of PROVING.md by what one wants: proved chains, calls and loops, with what proves each."""
+import glob
+import os
+import re
+
+from pages.examples import tactic
+from pages.sources import anchor, read
+
+# A group begins with `#`. A row has what one wants, the chains and calls that do it, and the loops. Each is named by its
+# crate without `micromap_`, its file and its name. A crate that isn't named is CHAINS, or LOOPS in the last column.
+CHAINS, LOOPS = "micromap_chains", "micromap_uses_tests"
+INDEX = """
+# Reading a map or a set
+ask whether a value or an item passes a test | reads::any_value, reads::any_item_above |
+ask whether a pair passes | reads::any_pair |
+ask whether all values pass | reads::all_below |
+ask whether all of a list are items | folds::has_all | passing::has_all
+count the values that pass | reads::count_above | walks::values_over
+count the pairs that pass | reads::count_pairs |
+count the items that pass | reads::count_items_above | tallied::items_over
+count the values that are their own index | reads::count_at_index |
+count the members of an operation on two sets | reads::count_union, reads::count_common, set_tests/operations::missing |
+add up the values, if the sum fits | reads::total | map_tests/walks::total
+add up the values of a map by value | reads::total_of |
+count the pairs of a map by value that pass | reads::count_of |
+add up the members of an operation on two sets, if the sum fits | | set_tests/operations::total
+find the greatest value | reads::greatest |
+find the least key | reads::least_key |
+find the greatest key of the pairs that pass | reads::greatest_key_above |
+find the greatest member of an operation on two sets | folds::greatest_alone |
+find the first key that passes | reads::first_key_above | walks::first_over
+find the first key whose value passes | folds::first_above |
+find the first key whose value, a set, has a member | | combined::group_of
+find a pair that passes, which is what its key finds | | walks::pair_over
+find such a pair with keys of any type, or of a struct with a derived `==` | | walks::any_over, walks::square_of
+find a key that passes, which is stored | | walks::key_other
+find an item that passes, which is a member, of numbers or of any type | | walks::item_over, walks::other_than
+find the index of a value | reads::position_of |
+read the pair at an index, or the last value | reads::pair_at, reads::last_value |
+read the pairs or items at both ends | uses_tests/copies::oldest_and_newest, uses_tests/copies::ends |
+compare two maps in their order | reads::have_equal_values, uses_tests/combined::have_keys_in_order |
+list the keys in a `Vec`, all or those whose value passes | reads::list_of_keys, reads::list_of_keys_above |
+list the members of an operation in a `Vec`, all or those that pass | reads::list_of_union, set_tests/operations::evens |
+# Building from a list
+make a map of pairs, of two lists, of a `Vec` | builds::map_of_list, builds::map_of_lists, builds::map_of_vec |
+make a set of items | builds::set_of_list | counts::distinct_items
+make a set of what a function makes of each | builds::set_of_halves |
+count how often each item comes | | uses/votes::tally
+count in numbers that may overflow | | merged::count_numbers
+add each amount to its key's total, in a map that is there, or in a new one by entry | | merged::add_amounts, merged::totals_of
+add the amounts of a `Vec` by value, or of any iterator | | merged::add_vector, merged::add_all
+add amounts up to the first that doesn't fit or overflows | | merged::add_before
+keep the greatest amount of each key | | merged::keep_greatest
+merge by a step of one's own that may fail | | uses/headers::collect
+put pairs into a map | extends::put_list | generic::put_each
+put items into a set | | generic::add_each
+put the items that pass into a set | extends::put_above |
+count how many different keys or items there are, in a local of any capacity | | generic::count_keys, generic::count_items, walks::count_different
+# Building from another map or set
+make a map of the pairs that pass | uses_tests/copies::over | built::pairs_over
+make a map of the pairs of a map by value that pass | builds::map_above |
+make a map with other values | uses_tests/copies::doubled | built::doubled
+make a map with other values of the pairs that pass, as far as they fit | folds::halves |
+make a map of the pairs that another map lacks, as far as they fit | folds::lacking |
+copy a map whose values are cloned | | built::copied
+make a set of the items that pass | uses_tests/copies::evens, builds::set_above | collected::items_over
+make a set of the keys, or of the values | builds::set_of_keys, builds::set_of_values |
+make a set of the keys whose value passes | | built::keys_over
+make a set of a union | builds::set_of_union | collected::all_items
+make a set of a difference | builds::set_of_difference |
+make a set of an intersection | set_tests/operations::common_neighbours |
+know exactly when the set of an operation is refused | set_tests/operations::joined, uses_tests/counts::first_items, uses_tests/counts::common_items, uses_tests/counts::single_items |
+make a set of the items of several sets, as far as they fit | folds::gathered |
+# Texts as keys or items
+make a map with `&str` keys of a list, as far as they fit | folds::named |
+count how often each word comes | | gathered::counted
+make a map of names and amounts | | gathered::amounts_of
+make a set of names | | spelled::set_of
+add up the values, if the sum fits | texts::total | texts::total
+ask whether a key passes, or count the values that pass | texts::any_long, texts::count_large |
+count the items that pass | | tallied::longer
+ask whether all texts of a list are keys, or any is an item | | passing::has_names, passing::has_any
+change all values, or keep the pairs that pass, in place | uses_tests/named::double_all, uses_tests/named::keep_over, uses_tests/named::keep_longer |
+make a map with other values | | named::doubled
+make a map of the pairs that pass | | named::names_over
+clone a map, in a function of its own before a loop | uses_tests/moved::copied |
+put a map into another, or add its amounts | | named::add_all, added::add_all
+make a set of the keys of a map | | spelled::names_of
+make a set of the items that pass, or that begin with a `&str` | | spelled::longer, spelled::beginning
+make a set of what a text is made into | | spelled::prefixed
+make a set of a union, or of an intersection | | spelled::all_names, spelled::common_names
+make a set of a difference, or of a symmetric one | | spelled::names_beyond, spelled::single_names
+take the names of a set, or of a list, out of a set | | spelled::remove_names, spelled::remove_listed
+drop the words that begin with a text | uses_tests/texts::drop_beginning |
+# Searching one and changing another
+put a map into another, as far as it fits; up to the first that doesn't fit | folds::merged | built::add_all
+put a map by value into another, all or nothing | uses_tests/combined::merge |
+move what `drain` yields into another map | extends::put_drained |
+add a map's amounts to the totals of another | | merged::add_map
+put the items of a set, or the keys of a map, into a set | extends::put_items, extends::put_keys | collected::add_all_items
+take the items of a set out of another | | collected::remove_all_items
+take the items of a list out of a set | folds::left_over | collected::remove_listed
+keep the pairs whose key is in a set | uses_tests/combined::restrict |
+keep some pairs, and insert one | uses_tests/copies::keep_and_insert |
+add what a search comes to, by a recursive call | | uses/graph::search
+"""
+MOST = 150  # of letters of a chain that is shown
+
+
+class Proved:
+    """A proved function: its file, its text, what its proof names, and its invariants. What is amiss is added to `wrong`."""
+
+    def __init__(self, name, crate, wrong):
+        within, _, rest = name.rpartition("/")
+        self.crate, (module, self.name) = f"micromap_{within}" if within else crate, rest.split("::")
+        self.is_elsewhere, self.file, self.title = self.crate != crate, f"{module}.rt", f"`{rest}`"
+        paths = [f"crates/{self.crate}/src/{it}{module}.rt" for it in ("", "tests/")]
+        self.path = next((it for it in paths if os.path.exists(it)), "")
+        text = read(self.path) if self.path else ""
+        begins = rf"((?: *#\[[^\n]*\]\n)*)( *)(?:pub(?:\(\w+\))? )?fn {self.name}\b"
+        found = re.search(rf"^{begins}[^\n]*\n(.*?)^\2\}}$", text, re.M | re.S)
+        self.attributes, self.text = (found[1], found[3]) if found else ("", "")
+        folder = f"crates/{self.crate}/proofs/**/{module}/**/"
+        self.answers, self.invariants = (self.proof(f"{folder}*{self.name}/{it}.antt") for it in ("Answers", "Invariants"))
+        wrong += [] if found else [f"tools/pages/loops.py: {self.path or self.crate} has no function {rest}"]
+
+    def proof(self, pattern):
+        """The file of this pattern in the function's folder, which has a `+` before its name if the function is recursive."""
+        paths = sorted(glob.glob(pattern, recursive=True))
+        return next((it for it in paths if it.split("/")[-2].lstrip("+") == self.name), "")
+
+    @property
+    def where(self):
+        """The function and its file."""
+        return f"`{self.name}`, `{self.file}`" + f" of `{self.crate}`" * self.is_elsewhere
+
+    @property
+    def tactic(self):
+        """What the line `tactic` of the function says, or that of its file, or of the next module above that has one."""
+        line = self.attributes if "tactic(" in self.attributes else tactic(self.path.removeprefix("crates/"))
+        return re.search(r"tactic\(.*\)(?=\])", line)[0]
+
+    @property
+    def body(self):
+        """The body in one line."""
+        body = self.text.partition("\n{\n")[2] or self.text.partition(" {\n")[2]
+        return re.sub(r" (?=[.)])|(?<=\() ", "", " ".join(body.split()))
+
+    def as_chain(self):
+        """The chain or the call with its place."""
+        body = self.body.replace("|", "\\|")
+        needs = " (with an answer)" * bool(self.answers)
+        return (f"`{body}`: " if len(body) <= MOST else "") + self.where + needs
+
+    def as_loop(self, page):
+        """The place of the loop, which leads to its invariant."""
+        if not self.invariants:
+            return f"{self.where} (without an invariant)"
+        at = anchor("An invariant" if self.is_quoted(page) else self.title)
+        return f"[`{self.name}`](#{at}), `{self.file}`" + f" of `{self.crate}`" * self.is_elsewhere
+
+    def is_quoted(self, page):
+        """Whether the page has the invariant in its text."""
+        return self.invariants.removeprefix("crates/") in page
+
+    @property
+    def needs(self):
+        """What the proof needs beside the invariant."""
+        loop, content = (re.search(rf"^ *({it})$", self.text, re.M) for it in ("for .*", "let _content.*;"))
+        if content:
+            yield f"with `{content[1]}` {'before' if content.start() < loop.start() else 'after'} it"
+        if self.answers:
+            yield "with an answer"
+
+    def entry(self):
+        """The invariant as its file has it, in a crate of the user's, and what proves the loop."""
+        loops = re.findall(r"^ *(for .*) \{$", self.text, re.M)
+        under = ", ".join([f"under `#[{self.tactic}]`", *self.needs])
+        goal = rf"^(use Rattle\.)[\w.+]*\.\+?({self.name})(?=\.Given as goal$)"
+        text = re.sub(goal, r"\1my_crate.proofs.\2", read(self.invariants), flags=re.M)
+        head = f"`{'`, `'.join(loops)}`, {under}. In `{self.invariants.removeprefix('crates/')}`:"
+        return f"### {self.title}\n\n{head}\n\n```antt\n{text.strip()}\n```\n"
+
+
+def rows_of_index(wrong):
+    """The groups of the index with their rows: what one wants, the chains and calls, and the loops."""
+    groups = {}
+    for line in INDEX.strip().split("\n"):
+        if line.startswith("# "):
+            rows = groups.setdefault(line[2:], [])
+            continue
+        want, *named = line.split("|")
+        chains, loops = ([it.strip() for it in names.split(",") if it.strip()] for names in named)
+        chains, loops = [Proved(it, CHAINS, wrong) for it in chains], [Proved(it, LOOPS, wrong) for it in loops]
+        rows.append((want.strip(), chains, loops))
+    paths = {it.title: it.path for it in loops_of(groups)}
+    twice = (it.title for it in loops_of(groups) if it.path != paths[it.title])
+    wrong += [f"tools/pages/loops.py: two loops are {it}" for it in twice]
+    return groups
+
+
+def loops_of(groups):
+    """The loops of all rows, in order."""
+    return [it for rows in groups.values() for _, _, loops in rows for it in loops]
+
+
+def index(groups, page):
+    """The tables of what one wants, and what the files of chains name."""
+    for title, rows in groups.items():
+        yield f"### {title}\n\n| To | A chain or a call | A loop |\n|---|---|---|"
+        for want, chains, loops in rows:
+            cells = "; ".join(it.as_chain() for it in chains), "; ".join(it.as_loop(page) for it in loops)
+            yield "|" + "".join(f" {it} |" if it else " |" for it in (want, *cells))
+        yield ""
+    yield "| Chains and calls of | Are under |\n|---|---|"
+    chains = (it for rows in groups.values() for _, chains, _ in rows for it in chains if it.text)
+    lines = {(it.path, f"| `{it.file}` of `{it.crate}` | `#![{it.tactic}]` |") for it in chains}
+    yield from (line for _, line in sorted(lines))
+
+
+def entries(groups, page):
+    """The invariants of the loops that the page doesn't have in its text."""
+    loops = {it.title: it for it in loops_of(groups) if it.text and it.invariants and not it.is_quoted(page)}
+    yield "\n".join(it.entry() for it in loops.values())
