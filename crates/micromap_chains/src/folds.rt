@@ -1,7 +1,8 @@
 //! Maps and sets that are made by `fold`, where no call makes them. A fold moves the map in each turn.
 #![tactic(auto)]
 
-ghost use Rattle.std.specs.Prelude.{◌≡◌, ◌/◌, ◌+◌, ◌&&◌, [], Some, None, List, Option, ℕ, true, filter, fold, if◌then◌else◌, is_none, max, nat_eq, nat_lt, not, unwrap_or};
+ghost use Rattle.std.specs.Prelude.{◌≡◌, ◌/◌, ◌+◌, ◌&&◌, [], Some, None, List, Option, ℕ, true, filter, fold, if◌then◌else◌, is_none, length, max, nat_eq, nat_lt, not, unwrap_or};
+ghost use Rattle.std.specs.List.{zip};
 ghost use Rattle.std.specs.Set.{is_member};
 ghost use Rattle.std.specs.Ordering.{on};
 ghost use Rattle.std.specs.Str.{bytes_eq};
@@ -121,4 +122,46 @@ pub fn greatest_alone(a: &Set<u8, 16>, b: &Set<u8, 16>) -> u8
 {
     a.difference(b)
         .fold(0, |most, x| if most < *x { *x } else { most })
+}
+
+/// Returns each key of a list with the value at the same index of another, as far as they fit.
+pub fn zipped(keys: &[u8], values: &[u8]) -> Map<u8, u8, 16>
+    ensures { result ≡ fold (λ (m : List (ℕ × ℕ)) (p : ℕ × ℕ). put_if_fits nat_eq 16 m p.0 p.1) [] (zip keys.now values.now) }
+{
+    keys.iter()
+        .zip(values.iter())
+        .fold(Map::new(), |mut m, (k, v)| {
+            m.checked_insert(*k, *v);
+            m
+        })
+}
+
+/// Returns the halves of the items of a list, as far as they fit.
+pub fn halves_of_list(list: &[u8]) -> Map<u8, u8, 16>
+    ensures { result ≡ fold (λ (m : List (ℕ × ℕ)) (x : ℕ). put_if_fits nat_eq 16 m x (x / 2)) [] list.now }
+{
+    list.iter().fold(Map::new(), |mut m, x| {
+        m.checked_insert(*x, *x / 2);
+        m
+    })
+}
+
+/// Returns the pairs of a map with key and value exchanged, as far as they fit.
+pub fn turned(pairs: &Map<u8, u8, 8>) -> Map<u8, u8, 8>
+    ensures { result ≡ fold (λ (m : List (ℕ × ℕ)) (p : ℕ × ℕ). put_if_fits nat_eq 8 m p.1 p.0) [] pairs.now }
+{
+    pairs.iter().fold(Map::new(), |mut m, (k, v)| {
+        m.checked_insert(*v, *k);
+        m
+    })
+}
+
+/// Returns how many bytes the longest of the keys has.
+pub fn longest(names: &Map<&str, u64, 16>) -> usize
+    ensures { result ≡ fold (λ most p. max most (length p.0.now)) 0 names.now }
+{
+    names.iter().fold(
+        0,
+        |most, (name, _)| if most < name.len() { name.len() } else { most },
+    )
 }

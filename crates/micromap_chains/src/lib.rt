@@ -3,7 +3,9 @@
 #![tactic(auto)]
 
 pub mod builds;
+pub mod copies;
 pub mod extends;
 pub mod folds;
+pub mod members;
 pub mod reads;
 pub mod texts;

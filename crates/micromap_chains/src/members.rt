@@ -1,0 +1,83 @@
+//! Chains whose tests look into another map or set.
+#![tactic(auto)]
+
+ghost use Rattle.std.specs.Prelude.{◌≡◌, count_by, nat_eq};
+ghost use Rattle.std.specs.List.{list_all, list_any};
+ghost use Rattle.std.specs.Map.{values_of};
+ghost use Rattle.std.specs.Set.{is_member};
+ghost use Rattle.micromap.specs.Pairs.{has};
+
+use micromap::{Map, Set};
+
+/// Returns how many items of a list are in a set.
+pub fn count_stored(set: &Set<u8, 16>, list: &[u8]) -> usize
+    ensures { result ≡ count_by (is_member nat_eq set.now) list.now }
+{
+    list.iter().filter(|x| set.contains(*x)).count()
+}
+
+/// The same for any capacity.
+pub fn count_stored_any<const N: usize>(set: &Set<u8, N>, list: &[u8]) -> usize
+    ensures { result ≡ count_by (is_member nat_eq set.now) list.now }
+{
+    list.iter()
+        .filter(
+            |x: &&u8| -> bool
+                ensures { result ≡ is_member nat_eq set.entry.now x.now.now }
+            { set.contains(*x) },
+        )
+        .count()
+}
+
+/// Returns `true` if all items of a list are in a set.
+pub fn all_stored(set: &Set<u8, 16>, list: &[u8]) -> bool
+    ensures { result ≡ list_all (is_member nat_eq set.now) list.now }
+{
+    list.iter().all(|x| set.contains(x))
+}
+
+/// The same for any capacity.
+pub fn all_stored_any<const N: usize>(set: &Set<u8, N>, list: &[u8]) -> bool
+    ensures { result ≡ list_all (is_member nat_eq set.now) list.now }
+{
+    list.iter().all(
+        |x: &u8| -> bool
+            ensures { result ≡ is_member nat_eq set.entry.now x.now }
+        { set.contains(x) },
+    )
+}
+
+/// Returns how many items of a set are in another.
+pub fn count_known(a: &Set<u8, 16>, b: &Set<u8, 8>) -> usize
+    ensures { result ≡ count_by (is_member nat_eq b.now) a.now }
+{
+    a.iter().filter(|x| b.contains(*x)).count()
+}
+
+/// Returns `true` if all keys of a list are stored.
+pub fn all_keys(map: &Map<u8, u32, 16>, list: &[u8]) -> bool
+    ensures { result ≡ list_all (has nat_eq map.now) list.now }
+{
+    list.iter().all(|k| map.contains_key(k))
+}
+
+/// Returns `true` if all values of a map are in a set.
+pub fn values_are_known(map: &Map<u8, u8, 16>, set: &Set<u8, 8>) -> bool
+    ensures { result ≡ list_all (is_member nat_eq set.now) (values_of map.now) }
+{
+    map.values().all(|v| set.contains(v))
+}
+
+/// Returns `true` if a key of a map is in another.
+pub fn any_key(a: &Map<u8, u32, 16>, b: &Map<u8, u32, 8>) -> bool
+    ensures { result ≡ list_any (λ p. has nat_eq b.now p.0) a.now }
+{
+    a.iter().any(|(k, _)| b.contains_key(k))
+}
+
+/// Returns `true` if all keys of a map are in another.
+pub fn all_keys_of(a: &Map<u8, u32, 16>, b: &Map<u8, u32, 8>) -> bool
+    ensures { result ≡ list_all (λ p. has nat_eq b.now p.0) a.now }
+{
+    a.iter().all(|(k, _)| b.contains_key(k))
+}
