@@ -14,10 +14,13 @@ INDEX = """
 ask whether a value or an item passes a test | reads::any_value, reads::any_item_above |
 ask whether a pair passes | reads::any_pair |
 ask whether all values pass | reads::all_below |
-ask whether all of a list are items | folds::has_all | passing::has_all
+ask whether all of a list are items, or are keys | members::all_stored, members::all_stored_any, members::all_keys | passing::has_all
+ask whether all values are items of a set, or all keys or any are in another map | members::values_are_known, members::all_keys_of, members::any_key |
+ask whether any or all members of an operation on two sets pass | copies::any_common_above, copies::all_single_below |
 count the values that pass | reads::count_above | walks::values_over
 count the pairs that pass | reads::count_pairs |
 count the items that pass | reads::count_items_above | tallied::items_over
+count the items of a list, or of a set, that are in a set | members::count_stored, members::count_stored_any, members::count_known |
 count the values that are their own index | reads::count_at_index |
 count the members of an operation on two sets | reads::count_union, reads::count_common, set_tests/operations::missing |
 add up the values, if the sum fits | reads::total | map_tests/walks::total
@@ -57,13 +60,16 @@ put items into a set | | generic::add_each
 put the items that pass into a set | extends::put_above |
 count how many different keys or items there are, in a local of any capacity | | generic::count_keys, generic::count_items, walks::count_different
 # Building from another map or set
-make a map of the pairs that pass | uses_tests/copies::over | built::pairs_over
+make a map of the pairs that pass | copies::above | built::pairs_over
+make a map of the pairs that pass, in another capacity, and know exactly when it is refused | copies::above_in |
 make a map of the pairs of a map by value that pass | builds::map_above |
-make a map with other values | uses_tests/copies::doubled | built::doubled
+make a map with other values | copies::halved | built::doubled
+make a map of a list, or of two lists of keys and values, as far as they fit | folds::halves_of_list, folds::zipped |
+make a map with key and value exchanged, as far as they fit | folds::turned |
 make a map with other values of the pairs that pass, as far as they fit | folds::halves |
-make a map of the pairs that another map lacks, as far as they fit | folds::lacking |
+make a map of the pairs that another map lacks | copies::lacking, copies::lacking_any |
 copy a map whose values are cloned | | built::copied
-make a set of the items that pass | uses_tests/copies::evens, builds::set_above | collected::items_over
+make a set of the items that pass, or that another set lacks | copies::items_above, copies::items_lacking | collected::items_over
 make a set of the keys, or of the values | builds::set_of_keys, builds::set_of_values |
 make a set of the keys whose value passes | | built::keys_over
 make a set of a union | builds::set_of_union | collected::all_items
@@ -78,6 +84,7 @@ make a map of names and amounts | | gathered::amounts_of
 make a set of names | | spelled::set_of
 add up the values, if the sum fits | texts::total | texts::total
 ask whether a key passes, or count the values that pass | texts::any_long, texts::count_large |
+find how long the longest key is | folds::longest |
 count the items that pass | | tallied::longer
 ask whether all texts of a list are keys, or any is an item | | passing::has_names, passing::has_any
 change all values, or keep the pairs that pass, in place | uses_tests/named::double_all, uses_tests/named::keep_over, uses_tests/named::keep_longer |
@@ -93,7 +100,7 @@ make a set of a difference, or of a symmetric one | | spelled::names_beyond, spe
 take the names of a set, or of a list, out of a set | | spelled::remove_names, spelled::remove_listed
 drop the words that begin with a text | uses_tests/texts::drop_beginning |
 # Searching one and changing another
-put a map into another, as far as it fits; up to the first that doesn't fit | folds::merged | built::add_all
+put a map into another, up to the first that doesn't fit; as far as it fits | copies::put_map, folds::merged | built::add_all
 put a map by value into another, all or nothing | uses_tests/combined::merge |
 move what `drain` yields into another map | extends::put_drained |
 add a map's amounts to the totals of another | | merged::add_map

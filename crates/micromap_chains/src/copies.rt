@@ -82,7 +82,7 @@ pub fn lacking(pairs: &Map<u8, u32, 8>, other: &Map<u8, u32, 16>) -> Map<u8, u32
     some
 }
 
-/// The same for any capacity.
+/// Returns the pairs whose keys another map lacks, for any capacity.
 pub fn lacking_any<const N: usize, const M: usize>(
     pairs: &Map<u8, u32, N>,
     other: &Map<u8, u32, M>,

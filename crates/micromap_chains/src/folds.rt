@@ -24,20 +24,6 @@ pub fn tally(votes: &[u8]) -> Map<u8, u32, 16>
     })
 }
 
-/// Returns the pairs whose keys another map lacks.
-pub fn lacking(pairs: &Map<u8, u8, 8>, other: &Map<u8, u8, 16>) -> Map<u8, u8, 8>
-    ensures { result ≡ fold (λ (m : List (ℕ × ℕ)) (p : ℕ × ℕ). put_if_fits nat_eq 8 m p.0 p.1) []
-        (filter (λ p. not (has nat_eq other.now p.0)) pairs.now) }
-{
-    pairs
-        .iter()
-        .filter(|(k, _)| !other.contains_key(*k))
-        .fold(Map::new(), |mut m, (k, v)| {
-            m.checked_insert(*k, *v);
-            m
-        })
-}
-
 /// Returns the halves of the values below 100, as far as they fit.
 pub fn halves(pairs: &Map<u8, u8, 8>) -> Map<u8, u8, 16>
     ensures { result ≡ fold (λ (m : List (ℕ × ℕ)) (p : ℕ × ℕ). put_if_fits nat_eq 16 m p.0 (p.1 / 2)) []
@@ -93,13 +79,6 @@ pub fn named<'a>(words: &[&'a str]) -> Map<&'a str, u32, 16>
         m.checked_insert(*v, 1);
         m
     })
-}
-
-/// Returns `true` if a set has all items of a list.
-pub fn has_all(set: &Set<u8, 16>, list: &[u8]) -> bool
-    ensures { result ≡ fold (λ all x. all && is_member nat_eq set.now x) true list.now }
-{
-    list.iter().fold(true, |all, x| all && set.contains(x))
 }
 
 /// Returns the first key whose value is above a limit, if any.

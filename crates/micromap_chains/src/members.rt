@@ -16,7 +16,7 @@ pub fn count_stored(set: &Set<u8, 16>, list: &[u8]) -> usize
     list.iter().filter(|x| set.contains(*x)).count()
 }
 
-/// The same for any capacity.
+/// Returns how many items of a list are in a set of any capacity.
 pub fn count_stored_any<const N: usize>(set: &Set<u8, N>, list: &[u8]) -> usize
     ensures { result ≡ count_by (is_member nat_eq set.now) list.now }
 {
@@ -36,7 +36,7 @@ pub fn all_stored(set: &Set<u8, 16>, list: &[u8]) -> bool
     list.iter().all(|x| set.contains(x))
 }
 
-/// The same for any capacity.
+/// Returns `true` if all items of a list are in a set of any capacity.
 pub fn all_stored_any<const N: usize>(set: &Set<u8, N>, list: &[u8]) -> bool
     ensures { result ≡ list_all (is_member nat_eq set.now) list.now }
 {
