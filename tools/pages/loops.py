@@ -13,7 +13,7 @@ INDEX = """
 # Reading a map or a set
 ask whether a value or an item passes a test | reads::any_value, reads::any_item_above |
 ask whether a pair passes | reads::any_pair |
-ask whether all values pass | reads::all_below |
+ask whether all values pass, or fit once each is multiplied | reads::all_below, nested::can_scale |
 ask whether all of a list are items, or are keys | members::all_stored, members::all_stored_any, members::all_keys | passing::has_all
 ask whether all values are items of a set, or all keys or any are in another map | members::values_are_known, members::all_keys_of, members::any_key |
 ask whether any or all members of an operation on two sets pass | copies::any_common_above, copies::all_single_below |
@@ -108,6 +108,8 @@ put the items of a set, or the keys of a map, into a set | extends::put_items, e
 take the items of a set out of another | | collected::remove_all_items
 take the items of a list out of a set | folds::left_over | collected::remove_listed
 keep the pairs whose key is in a set | uses_tests/combined::restrict |
+keep some pairs, and know how many were dropped | nested::expire |
+take an item out of each set of a map | nested::drop_everywhere |
 keep some pairs, and insert one | uses_tests/copies::keep_and_insert |
 add what a search comes to, by a recursive call | | uses/graph::search
 """

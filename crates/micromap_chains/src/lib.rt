@@ -7,5 +7,6 @@ pub mod copies;
 pub mod extends;
 pub mod folds;
 pub mod members;
+pub mod nested;
 pub mod reads;
 pub mod texts;

@@ -1,0 +1,35 @@
+//! Changes in place: what one drops is counted, and the sets of a map are changed.
+#![tactic(auto, using(micromap::proofs::Rules::caller))]
+
+ghost use Rattle.std.specs.Prelude.{◌≡◌, ◌*◌, ◌^◌, ◌-◌, filter, length, map, nat_eq, nat_lt};
+ghost use Rattle.std.specs.List.{list_all};
+ghost use Rattle.std.specs.Map.{values_of};
+ghost use Rattle.micromap.specs.Items.{take_item};
+
+use micromap::{Map, Set};
+
+/// Returns `true` if each value times a factor fits.
+pub fn can_scale(amounts: &Map<u8, u32, 16>, factor: u32) -> bool
+    ensures { result ≡ list_all (λ v. nat_lt (v * factor) (2 ^ 32)) (values_of amounts.now) }
+{
+    amounts.values().all(|v| v.checked_mul(factor).is_some())
+}
+
+/// Drops the values that are above a limit, and returns how many.
+pub fn expire<const N: usize>(sessions: &mut Map<u8, u32, N>, now: u32) -> usize
+    ensures pairs { sessions.new ≡ filter (λ p. nat_lt now p.1) sessions.old }
+    ensures answer { result ≡ length sessions.old - length sessions.new }
+{
+    let before = sessions.len();
+    sessions.retain(|_, until| *until > now);
+    before - sessions.len()
+}
+
+/// Takes an item out of each set of a map.
+pub fn drop_everywhere(needs: &mut Map<u8, Set<u8, 8>, 16>, target: u8)
+    ensures { needs.new ≡ map (λ p. (p.0, take_item nat_eq p.1 target)) needs.old }
+{
+    needs.update_all(|_, set| {
+        set.remove(&target);
+    });
+}
