@@ -15,7 +15,7 @@ pub fn can_scale(amounts: &Map<u8, u32, 16>, factor: u32) -> bool
     amounts.values().all(|v| v.checked_mul(factor).is_some())
 }
 
-/// Drops the values that are above a limit, and returns how many.
+/// Drops the pairs whose values are at most a limit, and returns how many.
 pub fn expire<const N: usize>(sessions: &mut Map<u8, u32, N>, now: u32) -> usize
     ensures pairs { sessions.new ≡ filter (λ p. nat_lt now p.1) sessions.old }
     ensures answer { result ≡ length sessions.old - length sessions.new }
