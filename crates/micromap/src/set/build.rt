@@ -5,22 +5,12 @@ ghost use Rattle.std.specs.Iterator.{UpTo};
 ghost use Rattle.std.specs.Set.{distinct_count};
 ghost use Rattle.micromap.specs.Build.{most_items, AllItems, ItemsUpTo};
 ghost use Rattle.micromap.specs.Extend.{all_items_fit, distinct, ItemMisfitIn, PutsAllItems, PutsItemsBefore};
-ghost use Rattle.micromap.specs.Items.{AreItems, IsItems, put_item_if_fits, item_fits};
+ghost use Rattle.micromap.specs.Items.{AreItems, IsItems};
 
 use super::Set;
 use crate::Overfull;
 
 impl<T: Eq + Drop, const N: usize> Set<T, N> {
-    /// Inserts the item if it fits, by one scan, and returns whether it did.
-    #[inline]
-    pub(crate) fn put(&mut self, item: T) -> bool
-        ensures answer { result ≡ item_fits T.eq N self.old item }
-        ensures items { self.new ≡ put_item_if_fits T.eq N self.old item }
-        ensures content { AreItems T.eq N self.old self.new }
-    {
-        self.map.checked_insert(item, ()).is_some()
-    }
-
     /// Inserts the items of an iterator one after the other, as `insert` does, or returns the position of the first that
     /// doesn't fit, counted from 0.
     ///

@@ -1,19 +1,11 @@
-//! Inserting and removing items.
-ghost use Rattle.std.specs.Prelude.{◌≡◌, [], Some, None, IsTrue, not, if◌then◌else◌, drop, slice_get};
+//! Inserting an item.
+ghost use Rattle.std.specs.Prelude.{◌≡◌, Some, None, IsTrue, not, if◌then◌else◌};
 ghost use Rattle.std.specs.Set.{is_member};
-ghost use Rattle.micromap.specs.Items.{AreItems, put_item, put_item_if_fits, replace_item, find_item, item_fits, take_item};
+ghost use Rattle.micromap.specs.Items.{AreItems, put_item, put_item_if_fits, replace_item, find_item, item_fits};
 
 use super::{Set, item_of};
 
 impl<T: Eq + Drop, const N: usize> Set<T, N> {
-    /// Removes and drops every item.
-    pub fn clear(&mut self)
-        ensures emptied { self.new ≡ [] }
-        ensures content { AreItems T.eq N self.old self.new }
-    {
-        self.map.clear();
-    }
-
     /// Inserts the item, and returns `true` if it is new.
     ///
     /// Requires that an equal item is stored or the set has room, which `fits` tests. A stored item stays. A new item
@@ -81,39 +73,13 @@ impl<T: Eq + Drop, const N: usize> Set<T, N> {
         }
     }
 
-    /// Removes the item that equals `item`, and returns it, or `None` if there is none.
-    ///
-    /// The others keep their order: those behind it move up by one. After `None` the set is unchanged. Makes one scan.
+    /// Inserts the item if it fits, by one scan, and returns whether it did.
     #[inline]
-    pub fn take(&mut self, item: &T) -> Option<T>
-        ensures answer { result ≡ find_item T.eq self.old item.now }
-        ensures items { self.new ≡ take_item T.eq self.old item.now }
+    pub(crate) fn put(&mut self, item: T) -> bool
+        ensures answer { result ≡ item_fits T.eq N self.old item }
+        ensures items { self.new ≡ put_item_if_fits T.eq N self.old item }
         ensures content { AreItems T.eq N self.old self.new }
     {
-        item_of(self.map.remove_entry(item))
-    }
-
-    /// Removes the item that equals `item`, and returns `true` if there was one.
-    ///
-    /// The others keep their order: those behind it move up by one. After `false` the set is unchanged. Makes one scan.
-    #[inline]
-    pub fn remove(&mut self, item: &T) -> bool
-        ensures answer { result ≡ is_member T.eq self.old item.now }
-        ensures items { self.new ≡ take_item T.eq self.old item.now }
-        ensures content { AreItems T.eq N self.old self.new }
-    {
-        self.map.remove(item).is_some()
-    }
-
-    /// Removes the first item, and returns it, or `None` if the set is empty.
-    ///
-    /// The others keep their order: each moves up by one. Compares no item.
-    #[inline]
-    pub fn pop_first(&mut self) -> Option<T>
-        ensures answer { result ≡ slice_get self.old 0 }
-        ensures items { self.new ≡ drop 1 self.old }
-        ensures content { AreItems T.eq N self.old self.new }
-    {
-        item_of(self.map.pop_first())
+        self.map.checked_insert(item, ()).is_some()
     }
 }

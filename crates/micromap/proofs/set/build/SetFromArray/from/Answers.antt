@@ -4,7 +4,7 @@ use Rattle.micromap_core.proofs.Equalities.{lawful}
 use Rattle.micromap.specs.Extend.{distinct}
 use Rattle.micromap.specs.Items.{put_item, item_fits, IsItems}
 use Rattle.micromap.proofs.ExtendLemmas.{items_keyed}
-use Rattle.micromap.proofs.set.extend.SetFromArray.from.Goals as goal
+use Rattle.micromap.proofs.set.build.SetFromArray.from.Goals as goal
 
 pub insert-requires : goal.insert-requires
 insert-requires g c =
