@@ -2,7 +2,7 @@
 use Rattle.std.specs.Prelude.{◌≡◌, ℕ, ◌+◌, ◌-◌, ◌^◌, Bool, true, not, ◌&&◌, List, [], ◌∷◌, take, Option, IsTrue, unwrap_or, fold}
 use Rattle.std.specs.Iterator.Runs.{SomeRun, WholeRun}
 use Rattle.micromap_core.specs.Pairs.{at, fits, put}
-use Rattle.micromap_core.specs.declared.map.build.Overfull.{Overfull}
+use Rattle.micromap_core.specs.declared.overfull.Overfull.{Overfull}
 
 -- the most items that are counted: fewer than `usize::MAX`
 abbrev pub most_items : ℕ

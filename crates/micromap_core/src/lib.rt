@@ -3,12 +3,13 @@
 
 pub mod entry;
 pub mod map;
+mod overfull;
 mod probe;
 mod slots;
 mod steps;
 pub mod stream;
 
 pub use map::Map;
-pub use map::build::Overfull;
+pub use overfull::Overfull;
 pub use probe::{Probe, Text};
 pub use steps::Steps;

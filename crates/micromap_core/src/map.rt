@@ -2,7 +2,7 @@
 ghost use Rattle.std.specs.Prelude.{◌≡◌, ◌==◌, [], length};
 ghost use Rattle.micromap_core.specs.Pairs.{AreContents, IsContent};
 
-pub(crate) mod build;
+mod build;
 mod capacity;
 mod clone;
 mod closures;
