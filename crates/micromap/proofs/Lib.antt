@@ -19,6 +19,7 @@ pub mod SetTextLoops
 pub mod SetTextViews
 pub use Rattle.micromap_core.proofs.ClosureLaws
 pub use Rattle.micromap_core.proofs.ClosureLemmas
+pub use Rattle.micromap_core.proofs.ComparisonLaws
 pub use Rattle.micromap_core.proofs.CountLaws
 pub use Rattle.micromap_core.proofs.DistinctLemmas
 pub use Rattle.micromap_core.proofs.FairLemmas

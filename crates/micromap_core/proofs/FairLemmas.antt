@@ -1,6 +1,5 @@
 -- Two lists with unequal keys that are the same get answers that agree from every fair list of calls, and are the same
 -- afterwards. Two lists that differ are told apart by one look-up. The proofs use only what the calls do to look-ups.
--- For callers: `fair_where_fits`, and the ruleset `same_laws` for two maps that are the same.
 use Rattle.std.proofs.Common.{◌≡◌, ◌≢◌, ℕ, Bool, true, false, ◌||◌, List, [], ◌∷◌, length, Option, Some, None, if◌then◌else◌, nat_eq, eq-eqb, IsTrue, IsFalse, refl, ap, sym, subst, ◌∙◌, ◌↔◌, arith}
 use Rattle.std.specs.Bool.{beq, OnTrue}
 use Rattle.std.specs.Cmp.{IsEquivalence, bool_eq_equiv, both_ways, first_so}
@@ -16,26 +15,22 @@ use Rattle.micromap_core.specs.Equalities.{Lawful}
 use Rattle.micromap_core.specs.Fair.{IsFairCall, IsFair, AnswersAgree, ToldApart, SameForGood}
 use Rattle.micromap_core.specs.Pairs.{at, pair, has, has_room, fits, put, put_key, take_out, IsContent, IsUnique}
 use Rattle.micromap_core.specs.Same.{has_value, pair_eq, is_same, Same}
-use Rattle.micromap_core.proofs.Equalities.{equalities, lawful, of_lawful}
+use Rattle.micromap_core.proofs.Equalities.{lawful, of_lawful}
 use Rattle.micromap_core.proofs.SameLemmas.{answered_long, answered_short, FindAlike, alike_from_same, same_from_alike, differs_where_unlike}
 use Rattle.micromap_core.proofs.MapLemmas.{lookup-entry}
 use Rattle.micromap_core.proofs.MapLaws.{at_put, at_put_key, at_take_out, unique_put, unique_put_key, unique_take_out}
 
--- the insertion of a key that fits both lists, or neither, is fair
-pub fair_where_fits : {K V : Type 0} (eq : K → K → Bool) (N M : ℕ) (first second : List (K × V)) (k : K) → fits eq N first k ≡ fits eq M second k → IsFalse (has eq first k) → IsFalse (has eq second k) → has_room N first ≡ has_room M second
-fair_where_fits eq N M first second k fit missing also = ap (λ b. b || has_room N first) (sym missing) ∙ fit ∙ ap (λ b. b || has_room M second) also
-
 -- the two have pairwise unequal keys, which find alike
-record AreSame {K V : Type 0} (eq : K → K → Bool) (same : V → V → Bool) (first second : List (K × V)) : Type 0 where
+pub record AreSame {K V : Type 0} (eq : K → K → Bool) (same : V → V → Bool) (first second : List (K × V)) : Type 0 where
   unique_first : IsUnique eq first
   unique_second : IsUnique eq second
   alike : FindAlike eq same first second
 
 module _ {K V : Type 0} (eq : K → K → Bool) (same : V → V → Bool) (keys : IsEquivalence eq) (values : IsEquivalence same) where
-  are_same : (first second : List (K × V)) → IsUnique eq first → IsUnique eq second → Same eq same first second → AreSame eq same first second
+  pub are_same : (first second : List (K × V)) → IsUnique eq first → IsUnique eq second → Same eq same first second → AreSame eq same first second
   are_same first second one other are = record { unique_first = one; unique_second = other; alike = alike_from_same eq same keys values first second one other are }
 
-  found_same : (first second : List (K × V)) → AreSame eq same first second → Same eq same first second
+  pub found_same : (first second : List (K × V)) → AreSame eq same first second → Same eq same first second
   found_same first second are = same_from_alike eq same keys values first second are.unique_first are.unique_second are.alike
 
   -- the pair that a key finds has an equal key
@@ -70,15 +65,15 @@ module _ {K V : Type 0} (eq : K → K → Bool) (same : V → V → Bool) (keys 
     changed : {one other : List (K × V)} (k : K) (o : Option V) → option_eq same o o ≡ true → IsUnique eq one → IsUnique eq other → ((q : K) → at eq one q ≡ (if eq k q then o else at eq first q)) → ((q : K) → at eq other q ≡ (if eq k q then o else at eq second q)) → AreSame eq same one other
     changed k o itself one other one_at other_at = record { unique_first = one; unique_second = other; alike = record { each = λ q. grind (arith, one_at q, other_at q, itself, are.alike.each q) } }
 
-    put_same : (k : K) (v : V) → AreSame eq same (put eq first k v) (put eq second k v)
+    pub put_same : (k : K) (v : V) → AreSame eq same (put eq first k v) (put eq second k v)
     put_same k v =
         changed k (Some v) (values.refl v) (unique_put eq first k v (lawful eq keys) are.unique_first) (unique_put eq second k v (lawful eq keys) are.unique_second) (λ q. at_put eq first k v q (lawful eq keys)) (λ q. at_put eq second k v q (lawful eq keys))
 
-    put_key_same : (k : K) (v : V) → AreSame eq same (put_key eq first k v) (put_key eq second k v)
+    pub put_key_same : (k : K) (v : V) → AreSame eq same (put_key eq first k v) (put_key eq second k v)
     put_key_same k v =
         changed k (Some v) (values.refl v) (unique_put_key eq first k v (lawful eq keys) are.unique_first) (unique_put_key eq second k v (lawful eq keys) are.unique_second) (λ q. at_put_key eq first k v q (lawful eq keys)) (λ q. at_put_key eq second k v q (lawful eq keys))
 
-    take_out_same : (k : K) → AreSame eq same (take_out eq first k) (take_out eq second k)
+    pub take_out_same : (k : K) → AreSame eq same (take_out eq first k) (take_out eq second k)
     take_out_same k =
         changed k None refl (unique_take_out eq first k (lawful eq keys) are.unique_first) (unique_take_out eq second k (lawful eq keys) are.unique_second) (λ q. at_take_out eq first k q (lawful eq keys) are.unique_first) (λ q. at_take_out eq second k q (lawful eq keys) are.unique_second)
 
@@ -161,32 +156,3 @@ module _ {K V : Type 0} {eq : K → K → Bool} {same : V → V → Bool} {N M :
 
   pub compared_short : m ≢ n → Clauses (nat_eq m n)
   compared_short apart = whole (nat_eq m n) (answered_short eq same (of_lawful eq content.lawful) values first second content.unique other.unique m n one two apart)
-
--- For callers: two lists that are the same stay the same where both get the same put, or the same removal. Whether there
--- is room is for the caller to know.
-module _ {K V : Type 0} (eq : K → K → Bool) (same : V → V → Bool) (first second : List (K × V)) (k : K) where
-  pub same_put : (v : V) → Lawful eq → Lawful same → IsUnique eq first → IsUnique eq second → Same eq same first second → Same eq same (put eq first k v) (put eq second k v)
-  same_put v keys values unique_first unique_second are =
-      found_same eq same (of_lawful eq keys) (of_lawful same values) _ _ (put_same eq same (of_lawful eq keys) (of_lawful same values) first second (are_same eq same (of_lawful eq keys) (of_lawful same values) first second unique_first unique_second are) k v)
-
-  pub same_put_key : (v : V) → Lawful eq → Lawful same → IsUnique eq first → IsUnique eq second → Same eq same first second → Same eq same (put_key eq first k v) (put_key eq second k v)
-  same_put_key v keys values unique_first unique_second are =
-      found_same eq same (of_lawful eq keys) (of_lawful same values) _ _ (put_key_same eq same (of_lawful eq keys) (of_lawful same values) first second (are_same eq same (of_lawful eq keys) (of_lawful same values) first second unique_first unique_second are) k v)
-
-  pub same_take_out : Lawful eq → Lawful same → IsUnique eq first → IsUnique eq second → Same eq same first second → Same eq same (take_out eq first k) (take_out eq second k)
-  same_take_out keys values unique_first unique_second are =
-      found_same eq same (of_lawful eq keys) (of_lawful same values) _ _ (take_out_same eq same (of_lawful eq keys) (of_lawful same values) first second (are_same eq same (of_lawful eq keys) (of_lawful same values) first second unique_first unique_second are) k)
-
--- the same by the word alone: for a search that doesn't see the equality in what it computes to
-module _ {K V : Type 0} (eq : K → K → Bool) (first : List (K × V)) (k : K) where
-  pub each_same_put : (v : V) → Lawful eq → IsUnique eq first → (put eq first k v ≡ put eq first k v) × ((same : V → V → Bool) (second : List (K × V)) → Lawful same → IsUnique eq second → Same eq same first second → Same eq same (put eq first k v) (put eq second k v))
-  each_same_put v keys unique = (refl, λ same second values other are. same_put eq same first second k v keys values unique other are)
-
-  pub each_same_put_key : (v : V) → Lawful eq → IsUnique eq first → (put_key eq first k v ≡ put_key eq first k v) × ((same : V → V → Bool) (second : List (K × V)) → Lawful same → IsUnique eq second → Same eq same first second → Same eq same (put_key eq first k v) (put_key eq second k v))
-  each_same_put_key v keys unique = (refl, λ same second values other are. same_put_key eq same first second k v keys values unique other are)
-
-  pub each_same_take_out : Lawful eq → IsUnique eq first → (take_out eq first k ≡ take_out eq first k) × ((same : V → V → Bool) (second : List (K × V)) → Lawful same → IsUnique eq second → Same eq same first second → Same eq same (take_out eq first k) (take_out eq second k))
-  each_same_take_out keys unique = (refl, λ same second values other are. same_take_out eq same first second k keys values unique other are)
-
--- for who knows that two maps are the same
-pub ruleset same_laws = (each_same_put, each_same_put_key, each_same_take_out, equalities)

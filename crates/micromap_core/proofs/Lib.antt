@@ -3,6 +3,7 @@ pub mod CloneLemmas
 pub mod SlotsLemmas
 pub mod ClosureLaws
 pub mod ClosureLemmas
+pub mod ComparisonLaws
 pub mod CountLaws
 pub mod DistinctLemmas
 pub mod EntryLemmas
