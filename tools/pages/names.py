@@ -1,0 +1,89 @@
+"""The names that callers rest on, beside those of the first copy that said 0.3.0-1. What is gone has a row in CHANGELOG.md."""
+import glob
+import hashlib
+import os
+import re
+
+from pages.sources import LIBRARY, read
+
+CHANGES, PROVING = "CHANGELOG.md", "crates/micromap/PROVING.md"
+# The names of commit 5373042, as `tools/documents --names` prints them: each with a checksum of what it says.
+RECORD = f"{os.path.dirname(os.path.abspath(__file__))}/names.txt"
+# The head of a module with arguments; or a definition or a law with its indentation, its kinds, its name, and what
+# follows up to the next line that isn't further to the right.
+MODULE = r"^(?P<at> *)module _ (?P<arguments>.*) where$"
+PUBLIC = r"^(?P<in> *)(?P<computes>abbrev |unfoldable )?pub (?P<kind>record |data |ruleset )?(?P<name>[^\s:(]+)"
+STATED = re.compile(rf"{MODULE}|{PUBLIC}(?P<rest>.*(?:\n(?P=in) +\S.*)*)", re.M)
+
+
+def stated(text):
+    """The kind and the name of each public definition, law and ruleset of a file, with what it says."""
+    around = {}
+    for it in STATED.finditer(text):
+        depth = len(it["at"] if it["name"] is None else it["in"])
+        around = {at: arguments for at, arguments in around.items() if at < depth}
+        if it["name"] is None:
+            around[depth] = it["arguments"]
+        elif it["name"] not in ("mod", "use"):
+            says = " ".join([*around.values(), it["computes"] or "", it["rest"]])
+            yield (it["kind"] or "").strip(), it["name"], says
+
+
+def are_promised(text):
+    """Which laws of a file are for callers: all, or those that its first comment or PROVING.md names."""
+    comment = re.match(r"(?:--.*\n)*", text)[0].replace("\n-- ", " ")
+    named = {it.rpartition(".")[2] for it in re.findall(r"`([\w.'-]+)`", read(PROVING))}
+    named |= {*re.findall(r"`([\w'-]+)`", comment.partition("For callers: ")[2])}
+    is_all = re.match("-- For callers", comment) or re.search(r"For callers: (?!`)", comment)
+    return lambda name: is_all or name in named
+
+
+def names_of(path):
+    """The names of a file of specs/ or proofs/ that callers rest on, with what each says."""
+    text, (_, crate, folder, file) = read(path), path.split("/")
+    module, is_promised = f"{crate}.{file.removesuffix('.antt')}", are_promised(text)
+    for kind, name, says in stated(text):
+        if kind == "ruleset":
+            yield f"ruleset {module}.{name}", ""
+            yield from ((f"law of ruleset {module}.{name}: {it}", "") for it in re.findall(r"[\w.'-]+", says))
+        elif folder == "specs" or is_promised(name):
+            yield f"{'word' if folder == 'specs' else 'law'} {module}.{name}", says
+
+
+def names(sources):
+    """Each word, law, ruleset and law of a ruleset, each clause of a public call and each precondition, with a checksum."""
+    found = []
+    for folder in (f"crates/{crate}/{it}" for it in ("specs", "proofs") for crate in LIBRARY):
+        paths = sorted(it for it in glob.glob(f"{folder}/*.antt") if not it.endswith("/Lib.antt"))
+        found += [one for path in paths for one in names_of(path)]
+    for required, kind in ((False, "clause"), (True, "precondition")):
+        found += [(f"{kind} {it.name}", it.text) for it in sources.clauses(required)]
+    return {name: hashlib.sha256(" ".join(says.split()).encode()).hexdigest()[:8] for name, says in found}
+
+
+def listed(sources):
+    """The names of this checkout, as the record has them."""
+    return "\n".join(f"{checksum}\t{name}" for name, checksum in names(sources).items())
+
+
+def has_row(name, rows):
+    """Whether the first column of a row has each part of a name: that of the law, or those of the call and its clause."""
+    kind, _, rest = name.partition(" ")
+    first, _, last = rest.partition(": ")
+    if kind in ("clause", "precondition"):
+        first = "" if " for " in first else first.rpartition("::")[2]
+    parts = [re.escape(it.rpartition(".")[2]) for it in (first, last) if it]
+    return any(all(re.search(rf"`(?:[^`]*[ .])?{it}(?: [^`]*)?`", row) for it in parts) for row in rows)
+
+
+def moved_names(sources, notes):
+    """Which recorded names are gone and have no row in CHANGELOG.md. Those that say something else are notes."""
+    rows = re.findall(r"^\|((?:\\\||[^|\n])*)\|", read(CHANGES), re.M)
+    recorded = dict(reversed(line.split("\t")) for line in read(RECORD).splitlines())
+    now = names(sources)
+    moved = [it for it in recorded if now.get(it) != recorded[it]]
+    without = [it for it in moved if not has_row(it, rows)]
+    notes += [f"{CHANGES} has no row for the {it}, which says something else" for it in without if it in now]
+    print(f"{CHANGES}: of {len(recorded)} names that callers rest on, {len(moved)} are gone or say something else", end=", ")
+    print(f"{len(moved) - len(without)} of them with a row")
+    return [f"{CHANGES} has no row for the {it}, which is gone" for it in without if it not in now]
