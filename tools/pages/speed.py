@@ -1,0 +1,216 @@
+"""What is made of a recorded measurement: tables, parts of README.md and docs/MAINTAINING.md, and both charts."""
+import math
+import os
+import re
+from collections import defaultdict
+
+from pages.chart import Frame, chart, coarse, shown
+from pages.sources import read
+
+RECORD = "docs/speed.tsv"
+README, MAINTAINING = "README.md", "docs/MAINTAINING.md"
+# What is compared with the Rust crate, in the order of the driver's ratios.
+RIVALS = ["this library", "the same layout in `unsafe` Rust", "`ArrayVec` by hand", "`IndexMap`", "`HashMap`", "`BTreeMap`"]
+# The charts: the file, the title, the rivals that have lines, the workloads on numbers that have panels or None for all
+# workloads, how many panels are in a row, and their width.
+SIX = ["get, hit", "get, miss", "overwrite", "remove and put back", "walk", "clone"]
+CHARTS = [
+    ("docs/speed-six.svg", "Time relative to the Rust crate's: numbers as keys and values", [0, 2, 3], SIX, 3, 232),
+    ("docs/speed.svg", "Time relative to the Rust crate's", [0, 1, 2, 3], None, 5, 172),
+]
+# The README's table of what to take in place of this library: the rivals, the capacities and the workloads on numbers.
+CHOICES, CHOICE_CAPACITIES = range(3, 6), [2, 8, 32, 64]
+CHOICE_WORDS = {
+    "get, hit": "a stored key is found",
+    "overwrite": "a value is overwritten",
+    "get, miss": "a key is found missing",
+    "count by entries": "items are counted by entries",
+    "remove and put back": "a pair is removed and put back",
+    "walk": "all pairs are walked",
+    "new and fill": "a new map is filled",
+    "clone": "a map is cloned",
+}
+NEW_MAPS = ["copied", "put one, hand on"]  # without which MAINTAINING.md says the means too
+PART = r"(^<!-- made by tools/compare: ([^\n]*) -->\n).*?(^<!-- end -->$)"
+
+
+def parsed(text):
+    """A record's or the driver's lines, as where it is from, {(subject, workload): {capacity: (nanoseconds, ratios)}} and
+    {type: {capacity: sizes}}. A ratio is a number with its mark."""
+    source, times, sizes = "", defaultdict(dict), defaultdict(dict)
+    for kind, *words in (line.split("\t") for line in text.splitlines()):
+        if kind == "source":
+            source = words[0]
+        elif kind == "time":
+            subject, workload, capacity, nanoseconds, *ratios = words
+            marked = [(float(it.rstrip("~")), "~" * it.endswith("~")) for it in ratios]
+            times[subject, workload][int(capacity)] = float(nanoseconds), marked
+        elif kind == "size":
+            sizes[words[0]][int(words[1])] = int(words[2]), int(words[3])
+    return source, times, sizes
+
+
+def record(source, times, sizes):
+    """The text of a record."""
+    lines = [["source", source]]
+    for (subject, workload), cells in times.items():
+        for at, (nanoseconds, ratios) in cells.items():
+            lines.append(["time", subject, workload, at, f"{nanoseconds:.2f}", *(f"{it:.4f}{mark}" for it, mark in ratios)])
+    lines += (["size", name, at, *both] for name, cells in sizes.items() for at, both in cells.items())
+    return "".join("\t".join(map(str, it)) + "\n" for it in lines)
+
+
+def mean(ratios):
+    """The geometric mean, marked if one of them is."""
+    numbers, marks = zip(*ratios)
+    return math.exp(sum(map(math.log, numbers)) / len(numbers)), max(marks)
+
+
+def averaged(runs):
+    """The geometric means of several runs' figures."""
+    def cell(cells):
+        nanoseconds, ratios = zip(*cells)
+        return mean([(it, "") for it in nanoseconds])[0], [mean(it) for it in zip(*ratios)]
+
+    return {key: {at: cell([run[key][at] for run in runs]) for at in cells} for key, cells in runs[0].items()}
+
+
+def ratios_of(cells, rival):
+    """A rival's ratios at each capacity; none where it doesn't take part."""
+    return [ratios[rival] for _, ratios in cells.values() if rival < len(ratios)]
+
+
+def over(cells, rival, other):
+    """A rival's ratios over another one's."""
+    both = zip(ratios_of(cells, rival), ratios_of(cells, other))
+    return [(first[0] / second[0], max(first[1], second[1])) for first, second in both]
+
+
+def row(words):
+    return f"| {' | '.join(words)} |"
+
+
+def heading(first, others):
+    names = [first, *map(str, others)]
+    return [row(names), row(["---"] + ["--:"] * (len(names) - 1))]
+
+
+def time_table(times):
+    """The ratios, and the Rust crate's nanoseconds in brackets."""
+    lines = heading("Time relative to the Rust crate's (its ns)", next(iter(times.values())))
+    for (subject, workload), cells in times.items():
+        own = (f"{shown(ratios[0])} ({nanoseconds:.1f})" for nanoseconds, ratios in cells.values())
+        lines.append(row([f"{subject}: {workload}", *own]))
+        for rival, name in enumerate(RIVALS[1:], 1):
+            if ratios := ratios_of(cells, rival):
+                lines.append(row([f"· {name}", *map(shown, ratios)]))
+    return lines
+
+
+def mean_table(times):
+    """The geometric means over the capacities, of each workload and of all in which a rival takes part: first this
+    library's over its layout's, then each one's over the Rust crate's."""
+    lines = heading("Geometric mean over the capacities", ["this library over its layout", *RIVALS])
+    every = [[] for _ in range(len(RIVALS) + 1)]
+    for (subject, workload), cells in times.items():
+        columns = [over(cells, 0, 1), *(ratios_of(cells, rival) for rival in range(len(RIVALS)))]
+        lines.append(row([f"{subject}: {workload}", *(shown(mean(it)) if it else "" for it in columns)]))
+        every = [[*before, *it] for before, it in zip(every, columns)]
+    return [*lines, row(["all", *(shown(mean(it)) for it in every)])]
+
+
+def size_table(sizes):
+    lines = heading("Bytes (the Rust crate's)", next(iter(sizes.values())))
+    for type_name, cells in sizes.items():
+        lines.append(row([f"`{type_name}`", *(f"{own} ({other})" for own, other in cells.values())]))
+    return lines
+
+
+def choice_table(times):
+    """The times of what a user might take in this library's place, relative to its own."""
+    columns = [(rival, at) for rival in CHOICES for at in CHOICE_CAPACITIES]
+    heads = (f"{RIVALS[rival]} at {at}" if at == CHOICE_CAPACITIES[0] else at for rival, at in columns)
+    yield from heading("Time relative to `Map`'s", heads)
+    for workload, words in CHOICE_WORDS.items():
+        cells = times["numbers", workload]
+        ratios = {rival: dict(zip(cells, over(cells, rival, 0))) for rival in CHOICES}
+        yield row([f"{words} (`{workload}`)", *(coarse(ratios[rival][at]) for rival, at in columns)])
+
+
+def speed_list(times):
+    """In which workloads on numbers this library is as fast as the Rust crate, faster and slower."""
+    means = {name: round(mean(ratios_of(cells, 0))[0], 2) for (subject, name), cells in times.items() if subject == "numbers"}
+    groups = {
+        "As fast, to a twentieth": (0.95, 1.05),
+        "Faster": (0, 0.94),
+        "Slower": (1.06, 2),
+        "More than twice the time": (2.01, math.inf),
+    }
+    for words, (low, high) in groups.items():
+        names = [f"`{name}`" for name, it in means.items() if low <= it <= high]
+        yield f"- {words}: {', '.join(names) or 'none'}."
+
+
+def own_of(cells):
+    return ratios_of(cells, 0)
+
+
+def over_layout(cells):
+    return over(cells, 0, 1)
+
+
+def worst(cells, ratios):
+    """The mean of some ratios and the greatest, with its capacity."""
+    most, at = max((it, at) for (it, _), at in zip(ratios, cells))
+    return f"{mean(ratios)[0]:.2f}; {coarse((most, ''))} at {at}"
+
+
+def causes_table(times, part):
+    """The table of what takes longer than the layout, with its names and causes as they are, and what holds of the rest."""
+    causes = dict(re.findall(r"^\| (\w[^|]*: [^|]*?) \|.*\| ([^|]+) \|$", part, re.M))
+    cells = {f"{subject}: {workload}": it for (subject, workload), it in times.items()}
+    yield from ["| | Over the Rust crate | Over the layout | Cause |", "|---|---|---|---|"]
+    for name, cause in causes.items():
+        yield row([name, *(worst(cells[name], of(cells[name])) for of in (own_of, over_layout)), cause])
+    rest = [mean(over(it, 0, 1))[0] for name, it in cells.items() if name not in causes]
+    yield f"\nAll others take {min(rest):.2f} to {max(rest):.2f} of the layout's time."
+    for words, without in ("over all workloads", []), (f"without `{'` and `'.join(NEW_MAPS)}`", NEW_MAPS):
+        kept = [it for (_, workload), it in times.items() if workload not in without]
+        own, layout = (mean([one for it in kept for one in of(it)])[0] for of in (own_of, over_layout))
+        yield f"The mean {words} is {own:.2f} over the Rust crate, and {layout:.2f} over the layout."
+
+
+def charts(source, times):
+    """The charts by their files."""
+    own = [ratio for cells in times.values() for ratio, _ in own_of(cells)]
+    for path, title, rivals, only, columns, width in CHARTS:
+        panels = []
+        for (subject, workload), cells in times.items():
+            if only is None or (subject == "numbers" and workload in only):
+                names = [subject, workload] if only is None else [workload]
+                panels.append((names, mean(own_of(cells)), [*cells], [ratios_of(cells, it) for it in rivals]))
+        yield path, chart(title, source, Frame(width, own), [(it, RIVALS[it]) for it in rivals], panels, columns)
+
+
+def made(text):
+    """The files that a record makes: the charts, and the pages with their parts."""
+    source, times, _ = parsed(text)
+    files = dict(charts(source, times))
+    makers = {
+        "times relative to Map's": lambda _: choice_table(times),
+        "times relative to the Rust crate's": lambda _: speed_list(times),
+        "what takes longer than the layout": lambda part: causes_table(times, part),
+    }
+    for path in (README, MAINTAINING):
+        part_of = lambda it: "\n".join([it[1], *makers[it[2]](it[0]), "", it[3]])
+        files[path] = re.sub(PART, part_of, read(path), flags=re.M | re.S)
+    return files
+
+
+def wrong_of_speed(notes):
+    """Which files aren't what the record makes."""
+    if not os.path.exists(RECORD):
+        notes.append(f"{RECORD} isn't there: nothing says whether the charts and the tables of times are of one run")
+        return []
+    stale = (path for path, it in made(read(RECORD)).items() if not os.path.exists(path) or read(path) != it)
+    return [f"{path} isn't what {RECORD} has: run tools/compare --chart" for path in stale]
