@@ -42,11 +42,15 @@ find the index of a value | reads::position_of |
 read the pair at an index, or the last value | reads::pair_at, reads::last_value |
 read the pairs or items at both ends | uses_tests/copies::oldest_and_newest, uses_tests/copies::ends |
 compare two maps in their order | reads::have_equal_values, uses_tests/combined::have_keys_in_order |
+ask whether two maps are the same, or read the values at which they differ | uses_tests/generic::find_same, uses_tests/sameness::conflict |
+ask whether two sets have the same items, or one has all items of the other | uses_tests/sameness::have_same_items, uses_tests/sameness::includes |
 list the keys in a `Vec`, all or those whose value passes | reads::list_of_keys, reads::list_of_keys_above |
 list the members of an operation in a `Vec`, all or those that pass | reads::list_of_union, set_tests/operations::evens |
 # Building from a list
 make a map of pairs, of two lists, of a `Vec` | builds::map_of_list, builds::map_of_lists, builds::map_of_vec |
 make a set of items | builds::set_of_list | counts::distinct_items
+make a map, or a set, of any iterator | uses_tests/counts::collected_pairs, uses_tests/counts::collected_items |
+know when a map, or a set, of a list is refused | uses_tests/listed::pairs_of, uses_tests/listed::items_of |
 make a set of what a function makes of each | builds::set_of_halves |
 count how often each item comes | | uses/votes::tally
 count in numbers that may overflow | | merged::count_numbers
@@ -55,8 +59,9 @@ add the amounts of a `Vec` by value, or of any iterator | | merged::add_vector, 
 add amounts up to the first that doesn't fit or overflows | | merged::add_before
 keep the greatest amount of each key | | merged::keep_greatest
 merge by a step of one's own that may fail | | uses/headers::collect
-put pairs into a map | extends::put_list | generic::put_each
-put items into a set | | generic::add_each
+put pairs into a map | extends::put_list |
+put pairs into a map, and know when they are refused | uses_tests/listed::put_pairs, uses_tests/generic::put_items | generic::put_each
+put items into a set, and know when they are refused | uses_tests/generic::put_set_items | generic::add_each
 put the items that pass into a set | extends::put_above |
 count how many different keys or items there are, in a local of any capacity | | generic::count_keys, generic::count_items, walks::count_different
 # Building from another map or set
@@ -90,13 +95,16 @@ ask whether all texts of a list are keys, or any is an item | | passing::has_nam
 change all values, or keep the pairs that pass, in place | uses_tests/named::double_all, uses_tests/named::keep_over, uses_tests/named::keep_longer |
 make a map with other values | | named::doubled
 make a map of the pairs that pass | | named::names_over
-clone a map, in a function of its own before a loop | uses_tests/moved::copied |
+clone a map or a set, in a function of its own before a loop | uses_tests/moved::copied, uses_tests/moved::copied_texts, uses_tests/moved::copied_words |
+ask whether two maps, or two sets, are the same | uses_tests/same_texts::have_same_ages, uses_tests/same_texts::have_same_words |
+ask whether a set has all words of another, or none | uses_tests/related::has_words_of, uses_tests/related::are_apart |
 put a map into another, or add its amounts | | named::add_all, added::add_all
 make a set of the keys of a map | | spelled::names_of
 make a set of the items that pass, or that begin with a `&str` | | spelled::longer, spelled::beginning
 make a set of what a text is made into | | spelled::prefixed
-make a set of a union, or of an intersection | | spelled::all_names, spelled::common_names
-make a set of a difference, or of a symmetric one | | spelled::names_beyond, spelled::single_names
+make a set of an intersection | uses_tests/related::common_words | spelled::common_names
+make a set of a difference | uses_tests/related::words_beyond | spelled::names_beyond
+make a set of a union, or of a symmetric difference | | spelled::all_names, spelled::single_names
 take the names of a set, or of a list, out of a set | | spelled::remove_names, spelled::remove_listed
 drop the words that begin with a text | uses_tests/texts::drop_beginning |
 # Searching one and changing another
@@ -105,21 +113,25 @@ put a map by value into another, all or nothing | uses_tests/combined::merge |
 move what `drain` yields into another map | extends::put_drained |
 add a map's amounts to the totals of another | | merged::add_map
 put the items of a set, or the keys of a map, into a set | extends::put_items, extends::put_keys | collected::add_all_items
-take the items of a set out of another | | collected::remove_all_items
+take the items of a set out of another, or out of its copy | copies::items_lacking | collected::remove_all_items
 take the items of a list out of a set | folds::left_over | collected::remove_listed
 keep the pairs whose key is in a set | uses_tests/combined::restrict |
 keep some pairs, and know how many were dropped | nested::expire |
 take an item out of each set of a map | nested::drop_everywhere |
 keep some pairs, and insert one | uses_tests/copies::keep_and_insert |
+take the first pair, or the first of all and drop the others | uses_tests/generic::take_first, uses_tests/generic::first_drained, uses_tests/generic::first_key, uses_tests/generic::first_item |
+move one name's amount from a map to another | uses_tests/moved::transfer |
 add what a search comes to, by a recursive call | | uses/graph::search
 """
 MOST = 150  # of letters of a chain that is shown
 
 
 class Proved:
-    """A proved function: its file, its text, what its proof names, and its invariants. What is amiss is added to `wrong`."""
+    """A proved function: its file, its text, its invariants and its answers. `instead` has the chains and calls of its row,
+    if it is a loop. What is amiss is added to `wrong`."""
 
-    def __init__(self, name, crate, wrong):
+    def __init__(self, name, crate, wrong, instead=()):
+        self.instead = instead
         within, _, rest = name.rpartition("/")
         self.crate, (module, self.name) = f"micromap_{within}" if within else crate, rest.split("::")
         self.is_elsewhere, self.file, self.title = self.crate != crate, f"{module}.rt", f"`{rest}`"
@@ -155,40 +167,51 @@ class Proved:
         body = self.text.partition("\n{\n")[2] or self.text.partition(" {\n")[2]
         return re.sub(r" (?=[.)])|(?<=\() ", "", " ".join(body.split()))
 
-    def as_chain(self):
-        """The chain or the call with its place."""
+    def as_chain(self, page):
+        """The chain or the call with its place. What has an answer leads to it."""
         body = self.body.replace("|", "\\|")
-        needs = " (with an answer)" * bool(self.answers)
-        return (f"`{body}`: " if len(body) <= MOST else "") + self.where + needs
+        place = f"{self.linked(page)} (with an answer)" if self.answers else self.where
+        return (f"`{body}`: " if len(body) <= MOST else "") + place
 
     def as_loop(self, page):
         """The place of the loop, which leads to its invariant."""
-        if not self.invariants:
-            return f"{self.where} (without an invariant)"
-        at = anchor("An invariant" if self.is_quoted(page) else self.title)
-        return f"[`{self.name}`](#{at}), `{self.file}`" + f" of `{self.crate}`" * self.is_elsewhere
+        return self.linked(page) if self.invariants else f"{self.where} (without an invariant)"
 
-    def is_quoted(self, page):
-        """Whether the page has the invariant in its text."""
-        return self.invariants.removeprefix("crates/") in page
+    def linked(self, page):
+        """The function and its file, as a link to its invariants or its answers."""
+        at, name = anchor(self.heading(page) or self.title), f"`{self.name}`"
+        return self.where.replace(name, f"[{name}](#{at})", 1)
+
+    @property
+    def helps(self):
+        """The files of its proof that a user would have to write."""
+        return [it for it in (self.invariants, self.answers) if it]
+
+    def heading(self, page):
+        """The heading of the section that quotes these files, if the text of the page does."""
+        head, is_there, _ = page.partition(f"`{self.helps[0].removeprefix('crates/')}`")
+        return re.findall(r"^#+ (.*)$", head, re.M)[-1] if is_there else ""
 
     @property
     def needs(self):
-        """What the proof needs beside the invariant."""
+        """The call that the loop needs beside the invariant."""
         loop, content = (re.search(rf"^ *({it})$", self.text, re.M) for it in ("for .*", "let _content.*;"))
-        if content:
+        if loop and content:
             yield f"with `{content[1]}` {'before' if content.start() < loop.start() else 'after'} it"
-        if self.answers:
-            yield "with an answer"
+
+    def quoted(self, path):
+        """A file of the proof, with the path of the goals shortened to that in a crate of the user's."""
+        goal = rf"^(use Rattle\.)[\w.+]*\.\+?({self.name})(?=\.(?:Given|Goals) as goal$)"
+        text = re.sub(goal, r"\1my_crate.proofs.\2", read(path), flags=re.M)
+        return f"In `{path.removeprefix('crates/')}`:\n\n```antt\n{text.strip()}\n```"
 
     def entry(self):
-        """The invariant as its file has it, in a crate of the user's, and what proves the loop."""
-        loops = re.findall(r"^ *(for .*) \{$", self.text, re.M)
-        under = ", ".join([f"under `#[{self.tactic}]`", *self.needs])
-        goal = rf"^(use Rattle\.)[\w.+]*\.\+?({self.name})(?=\.Given as goal$)"
-        text = re.sub(goal, r"\1my_crate.proofs.\2", read(self.invariants), flags=re.M)
-        head = f"`{'`, `'.join(loops)}`, {under}. In `{self.invariants.removeprefix('crates/')}`:"
-        return f"### {self.title}\n\n{head}\n\n```antt\n{text.strip()}\n```\n"
+        """The invariant and the answers as their files have them, and what proves the function."""
+        heads = re.findall(r"^ *(for .*) \{$", self.text, re.M) or [self.body]
+        head = f"`{'`, `'.join(heads)}`, {', '.join([f'under `#[{self.tactic}]`', *self.needs])}."
+        instead = f" A chain or a call in its place: {'; '.join(it.where for it in self.instead)}." if self.instead else ""
+        parts = [head + instead, *map(self.quoted, self.helps)]
+        return "\n\n".join([f"### {self.title}", *parts]).replace(".\n\nIn `", ". In `", 1) + "\n"
 
 
 def rows_of_index(wrong):
@@ -200,25 +223,26 @@ def rows_of_index(wrong):
             continue
         want, *named = line.split("|")
         chains, loops = ([it.strip() for it in names.split(",") if it.strip()] for names in named)
-        chains, loops = [Proved(it, CHAINS, wrong) for it in chains], [Proved(it, LOOPS, wrong) for it in loops]
-        rows.append((want.strip(), chains, loops))
-    paths = {it.title: it.path for it in loops_of(groups)}
-    twice = (it.title for it in loops_of(groups) if it.path != paths[it.title])
-    wrong += [f"tools/pages/loops.py: two loops are {it}" for it in twice]
+        chains = [Proved(it, CHAINS, wrong) for it in chains]
+        rows.append((want.strip(), chains, [Proved(it, LOOPS, wrong, chains) for it in loops]))
+    paths = {it.title: it.path for it in helped(groups)}
+    twice = (it.title for it in helped(groups) if it.path != paths[it.title])
+    wrong += [f"tools/pages/loops.py: two functions with invariants or answers are {it}" for it in twice]
     return groups
 
 
-def loops_of(groups):
-    """The loops of all rows, in order."""
-    return [it for rows in groups.values() for _, _, loops in rows for it in loops]
+def helped(groups):
+    """The functions of all rows whose proofs a user would have to help, in order."""
+    functions = (it for rows in groups.values() for _, chains, loops in rows for it in [*chains, *loops])
+    return [it for it in functions if it.text and it.helps]
 
 
 def index(groups, page):
     """The tables of what one wants, and what the files of chains name."""
     for title, rows in groups.items():
-        yield f"### {title}\n\n| To | A chain or a call | A loop |\n|---|---|---|"
+        yield f"### {title}\n\n| To | First: a chain or a call | Else: a loop |\n|---|---|---|"
         for want, chains, loops in rows:
-            cells = "; ".join(it.as_chain() for it in chains), "; ".join(it.as_loop(page) for it in loops)
+            cells = "; ".join(it.as_chain(page) for it in chains), "; ".join(it.as_loop(page) for it in loops)
             yield "|" + "".join(f" {it} |" if it else " |" for it in (want, *cells))
         yield ""
     yield "| Chains and calls of | Are under |\n|---|---|"
@@ -228,6 +252,6 @@ def index(groups, page):
 
 
 def entries(groups, page):
-    """The invariants of the loops that the page doesn't have in its text."""
-    loops = {it.title: it for it in loops_of(groups) if it.text and it.invariants and not it.is_quoted(page)}
-    yield "\n".join(it.entry() for it in loops.values())
+    """The invariants and answers that the page doesn't have in its text."""
+    found = {it.title: it for it in helped(groups) if not it.heading(page)}
+    yield "\n".join(it.entry() for it in found.values())

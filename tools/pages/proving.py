@@ -1,8 +1,8 @@
-"""What is made of crates/micromap/PROVING.md: its index of loops, their invariants, and the statements of its laws."""
+"""What is made of crates/micromap/PROVING.md: its index of loops, their invariants and answers, and the statements of its laws."""
 import re
 
 from pages.laws import SECTIONS, statements
-from pages.loops import entries, index, loops_of, rows_of_index
+from pages.loops import entries, helped, index, rows_of_index
 from pages.sources import read
 
 PROVING = "crates/micromap/PROVING.md"
@@ -17,7 +17,7 @@ def proving(wrong):
     parts |= {title: statements(by_hand, title, wrong) for title in SECTIONS}
     made = {name: "\n".join(lines).strip("\n") for name, lines in parts.items()}
     places = [name for _, name, _ in re.findall(PART, page, re.M | re.S)]
-    quoted = [it for it in loops_of(groups) if it.text and it.invariants and it.is_quoted(by_hand)]
+    quoted = [it for it in helped(groups) if it.invariants and it.heading(by_hand)]
     wrong += [f"{PROVING}: {it.title} is quoted without {it.tactic}" for it in quoted if it.tactic not in by_hand]
     wrong += [f"{PROVING}: {it} has {places.count(it)} places" for it in made if places.count(it) != 1]
     wrong += [f"tools/pages/proving.py: nothing makes {it}" for it in places if it not in made]
