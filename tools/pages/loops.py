@@ -107,6 +107,14 @@ make a set of a difference | uses_tests/related::words_beyond | spelled::names_b
 make a set of a union, or of a symmetric difference | | spelled::all_names, spelled::single_names
 take the names of a set, or of a list, out of a set | | spelled::remove_names, spelled::remove_listed
 drop the words that begin with a text | uses_tests/texts::drop_beginning |
+# Changing one in place
+change all values | map_tests/closures::keys_as_values |
+change the values of some keys at once | map_tests/closures::positions |
+keep the pairs that pass | map_tests/closures::keep_even |
+keep some pairs, and know how many were dropped | nested::expire |
+take an item out of each set of a map | nested::drop_everywhere |
+keep some pairs, and insert one | uses_tests/copies::keep_and_insert |
+take the first pair, or the first of all and drop the others | uses_tests/generic::take_first, uses_tests/generic::first_drained, uses_tests/generic::first_key, uses_tests/generic::first_item |
 # Searching one and changing another
 put a map into another, up to the first that doesn't fit; as far as it fits | copies::put_map, folds::merged | built::add_all
 put a map by value into another, all or nothing | uses_tests/combined::merge |
@@ -116,12 +124,8 @@ put the items of a set, or the keys of a map, into a set | extends::put_items, e
 take the items of a set out of another, or out of its copy | copies::items_lacking | collected::remove_all_items
 take the items of a list out of a set | folds::left_over | collected::remove_listed
 keep the pairs whose key is in a set | uses_tests/combined::restrict |
-keep some pairs, and know how many were dropped | nested::expire |
-take an item out of each set of a map | nested::drop_everywhere |
-keep some pairs, and insert one | uses_tests/copies::keep_and_insert |
-take the first pair, or the first of all and drop the others | uses_tests/generic::take_first, uses_tests/generic::first_drained, uses_tests/generic::first_key, uses_tests/generic::first_item |
 move one name's amount from a map to another | uses_tests/moved::transfer |
-add what a search comes to, by a recursive call | | uses/graph::search
+visit all that is reached from one, by a recursive call in the place of a list of work | | uses/graph::search
 """
 MOST = 150  # of letters of a chain that is shown
 
