@@ -4,7 +4,7 @@ import hashlib
 import os
 import re
 
-from pages.sources import LIBRARY, read
+from pages.sources import LIBRARY, TYPES, read
 
 CHANGES, PROVING = "CHANGELOG.md", "crates/micromap/PROVING.md"
 # The names of commit 5373042, as `tools/documents --names` prints them: each with a checksum of what it says.
@@ -50,14 +50,29 @@ def names_of(path):
             yield f"{'word' if folder == 'specs' else 'law'} {module}.{name}", says
 
 
+def is_public(item):
+    """Whether users can name it. The functions that open slots are the library's own."""
+    return not item.path.endswith("/slot.rt")
+
+
+def calls_of(sources):
+    """The public types, impls of traits and calls, with their heads."""
+    for it in filter(is_public, sources.items):
+        if (it.kind in TYPES or it.trait) and it.trait != "Model":
+            yield f"call {sources.call(it)}", it.head
+        if not it.trait:
+            yield from ((f"call {sources.call(it, function)}", function.head) for function in it.functions)
+
+
 def names(sources):
-    """Each word, law, ruleset and law of a ruleset, each clause of a public call and each precondition, with a checksum."""
-    found = []
+    """Each word, law, ruleset and law of a ruleset, each public type and call, each clause and each precondition, with a
+    checksum of what it says."""
+    found = [*calls_of(sources)]
     for folder in (f"crates/{crate}/{it}" for it in ("specs", "proofs") for crate in LIBRARY):
         paths = sorted(it for it in glob.glob(f"{folder}/*.antt") if not it.endswith("/Lib.antt"))
         found += [one for path in paths for one in names_of(path)]
     for required, kind in ((False, "clause"), (True, "precondition")):
-        found += [(f"{kind} {it.name}", it.text) for it in sources.clauses(required)]
+        found += [(f"{kind} {it.name}", it.text) for it in sources.clauses(required) if is_public(it.item)]
     return {name: hashlib.sha256(" ".join(says.split()).encode()).hexdigest()[:8] for name, says in found}
 
 
@@ -66,11 +81,19 @@ def listed(sources):
     return "\n".join(f"{checksum}\t{name}" for name, checksum in names(sources).items())
 
 
+def is_clause_of(name, calls):
+    """Whether it is a clause or a precondition of one of some calls, which are gone as a whole."""
+    kind, _, rest = name.partition(" ")
+    return kind in ("clause", "precondition") and rest.partition(": ")[0] in calls
+
+
 def has_row(name, rows):
     """Whether the first column of a row has each part of a name: that of the law, or those of the call and its clause."""
     kind, _, rest = name.partition(" ")
     first, _, last = rest.partition(": ")
-    if kind in ("clause", "precondition"):
+    if kind == "call":
+        first = first.partition(" for ")[0].rpartition("::")[2]
+    elif kind in ("clause", "precondition"):
         first = "" if " for " in first else first.rpartition("::")[2]
     parts = [re.escape(it.rpartition(".")[2]) for it in (first, last) if it]
     return any(all(re.search(rf"`(?:[^`]*[ .])?{it}(?: [^`]*)?`", row) for it in parts) for row in rows)
@@ -81,7 +104,8 @@ def moved_names(sources, notes):
     rows = re.findall(r"^\|((?:\\\||[^|\n])*)\|", read(CHANGES), re.M)
     recorded = dict(reversed(line.split("\t")) for line in read(RECORD).splitlines())
     now = names(sources)
-    moved = [it for it in recorded if now.get(it) != recorded[it]]
+    calls = {it.removeprefix("call ") for it in recorded if it.startswith("call ") and it not in now}
+    moved = [it for it in recorded if now.get(it) != recorded[it] and not is_clause_of(it, calls)]
     without = [it for it in moved if not has_row(it, rows)]
     notes += [f"{CHANGES} has no row for the {it}, which says something else" for it in without if it in now]
     print(f"{CHANGES}: of {len(recorded)} names that callers rest on, {len(moved)} are gone or say something else", end=", ")
