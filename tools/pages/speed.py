@@ -166,13 +166,16 @@ def worst(cells, ratios):
 
 
 def causes_table(times, part):
-    """The table of what takes longer than the layout, with its names and causes as they are, and what holds of the rest."""
+    """The table of what takes over a tenth longer than the layout, with the names and causes that it has, and what holds
+    of the rest."""
     causes = dict(re.findall(r"^\| (\w[^|]*: [^|]*?) \|.*\| ([^|]+) \|$", part, re.M))
     cells = {f"{subject}: {workload}": it for (subject, workload), it in times.items()}
+    slow = (name for name, it in cells.items() if mean(over_layout(it))[0] >= 1.105)
+    causes |= {name: "not looked into" for name in slow if name not in causes}
     yield from ["| | Over the Rust crate | Over the layout | Cause |", "|---|---|---|---|"]
     for name, cause in causes.items():
         yield row([name, *(worst(cells[name], of(cells[name])) for of in (own_of, over_layout)), cause])
-    rest = [mean(over(it, 0, 1))[0] for name, it in cells.items() if name not in causes]
+    rest = [mean(over_layout(it))[0] for name, it in cells.items() if name not in causes]
     yield f"\nAll others take {min(rest):.2f} to {max(rest):.2f} of the layout's time."
     for words, without in ("over all workloads", []), (f"without `{'` and `'.join(NEW_MAPS)}`", NEW_MAPS):
         kept = [it for (_, workload), it in times.items() if workload not in without]
@@ -201,10 +204,11 @@ def made(text):
         "times relative to the Rust crate's": lambda _: speed_list(times),
         "what takes longer than the layout": lambda part: causes_table(times, part),
     }
-    for path in (README, MAINTAINING):
-        part_of = lambda it: "\n".join([it[1], *makers[it[2]](it[0]), "", it[3]])
-        files[path] = re.sub(PART, part_of, read(path), flags=re.M | re.S)
-    return files
+
+    def part_of(found):
+        return "\n".join([found[1], *makers[found[2]](found[0]), "", found[3]])
+
+    return files | {path: re.sub(PART, part_of, read(path), flags=re.M | re.S) for path in (README, MAINTAINING)}
 
 
 def wrong_of_speed(notes):
