@@ -5,7 +5,6 @@ use Rattle.std.specs.List.{IsDistinct}
 use Rattle.std.specs.Map.{keys_of}
 use Rattle.std.proofs.Math.Bool.{or-true}
 use Rattle.std.proofs.lemmas.List.{drop_all, length-append, map-append}
-use Rattle.std.proofs.lemmas.Map.Keys.{IsDistinct-tail}
 use Rattle.std.proofs.lemmas.Map.Made.{IsDistinct-keys_filter, is_some-lookup}
 use Rattle.micromap_core.specs.Build.{build, put_all}
 use Rattle.micromap_core.specs.Equalities.{Lawful}
@@ -17,9 +16,6 @@ use Rattle.micromap_core.proofs.StreamLemmas.{built_in_turn}
 
 module _ {K V : Type 0} (eq : K → K → Bool) where
   -- the first pair, and those behind it
-  pub unique_behind : (p : K × V) (behind : List (K × V)) → IsUnique eq (p ∷ behind) → IsUnique eq behind
-  unique_behind p behind unique = IsDistinct-tail eq p.0 (keys_of behind) unique
-
   pub has_first : (p : K × V) (behind : List (K × V)) → Lawful eq → has eq (p ∷ behind) p.0 ≡ true
   has_first p behind laws = ap is_some (at_first eq p behind laws)
 

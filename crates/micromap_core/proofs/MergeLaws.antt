@@ -1,6 +1,6 @@
 -- For callers: what a map has into which a loop merges values (`merged`): after one item more, at each key, and how many
 -- keys there are. The ruleset `merge_laws` is for such a loop.
-use Rattle.std.proofs.Common.{◌≡◌, ℕ, ◌+◌, ◌<◌, ◌≤◌, nat_le, ◌&&◌, ◌||◌, not, Bool, true, false, List, [], ◌∷◌, ◌++◌, filter, length, map, get_or, take, drop, Option, Some, None, IsTrue, refl, ap, sym, subst, ◌∙◌, append_assoc, arith, unwrap_or, fold}
+use Rattle.std.proofs.Common.{◌≡◌, ℕ, ◌+◌, ◌<◌, ◌≤◌, ◌&&◌, ◌||◌, not, Bool, true, false, List, [], ◌∷◌, ◌++◌, filter, length, map, get_or, take, drop, Option, Some, None, IsTrue, refl, ap, sym, subst, ◌∙◌, append_assoc, arith, unwrap_or, fold}
 use Rattle.std.specs.Iterator.{Yields}
 use Rattle.std.specs.Iterator.Runs.{SomeRun, WholeRun}
 use Rattle.std.specs.Map.{keys_of, values_of}
@@ -13,10 +13,10 @@ use Rattle.std.proofs.lemmas.List.Folds.{fold-map, list_any-append}
 use Rattle.std.proofs.lemmas.List.Sums.{fold-append, fold_more, fold_push}
 use Rattle.std.proofs.lemmas.Map.Entries.{length-keys_of}
 use Rattle.std.proofs.lemmas.Map.Made.{length-from_keys}
-use Rattle.micromap_core.specs.Build.{all_merge, count_one, counts, merge_pair, merged, put_all, MergeStopsAt}
+use Rattle.micromap_core.specs.Build.{all_merge, count_one, counts, merge_pair, merged, MergeStopsAt}
 use Rattle.micromap_core.specs.Equalities.{Lawful}
 use Rattle.micromap_core.specs.Pairs.{at, fits, has, IsUnique}
-use Rattle.micromap_core.proofs.BuildLemmas.{each_fits-count, each_fits-push, keys-fold, pairs_keyed, IsKeyed}
+use Rattle.micromap_core.proofs.BuildLemmas.{each_fits-push, keys-fold, pairs_keyed, IsKeyed}
 use Rattle.micromap_core.proofs.CountLaws.{distinct_grows}
 use Rattle.micromap_core.proofs.Equalities.{of_lawful}
 use Rattle.micromap_core.proofs.MapLaws.{at_alike, at_put, has_put, length_put, unique_empty, unique_put}
@@ -113,13 +113,6 @@ module _ {K V W : Type 0} (eq : K → K → Bool) (step : Option V → W → V) 
     all_merge_take : (items : List (K × W)) (i : ℕ) (d : K × W) → i < length items → all_merge eq step test pairs (take (i + 1) items) ≡ (all_merge eq step test pairs (take i items) && test (merged eq step pairs (take i items)) (get_or items i d))
     all_merge_take items i d within = ap (all_merge eq step test pairs) (take_more items i d within) ∙ all_merge_push (take i items) (get_or items i d)
 
-  -- items all fit exactly if there are at most as many keys as the capacity
-  pub all_merge_fits : (N : ℕ) (pairs : List (K × V)) (items : List (K × W)) → Lawful eq → IsUnique eq pairs → length pairs ≤ N → all_merge eq step (λ now item. fits eq N now item.0) pairs items ≡ nat_le (length (merged eq step pairs items)) N
-  unfolding all_merge merged
-  all_merge_fits N pairs items laws unique bounded =
-      each_fits-count (of_lawful eq laws) (merges_keyed N) pairs items unique (omega (arith, bounded, length-keys_of pairs))
-      ∙ ap (λ n. nat_le n N) (length-keys_of (merged eq step pairs items))
-
   -- the items of an iterator: all, those before the one at which a loop stops, and that one. `start` is the iterator of the
   -- loop, which is `it`, and t what is left of it
   module _ {S : Type 0} (steps : S → Option (K × W) → S → Type 0) (it start t u : S) (pairs now : List (K × V)) (items : List (K × W)) (begins : start ≡ it) (gave : Yields steps start items t) where
@@ -199,12 +192,8 @@ module _ {K V W : Type 0} (eq : K → K → Bool) (step : Option V → W → V) 
         λ d within. grind (arith, common_steps, all.2 (read d), first, take-map read (i + 1) items, long, within),
       )
 
--- two cases: a list that is put, and a counter
+-- a counter
 module _ {K : Type 0} (eq : K → K → Bool) where
-  pub merged_put_all : {V : Type 0} (pairs items : List (K × V)) → merged eq (λ o v. v) pairs items ≡ put_all eq pairs items
-  unfolding merged
-  merged_put_all pairs items = refl
-
   pub merged_counts : {W : Type 0} (items : List (K × W)) → merged eq (λ o w. unwrap_or o 0 + 1) [] items ≡ counts eq (keys_of items)
   unfolding merged counts
   merged_counts items = sym (fold-map (count_one eq) (λ item. item.0) [] items)
