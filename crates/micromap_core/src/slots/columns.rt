@@ -89,8 +89,8 @@ impl<K, V, const N: usize> Columns<K, V, N> {
         ensures pairs { zip (items_of result.0.now) (items_of result.1.now) ≡ self.now }
     {
         let len = self.len();
-        hint_at_most(len, N);
         hint_equal(self.values.len(), len);
+        hint_at_most(len, N);
         (self.keys.as_slice(), self.values.as_slice())
     }
 
