@@ -19,6 +19,7 @@ pub mod MergeLaws
 pub mod MisfitLemmas
 pub mod SameLemmas
 pub mod PrintLemmas
+pub mod PutLemmas
 pub mod Sizes
 pub mod StepsLemmas
 pub mod StreamLemmas

@@ -99,7 +99,7 @@ module _ {K V : Type 0} (eq : K → K → Bool) (N : ℕ) where
 -- where an iterator's items are known, and one of them is refused: what would be put is more than there is room for. The
 -- facts are those of `misfit_in`, and the content of the map that they are put into
 module _ {K V : Type 0} {eq : K → K → Bool} {N : ℕ} {pairs : List (K × V)} (content : IsContent eq N pairs) where
-  stopped_many : (items : List (K × V)) (at : ℕ) → MisfitIn eq N pairs items at → N < length (put_all eq pairs items)
+  pub stopped_many : (items : List (K × V)) (at : ℕ) → MisfitIn eq N pairs items at → N < length (put_all eq pairs items)
   stopped_many items at stops =
       let first = take (at + 1) items in
       let fit = each_fits-count (of_lawful eq content.lawful) (pairs_keyed eq N) pairs first content.unique (omega (arith, length-keys_of pairs, content.bounded)) in

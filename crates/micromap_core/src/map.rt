@@ -8,6 +8,7 @@ mod clone;
 mod closures;
 mod compare;
 mod counted;
+mod extend_from;
 mod indexed;
 mod insert;
 mod lookup;
