@@ -13,9 +13,10 @@ use Rattle.std.proofs.iter.runs.Made.{run_of_turn}
 use Rattle.std.proofs.lemmas.Bool.{cases_Bool, ltb-false, lt-leb, le-leb, leb-true, leb-false, not-true}
 use Rattle.std.proofs.lemmas.List.{length_push, take_all, take_at, take_more, length-map, length-take}
 use Rattle.std.proofs.lemmas.List.Sums.{fold_push}
-use Rattle.micromap_core.specs.Build.{all_fit, build, each_fits, PutsEach, PutsUpTo, pair_fits, put_pair}
+use Rattle.micromap_core.specs.Build.{all_fit, build, each_fits, PutsEach, PutsUpTo, pair_fits, put_fitting, put_pair, put_whole}
 use Rattle.std.specs.Map.{keys_of}
 use Rattle.std.specs.Set.{distinct_count, is_member}
+use Rattle.std.specs.Bool.{then_some}
 use Rattle.std.proofs.lemmas.Bool.Decides.{leb_tells}
 use Rattle.std.proofs.lemmas.List.Folds.{list_any-append}
 use Rattle.std.proofs.lemmas.Map.Entries.{length-keys_of}
@@ -78,6 +79,35 @@ module _ {C X : Type 0} (fits : C → X → Bool) (put : C → X → C) where
   -- all of them
   pub run_puts : {S : Type 0} (steps : S → Option X → S → Type 0) (it : S) (old now : C) (items : List X) (position : ℕ) → HasPut old items position now → Drains steps it items → WholeRun steps it (λ p. PutsEach fits put old now p.items)
   run_puts steps it old now items position has gave = total_runs steps it _ (PutsEach fits put old now) (items, λ _. gave, (has.fit, has.made)) (tt {0})
+
+  -- of the items so far those that fit are put, and whole tells whether that's all of them
+  pub record HasPutFitting (old : C) (items : List X) (whole : Bool) (now : C) : Type 0 where
+    pub all : then_some whole now ≡ fold (put_whole fits put) (Some old) items
+    pub made : now ≡ fold (put_fitting fits put) old items
+
+  put_whole_step : (whole fit : Bool) (now : C) (x : X) → fits now x ≡ fit → then_some (if fit then whole else false) (put_fitting fits put now x) ≡ put_whole fits put (then_some whole now) x
+  put_whole_step true true now x tells = rw tells refl
+  put_whole_step true false now x tells = rw tells refl
+  put_whole_step false true now x tells = refl
+  put_whole_step false false now x tells = refl
+
+  -- one item more, which fits or doesn't
+  pub has_put_fitting : (old : C) (items : List X) (whole : Bool) (now new : C) (x : X) (fit : Bool) → HasPutFitting old items whole now → new ≡ put_fitting fits put now x → fits now x ≡ fit → HasPutFitting old (items ++ x ∷ []) (if fit then whole else false) new
+  has_put_fitting old items whole now new x fit has next tells = record {
+    all = ap (then_some (if fit then whole else false)) next ∙ put_whole_step whole fit now x tells ∙ ap (λ o. put_whole fits put o x) has.all ∙ sym (fold_push (put_whole fits put) (Some old) items x);
+    made = next ∙ ap (λ c. put_fitting fits put c x) has.made ∙ sym (fold_push (put_fitting fits put) old items x);
+  }
+
+  -- where all of them fit, the content is what it is once they are put, and else there is none
+  pub all_or_none : (content : C) (items : List X) → fold (put_whole fits put) (Some content) items ≡ (if each_fits fits put content items then Some (fold put content items) else None)
+  all_or_none content [] = refl
+  all_or_none content (x ∷ items) = elim (cases_Bool (fits content x)) [
+    | inl fit ↦ rw fit (all_or_none (put content x) items)
+    | inr misfit ↦ rw misfit (none_left items)
+  ] where
+    none_left : (items : List X) → fold (put_whole fits put) None items ≡ None
+    none_left [] = refl
+    none_left (x ∷ items) = none_left items
 
   -- the item of a list at an index
   module _ (old : C) (items : List X) (index : ℕ) (d : X) (now : C) (within : index < length items) (made : now ≡ fold put old (take index items)) where

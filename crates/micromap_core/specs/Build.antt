@@ -1,5 +1,5 @@
 -- What a map is after pairs are put into it one after the other, and what a set is after items are.
-use Rattle.std.specs.Prelude.{◌≡◌, ℕ, ◌+◌, ◌-◌, ◌^◌, Bool, true, not, ◌&&◌, List, [], ◌∷◌, take, Option, IsTrue, unwrap_or, fold}
+use Rattle.std.specs.Prelude.{◌≡◌, ℕ, ◌+◌, ◌-◌, ◌^◌, Bool, true, not, ◌&&◌, List, [], ◌∷◌, take, Option, Some, None, IsTrue, if◌then◌else◌, unwrap_or, fold}
 use Rattle.std.specs.Iterator.Runs.{SomeRun, WholeRun}
 use Rattle.micromap_core.specs.Pairs.{at, fits, put}
 use Rattle.micromap_core.specs.declared.overfull.Overfull.{Overfull}
@@ -35,6 +35,15 @@ module _ {C X : Type 0} (fits : C → X → Bool) (put : C → X → C) where
   abbrev pub PutsUpTo : C → C → List X → ℕ → Type 0
   PutsUpTo content new items position = StopsAt content items position × (new ≡ fold put content (take position items))
 
+  -- the content once x is put, or the same content if x doesn't fit
+  abbrev pub put_fitting : C → X → C
+  put_fitting content x = if fits content x then put content x else content
+
+  -- the content once x is put, or `None` if x doesn't fit or if an item before it didn't
+  abbrev pub put_whole : Option C → X → Option C
+  put_whole None x = None
+  put_whole (Some content) x = if fits content x then Some (put content x) else None
+
 -- a map's pairs
 module _ {K V : Type 0} (eq : K → K → Bool) where
   -- whether a pair fits
@@ -44,6 +53,14 @@ module _ {K V : Type 0} (eq : K → K → Bool) where
   -- the pairs once a pair is put
   abbrev pub put_pair : List (K × V) → K × V → List (K × V)
   put_pair pairs p = put eq pairs p.0 p.1
+
+  -- the pairs once a pair is put, or the same pairs if it doesn't fit
+  abbrev pub put_pair_if_fits : ℕ → List (K × V) → K × V → List (K × V)
+  put_pair_if_fits N = put_fitting (pair_fits N) put_pair
+
+  -- the pairs once a pair is put, or `None` if it doesn't fit or if one before it didn't
+  abbrev pub put_or_refuse : ℕ → Option (List (K × V)) → K × V → Option (List (K × V))
+  put_or_refuse N = put_whole (pair_fits N) put_pair
 
   -- the pairs once the items are put
   abbrev pub put_all : List (K × V) → List (K × V) → List (K × V)

@@ -1,10 +1,11 @@
 //! Building a map from an array or an iterator, and extending it. Keys are in the order in which they first came. Each
 //! key has the value of its last item.
-ghost use Rattle.std.specs.Prelude.{◌≡◌, ◌<◌, ◌≤◌, [], length, IsTrue, IfOk, OnOk, IfErr, OnErr};
-ghost use Rattle.std.specs.Iterator.{UpTo};
+ghost use Rattle.std.specs.Prelude.{◌≡◌, ◌<◌, ◌≤◌, List, [], fold, length, Option, Some, IsTrue, IfSome, IfOk, OnOk, IfErr, OnErr, ⊤};
+ghost use Rattle.std.specs.Bool.{then_some};
+ghost use Rattle.std.specs.Iterator.{Drains, IsFinite, UpTo};
 ghost use Rattle.std.specs.Map.{keys_of};
 ghost use Rattle.std.specs.Set.{distinct_count};
-ghost use Rattle.micromap_core.specs.Build.{all_fit, build, most_items, AllItems, ItemsUpTo, MisfitIn, PutsAll, PutsBefore};
+ghost use Rattle.micromap_core.specs.Build.{all_fit, build, most_items, put_or_refuse, put_pair_if_fits, AllItems, ItemsUpTo, MisfitIn, PutsAll, PutsBefore};
 ghost use Rattle.micromap_core.specs.Pairs.{AreContents, IsContent, IsUnique};
 
 use super::Map;
@@ -111,5 +112,44 @@ impl<K: Eq + Drop, V: Drop, const N: usize> Map<K, V, N> {
         let mut map = Map::new();
         map.try_extend(items)?;
         Ok(map)
+    }
+    // Inserts those of the items that fit, and returns whether all did.
+    #[inline]
+    fn put_fitting<I: Iterator<Item = (K, V)>>(&mut self, items: I) -> bool
+        requires can { I.can_next items }
+        requires ends { IsFinite (I.remaining items) }
+        ensures ran { (xs : List (K × V)) × (⊤ → Drains I.next_gives items xs)
+            × (then_some result self.new ≡ fold (put_or_refuse K.eq N) (Some self.old) xs)
+            × (self.new ≡ fold (put_pair_if_fits K.eq N) self.old xs) }
+        ensures content { AreContents K.eq N self.old self.new }
+    {
+        let _content = self.len();
+        let mut all_fit = true;
+        for (key, value) in items {
+            if self.checked_insert(key, value).is_none() {
+                all_fit = false;
+            }
+        }
+        all_fit
+    }
+
+    /// Creates a map of all items of an iterator, inserted one after the other as `insert` does, or returns `None` if
+    /// they don't all fit.
+    ///
+    /// Requires that the iterator ends. Takes every item, also after one that doesn't fit. The result is `None` exactly
+    /// if the items have more than `N` distinct keys: then all are dropped. Makes one scan for each item.
+    pub fn of_all<I: Iterator<Item = (K, V)>>(items: I) -> Option<Self>
+        requires can { I.can_next items }
+        requires ends { IsFinite (I.remaining items) }
+        ensures ran { (xs : List (K × V)) × (⊤ → Drains I.next_gives items xs)
+            × (result ≡ fold (put_or_refuse K.eq N) (Some []) xs) }
+        ensures content { IfSome result (IsContent K.eq N) }
+    {
+        let mut map = Map::new();
+        if map.put_fitting(items) {
+            Some(map)
+        } else {
+            None
+        }
     }
 }
