@@ -9,7 +9,7 @@ use Rattle.std.proofs.lemmas.Map.Entries.{length-keys_of}
 use Rattle.micromap_core.specs.Build.{put_all}
 use Rattle.micromap_core.specs.Clones.{IsPairClone}
 use Rattle.micromap_core.specs.Equalities.{Lawful}
-use Rattle.micromap_core.specs.Pairs.{IsContent, fits, put, put_key, take_out}
+use Rattle.micromap_core.specs.Pairs.{IsContent, fits, has, put, put_key, take_out}
 use Rattle.micromap_core.proofs.MapLemmas.{keys_of-put_stored, keys_of-put_new}
 use Rattle.micromap.specs.Extend.{put_all_items}
 use Rattle.micromap.specs.Items.{IsItems, put_item, replace_item, item_fits, take_item}
@@ -55,6 +55,13 @@ module _ {T V : Type 0} where
     -- where it fits, the item is added
     pub checked-keys : (N : ℕ) (pairs : List (T × V)) → (if item_fits eq N (keys_of pairs) k then put_item eq (keys_of pairs) k else keys_of pairs) ≡ keys_of (if fits eq N pairs k then put eq pairs k v else pairs)
     checked-keys N pairs = grind (arith, fits-keys eq N pairs k, keys_put_item pairs)
+
+    -- where it is stored, nothing is changed
+    pub tried-keys : (N : ℕ) (pairs : List (T × V))
+        → (if item_fits eq N (keys_of pairs) k then put_item eq (keys_of pairs) k else keys_of pairs)
+        ≡ keys_of (if has eq pairs k then pairs else if fits eq N pairs k then put eq pairs k v else pairs)
+    unfolding put_item
+    tried-keys N pairs = grind (arith, checked-keys N pairs, any-keys (eq k) pairs)
 
   -- the keys of a map once pairs are put are the items of a set once their keys are
   pub keys_put_all_items : (eq : T → T → Bool) (pairs items : List (T × V)) → keys_of (put_all eq pairs items) ≡ put_all_items eq (keys_of pairs) (keys_of items)

@@ -1,5 +1,5 @@
 //! Inserting an item.
-ghost use Rattle.std.specs.Prelude.{◌≡◌, Some, None, IsTrue, not, if◌then◌else◌};
+ghost use Rattle.std.specs.Prelude.{◌≡◌, length, nat_lt, Some, None, Ok, Err, IsTrue, not, if◌then◌else◌};
 ghost use Rattle.std.specs.Set.{is_member};
 ghost use Rattle.micromap.specs.Items.{AreItems, put_item, put_item_if_fits, replace_item, find_item, item_fits};
 
@@ -70,6 +70,31 @@ impl<T: Eq + Drop, const N: usize> Set<T, N> {
             Some(item)
         } else {
             None
+        }
+    }
+
+    /// Inserts the item if it is new and there is room. Returns `Ok(None)` then, `Ok(Some(item))` if an equal one is
+    /// stored, and `Err(item)` if the item is new and the set is full.
+    ///
+    /// A new item goes last. A stored item stays: unless the result is `Ok(None)`, the set is unchanged, and the item
+    /// that was passed comes back. Makes one scan.
+    ///
+    /// ```
+    /// let mut seen: Set<u8, 1> = Set::new();
+    /// assert_eq!(rt; seen.try_insert(1), Ok(None));
+    /// assert_eq!(rt; seen.try_insert(1), Ok(Some(1)));
+    /// assert_eq!(rt; seen.try_insert(2), Err(2));
+    /// ```
+    #[inline]
+    pub fn try_insert(&mut self, item: T) -> Result<Option<T>, T>
+        ensures answer { result ≡ (if is_member T.eq self.old item then Ok (Some item)
+            else if nat_lt (length self.old) N then Ok None else Err item) }
+        ensures items { self.new ≡ put_item_if_fits T.eq N self.old item }
+        ensures content { AreItems T.eq N self.old self.new }
+    {
+        match self.map.try_insert(item, ()) {
+            Ok(stored) => Ok(item_of(stored)),
+            Err((item, _)) => Err(item),
         }
     }
 

@@ -101,6 +101,18 @@ fn a_stored_item_stays_but_in_replace(rt: HostRuntime) {
     assert_eq!(rt; set.get(&last).map(|item| item.mark), Some('z'));
 }
 
+#[test]
+fn an_item_that_is_stored_or_has_no_room_comes_back(rt: HostRuntime) {
+    let mut set: Set<Marked, 1> = Set::new();
+    assert_eq!(rt; set.try_insert(Marked::new(1, 'x')), Ok(None));
+    let stored = set.try_insert(Marked::new(1, 'y')).ok().flatten();
+    assert_eq!(rt; stored.map(|item| item.mark), Some('y'));
+    let refused = set.try_insert(Marked::new(2, 'z')).err();
+    assert_eq!(rt; refused.map(|item| item.mark), Some('z'));
+    assert_eq!(rt; set.checked_insert(Marked::new(2, 'z')), None);
+    assert!(rt; gives(set.iter().map(|item| item.mark), &['x']));
+}
+
 // A set of these texts, which all fit.
 fn texts<const N: usize>(alloc: Global, items: &[&str]) -> Result<Set<String, N>, AllocError> {
     let mut set = Set::new();
