@@ -1,8 +1,8 @@
 -- A set's items are the keys of its map. Each lemma says what a word on the map's pairs does to the keys.
-use Rattle.std.proofs.Common.{◌≡◌, ℕ, nat_lt, Bool, true, List, [], ◌∷◌, length, is_some, if◌then◌else◌, refl, ap, ◌∙◌, arith, option_map}
+use Rattle.std.proofs.Common.{◌≡◌, ℕ, Bool, List, [], ◌∷◌, length, is_some, if◌then◌else◌, refl, ap, ◌∙◌, arith, option_map}
 use Rattle.std.specs.List.{AllZip, IsDistinct, find, list_any}
 use Rattle.std.specs.Map.{keys_of, lookup, lookup_entry, remove_entry, set_value, set_key}
-use Rattle.std.specs.Set.{is_member, remove_key, swap_key}
+use Rattle.std.specs.Set.{remove_key, swap_key}
 use Rattle.std.proofs.lemmas.List.{map_push}
 use Rattle.std.proofs.lemmas.Map.{keys-set_value}
 use Rattle.std.proofs.lemmas.Map.Entries.{length-keys_of}
@@ -67,14 +67,6 @@ module _ {T V : Type 0} where
   pub keys_put_all_items : (eq : T → T → Bool) (pairs items : List (T × V)) → keys_of (put_all eq pairs items) ≡ put_all_items eq (keys_of pairs) (keys_of items)
   keys_put_all_items eq pairs [] = refl
   keys_put_all_items eq pairs (p ∷ items) = keys_put_all_items eq (put eq pairs p.0 p.1) items ∙ ap (λ keys. put_all_items eq keys (keys_of items)) (keys_put_item eq p.0 p.1 pairs)
-
--- a stored item is added already
-pub put_item-stored : {T : Type 0} (eq : T → T → Bool) (N : ℕ) (items : List T) (x : T) → is_member eq items x ≡ true → (if item_fits eq N items x then put_item eq items x else items) ≡ items
-unfolding put_item
-put_item-stored eq N items x stored = grind (arith, stored)
-
-pub put_item-room : {T : Type 0} (eq : T → T → Bool) (N : ℕ) (items : List T) (x : T) → nat_lt (length items) N ≡ true → (if item_fits eq N items x then put_item eq items x else items) ≡ put_item eq items x
-put_item-room eq N items x room = grind (arith, room)
 
 -- what is cloned pair by pair is cloned key by key
 pub zip-keys : {T V : Type 0} (C : T → T → Type 0) (D : V → V → Type 0) (ps qs : List (T × V)) → AllZip (IsPairClone C D) ps qs → AllZip C (keys_of ps) (keys_of qs)

@@ -5,7 +5,7 @@
 use Rattle.std.proofs.Common.{◌≡◌, ℕ, ◌+◌, ◌≤◌, ◌||◌, ◌&&◌, not, Bool, true, false, List, [], ◌∷◌, ◌++◌, filter, length, Some, None, is_some, if◌then◌else◌, refl, ap, sym, subst, ◌∙◌, arith, option_map, unwrap_or}
 use Rattle.std.specs.List.{IsDistinct, find, list_all, list_any}
 use Rattle.std.specs.Map.{keys_of, lookup, lookup_entry}
-use Rattle.std.specs.Set.{swap_key, is_member, remove_key}
+use Rattle.std.specs.Set.{is_member, remove_key}
 use Rattle.std.proofs.lemmas.Bool.Decides.{nat_tests}
 use Rattle.std.proofs.lemmas.Map.Entries.{length-keys_of}
 use Rattle.micromap_core.specs.Equalities.{Lawful, Probes}
@@ -19,7 +19,7 @@ use Rattle.micromap.specs.Extend.{put_all_items}
 use Rattle.micromap.specs.Items.{put_item, replace_item, find_item, item_fits, take_item}
 use Rattle.micromap.specs.Operations.{difference, intersection, symmetric_difference, union}
 use Rattle.micromap.proofs.EntryItems.{keys_of-entries}
-use Rattle.micromap.proofs.ItemLemmas.{keys_put_item, any-find, any-keys, replace_item-keys, find-keys, take-keys, take_item-keys}
+use Rattle.micromap.proofs.ItemLemmas.{keys_put_item, any-keys, replace_item-keys, find-keys, take-keys, take_item-keys}
 use Rattle.micromap.proofs.OperationLaws.{is_member-difference, is_member-intersection, is_member-symmetric_difference, is_member-union, within_is_member}
 
 length-entries : {T : Type 0} (items : List T) → length (entries_of items) ≡ length items
@@ -122,30 +122,6 @@ module _ {T : Type 0} (eq : T → T → Bool) (items : List T) (x y : T) where
 
   pub find_item_replace_item : Lawful eq → find_item eq (replace_item eq items x) y ≡ (if eq x y then Some x else find_item eq items y)
   find_item_replace_item laws = find_replace_item eq (eq y) items x (probes_key eq y laws) ∙ ap (λ b. if b then Some x else find_item eq items y) ((of_lawful eq laws).symm y x)
-
--- an item whose place another took takes it back
-module _ {T : Type 0} (eq : T → T → Bool) where
-  stored_equals : (items : List T) (x y : T) → find_item eq items x ≡ Some y → eq x y ≡ true
-  stored_equals [] x y stored = grind (arith, stored)
-  stored_equals (z ∷ zs) x y stored = grind (arith, stored, stored_equals zs x y)
-
-  pub replace_item_new : (items : List T) (x : T) → find_item eq items x ≡ None → replace_item eq items x ≡ put_item eq items x
-  unfolding put_item replace_item
-  replace_item_new items x new = grind (arith, new, any-find (eq x) items)
-
-  module _ (laws : Lawful eq) where
-    pub find_item_replace_back : (items : List T) (x y : T) → find_item eq items x ≡ Some y → find_item eq (replace_item eq items x) y ≡ Some x
-    find_item_replace_back items x y stored = find_item_replace_item eq items x y laws ∙ ap (λ b. if b then Some x else find_item eq items y) (stored_equals items x y stored)
-
-    swap_key_back : (items : List T) (x y : T) → find_item eq items x ≡ Some y → swap_key (eq y) (swap_key (eq x) items x) y ≡ items
-    swap_key_back [] x y stored = grind (arith, stored)
-    swap_key_back (z ∷ zs) x y stored =
-        let e = of_lawful eq laws in
-        grind (arith, stored, stored_equals zs x y, swap_key_back zs x y, e.symm x z, e.congr x y z)
-
-    pub replace_item_back : (items : List T) (x y : T) → find_item eq items x ≡ Some y → replace_item eq (replace_item eq items x) y ≡ items
-    unfolding replace_item
-    replace_item_back items x y stored = grind (arith, stored, any-find (eq x) items, any-find (eq y) (swap_key (eq x) items x), find_item_replace_back items x y stored, swap_key_back items x y stored)
 
 -- the first item: it is there, none behind it is equal, and a removal of it leaves what is behind
 module _ {T : Type 0} (eq : T → T → Bool) (x : T) (behind : List T) where

@@ -47,8 +47,8 @@ impl<T: Eq + Drop, const N: usize> Set<T, N> {
     /// Inserts the item if it fits. Returns `Some(item)` if an equal one is stored, else `None`, inserted or refused.
     ///
     /// A stored item stays, and the one that was passed is returned. A new item goes last. A new item doesn't fit a
-    /// full set: then the set is unchanged, and the item is dropped. `fits` tells whether it fits. Makes one scan, and
-    /// a second one for a stored item if the set isn't full.
+    /// full set: then the set is unchanged, and the item is dropped. `try_insert` tells that from an insertion. Makes
+    /// one scan.
     ///
     /// ```
     /// let mut seen: Set<u8, 2> = Set::new();
@@ -61,16 +61,7 @@ impl<T: Eq + Drop, const N: usize> Set<T, N> {
         ensures items { self.new ≡ put_item_if_fits T.eq N self.old item }
         ensures content { AreItems T.eq N self.old self.new }
     {
-        if self.len() < N {
-            // `item` stands where the equal item was. Now that item goes back, and `item` comes out.
-            let stored = self.replace(item)?;
-            return self.replace(stored);
-        }
-        if self.contains(&item) {
-            Some(item)
-        } else {
-            None
-        }
+        self.try_insert(item).ok()?
     }
 
     /// Inserts the item if it is new and there is room. Returns `Ok(None)` then, `Ok(Some(item))` if an equal one is
