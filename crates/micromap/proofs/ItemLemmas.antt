@@ -1,17 +1,18 @@
 -- A set's items are the keys of its map. Each lemma says what a word on the map's pairs does to the keys.
-use Rattle.std.proofs.Common.{◌≡◌, ℕ, Bool, List, [], ◌∷◌, length, is_some, if◌then◌else◌, refl, ap, ◌∙◌, arith, option_map}
+use Rattle.std.proofs.Common.{◌≡◌, ℕ, ◌+◌, Bool, ◌&&◌, not, List, [], ◌∷◌, take, is_some, Result, Ok, Err, if◌then◌else◌, refl, ap, sym, ◌∙◌, arith, option_map}
 use Rattle.std.specs.List.{AllZip, IsDistinct, find, list_any}
+use Rattle.std.specs.Result.{OnOk}
 use Rattle.std.specs.Map.{keys_of, lookup, lookup_entry, remove_entry, set_value, set_key}
 use Rattle.std.specs.Set.{remove_key, swap_key}
-use Rattle.std.proofs.lemmas.List.{map_push}
+use Rattle.std.proofs.lemmas.List.{map_push, take-map}
 use Rattle.std.proofs.lemmas.Map.{keys-set_value}
 use Rattle.std.proofs.lemmas.Map.Entries.{length-keys_of}
-use Rattle.micromap_core.specs.Build.{put_all}
+use Rattle.micromap_core.specs.Build.{each_fits, pair_fits, put_all, put_pair, MisfitIn}
 use Rattle.micromap_core.specs.Clones.{IsPairClone}
 use Rattle.micromap_core.specs.Equalities.{Lawful}
 use Rattle.micromap_core.specs.Pairs.{IsContent, fits, has, put, put_key, take_out}
 use Rattle.micromap_core.proofs.MapLemmas.{keys_of-put_stored, keys_of-put_new}
-use Rattle.micromap.specs.Extend.{put_all_items}
+use Rattle.micromap.specs.Extend.{put_all_items, ItemMisfitIn}
 use Rattle.micromap.specs.Items.{IsItems, put_item, replace_item, item_fits, take_item}
 
 pub any-find : {T : Type 0} (test : T → Bool) (items : List T) → list_any test items ≡ is_some (find test items)
@@ -67,6 +68,35 @@ module _ {T V : Type 0} where
   pub keys_put_all_items : (eq : T → T → Bool) (pairs items : List (T × V)) → keys_of (put_all eq pairs items) ≡ put_all_items eq (keys_of pairs) (keys_of items)
   keys_put_all_items eq pairs [] = refl
   keys_put_all_items eq pairs (p ∷ items) = keys_put_all_items eq (put eq pairs p.0 p.1) items ∙ ap (λ keys. put_all_items eq keys (keys_of items)) (keys_put_item eq p.0 p.1 pairs)
+
+-- the same once a call has put them, unless it is refused
+pub extended-keys : {T V Y E : Type 0} (eq : T → T → Bool) (pairs items new : List (T × V)) (r : Result Y E)
+    → OnOk r (new ≡ put_all eq pairs items)
+    → OnOk r (keys_of new ≡ put_all_items eq (keys_of pairs) (keys_of items))
+extended-keys eq pairs items new (Ok y) put = ap keys_of put ∙ keys_put_all_items eq pairs items
+extended-keys eq pairs items new (Err e) put = tt
+
+-- pairs fit a map where their keys fit a set, and the first pair that doesn't is the first key that doesn't
+module _ {T : Type 0} (eq : T → T → Bool) (N : ℕ) where
+  abbrev items_fit : List T → List T → Bool
+  items_fit = each_fits (item_fits eq N) (put_item eq)
+
+  module _ {V : Type 0} where
+    abbrev pairs_fit : List (T × V) → List (T × V) → Bool
+    pairs_fit = each_fits (pair_fits eq N) (put_pair eq)
+
+    each_fits-keys : (pairs items : List (T × V)) → items_fit (keys_of pairs) (keys_of items) ≡ pairs_fit pairs items
+    each_fits-keys pairs [] = refl
+    each_fits-keys pairs (p ∷ items) =
+        let put_keys = sym (keys_put_item eq p.0 p.1 pairs) in
+        let rest = ap (λ keys. items_fit keys (keys_of items)) put_keys ∙ each_fits-keys (put eq pairs p.0 p.1) items in
+        ap (λ b. b && items_fit (put_item eq (keys_of pairs) p.0) (keys_of items)) (fits-keys eq N pairs p.0) ∙ ap (λ b. fits eq N pairs p.0 && b) rest
+
+    each_fits-take : (pairs items : List (T × V)) (n : ℕ) → items_fit (keys_of pairs) (take n (keys_of items)) ≡ pairs_fit pairs (take n items)
+    each_fits-take pairs items n = ap (items_fit (keys_of pairs)) (take-map (λ p. p.0) n items) ∙ each_fits-keys pairs (take n items)
+
+    pub misfit-keys : (pairs items : List (T × V)) (at : ℕ) → MisfitIn eq N pairs items at → ItemMisfitIn eq N (keys_of pairs) (keys_of items) at
+    misfit-keys pairs items at misfit = (each_fits-take pairs items at ∙ misfit.0, ap not (each_fits-take pairs items (at + 1)) ∙ misfit.1)
 
 -- what is cloned pair by pair is cloned key by key
 pub zip-keys : {T V : Type 0} (C : T → T → Type 0) (D : V → V → Type 0) (ps qs : List (T × V)) → AllZip (IsPairClone C D) ps qs → AllZip C (keys_of ps) (keys_of qs)

@@ -10,6 +10,7 @@ mod capacity;
 mod clone;
 mod closures;
 mod compare;
+mod extend_from;
 mod insert;
 mod lookup;
 mod operations;
