@@ -27,7 +27,7 @@ use std::marker::Model;
 ///
 /// A contract sees it as the list of its pairs, from front to end. All `N` slots are part of the value, so no call
 /// allocates memory of its own. A *scan* compares the keys from the front, each at most once. How many keys are compared
-/// is proved of `get_counted` and `eq_with_counted` alone.
+/// isn't proved. What `get_counted` and `eq_with_counted` add to their counter is.
 #[derive(Drop)]
 pub struct Map<K: Eq, V, const N: usize> {
     pairs: Columns<K, V, N>,

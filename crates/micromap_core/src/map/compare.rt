@@ -18,7 +18,7 @@ impl<K: Eq, V: Eq, const N: usize> Map<K, V, N> {
     ///
     /// Compares no key if the lengths differ. Else it makes one scan of `other` for each key of this map, up to and
     /// including the first that `other` lacks or has with an unequal value. At most as many keys are compared as the
-    /// length times itself. `eq_with_counted` counts them, with that number proved.
+    /// length times itself. `eq_with_counted` counts its comparisons; only what it adds to the counter is proved.
     pub fn eq_with<const M: usize>(&self, other: &Map<K, V, M>) -> bool
         ensures answer { IsTrue result ↔ Same K.eq V.eq self.now other.now }
         ensures each { IsTrue result ↔ ((k : K) → IsTrue (same_at K.eq V.eq self.now other.now k)) }

@@ -15,7 +15,7 @@ impl<K: Eq, V, const N: usize> Map<K, V, N> {
     /// Returns a reference to the value of `key`, or `None` if the key is missing.
     ///
     /// Makes one scan. It compares as many keys as the index of the key plus one, or as the length if the key is
-    /// missing. `get_counted` counts them, with that number proved.
+    /// missing. `get_counted` counts its comparisons; only what it adds to the counter is proved.
     #[inline]
     pub fn get(&self, key: &K) -> Option<&V>
         ensures { option_copied result ≡ at K.eq self.now key.now }
