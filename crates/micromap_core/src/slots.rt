@@ -106,15 +106,17 @@ impl<T, const N: usize> Slots<T, N> {
 }
 
 impl<T: Copy, const N: usize> Slots<T, N> {
-    /// Returns the same items in slots of their own. Copies all of them at once.
+    /// Returns the same items in slots of their own. The list must be full: its slots are copied as one array.
     #[inline]
-    pub(crate) fn copied(&self) -> Self
+    pub(crate) fn copied_full(&self) -> Self
+        requires { length self.now ≡ N }
         ensures { result ≡ self.now }
     {
-        let mut slots = ArrayVec::new();
-        match slots.try_extend_from_slice(self.slots.as_slice()) {
-            Ok(()) => Slots { slots },
-            Err(_) => unreachable!(),
+        match self.slots.as_slice().as_array::<N>().copied() {
+            Some(array) => Slots {
+                slots: ArrayVec::from(array),
+            },
+            None => unreachable!(),
         }
     }
 }

@@ -41,7 +41,7 @@ impl<K: Eq + Clone + Drop, V: Clone + Drop, const N: usize> Map<K, V, N> {
 impl<K: Eq + Copy, V: Copy, const N: usize> Map<K, V, N> {
     /// Returns a copy of this map: the same pairs, in the same order.
     ///
-    /// Copies all keys at once, and then all values. Compares no key.
+    /// Copies all keys of a full map at once, and then all values; of any other, pair after pair. Compares no key.
     pub fn copied(&self) -> Self
         ensures answer { result ≡ self.now }
         ensures content { IsContent K.eq N result }

@@ -168,15 +168,29 @@ impl<K, V, const N: usize> Columns<K, V, N> {
 }
 
 impl<K: Copy, V: Copy, const N: usize> Columns<K, V, N> {
-    /// Returns the same pairs in columns of their own. Copies each column at once.
+    /// Returns the same pairs in columns of their own. Copies each column of a full list at once, else pair after pair.
+    ///
+    /// A slice whose length isn't known would be copied after a test whether it overlaps. Such a test takes the address of
+    /// the copy, which the compiler could then no longer build in its place.
     #[inline]
     pub(crate) fn copied(&self) -> Self
         ensures { result ≡ self.now }
     {
-        Columns {
-            keys: self.keys.copied(),
-            values: self.values.copied(),
+        let len = self.len();
+        hint_equal(self.values.len(), len);
+        if len == N {
+            return Columns {
+                keys: self.keys.copied_full(),
+                values: self.values.copied_full(),
+            };
         }
+        let mut copy = Columns::new();
+        for index in 0..len {
+            let (key, value) = self.pair_at(index);
+            hint_equal(copy.len(), index);
+            copy.push(*key, *value);
+        }
+        copy
     }
 }
 
