@@ -1,4 +1,5 @@
 pub mod AddedItems
+pub mod ChainItems
 pub mod ChainLaws
 pub mod EntryItems
 pub mod ExtendLemmas
