@@ -10,4 +10,5 @@ pub mod folds;
 pub mod members;
 pub mod nested;
 pub mod reads;
+pub mod sums;
 pub mod texts;
