@@ -1,14 +1,15 @@
 //! Maps and sets that are made by `fold`, where no call makes them. A fold moves the map in each turn.
 #![tactic(auto)]
 
-ghost use Rattle.std.specs.Prelude.{◌≡◌, ◌/◌, ◌+◌, ◌&&◌, [], Some, None, List, Option, ℕ, true, filter, fold, if◌then◌else◌, is_none, length, max, nat_eq, nat_lt, not, unwrap_or};
-ghost use Rattle.std.specs.List.{zip};
+ghost use Rattle.std.specs.Prelude.{◌≡◌, ◌/◌, ◌+◌, ◌<◌, ◌&&◌, [], Some, None, List, Option, ℕ, true, filter, fold, if◌then◌else◌, is_none, length, map, max, nat_eq, nat_lt, not, unwrap_or};
+ghost use Rattle.std.specs.List.{enumerate_from, zip};
+ghost use Rattle.std.specs.Option.{option_and_then};
 ghost use Rattle.std.specs.Set.{is_member};
 ghost use Rattle.std.specs.Ordering.{on};
 ghost use Rattle.std.specs.Str.{bytes_eq};
 ghost use Rattle.micromap.specs.Items.{put_item_if_fits, take_item};
 ghost use Rattle.micromap.specs.Operations.{difference};
-ghost use Rattle.micromap.specs.Pairs.{at, has, put_if_fits};
+ghost use Rattle.micromap.specs.Pairs.{at, fits, has, put, put_if_fits};
 
 use micromap::{Map, Set};
 
@@ -95,6 +96,25 @@ pub fn first_above(pairs: &Map<u8, u32, 16>, limit: u32) -> Option<u8>
     })
 }
 
+/// Returns the first pair whose value is above a limit, if any.
+pub fn first_pair_above<const N: usize>(
+    pairs: &Map<u8, u32, N>,
+    limit: u32,
+) -> Option<(u8, u32)>
+    ensures { result ≡ fold
+        (λ (found : Option (ℕ × ℕ)) (p : ℕ × ℕ). if is_none found && nat_lt limit p.1 then Some p else found) None pairs.now }
+{
+    pairs
+        .iter()
+        .fold(None, |found: Option<(u8, u32)>, (k, v)| {
+            if found.is_none() && *v > limit {
+                Some((*k, *v))
+            } else {
+                found
+            }
+        })
+}
+
 /// Returns the greatest member of a difference, or 0.
 pub fn greatest_alone(a: &Set<u8, 16>, b: &Set<u8, 16>) -> u8
     ensures { result ≡ fold max 0 (difference nat_eq a.now b.now) }
@@ -143,4 +163,105 @@ pub fn longest(names: &Map<&str, u64, 16>) -> usize
         0,
         |most, (name, _)| if most < name.len() { name.len() } else { most },
     )
+}
+
+/// Returns the items of a list as a set, as far as they fit.
+pub fn items_of(list: &[u8]) -> Set<u8, 16>
+    ensures { result ≡ fold (λ (s : List ℕ) (v : ℕ). put_item_if_fits nat_eq 16 s v) [] list.now }
+{
+    list.iter().fold(Set::new(), |mut s, v| {
+        s.checked_insert(*v);
+        s
+    })
+}
+
+/// Returns how often each vote came, by entry.
+pub fn counted(votes: &[u8]) -> Map<u8, u32, 16>
+    ensures { result ≡ fold
+        (λ (m : List (ℕ × ℕ)) (v : ℕ). if fits nat_eq 16 m v then put nat_eq m v (unwrap_or (at nat_eq m v) 0 / 2 + 1) else m)
+        [] votes.now }
+{
+    votes.iter().fold(Map::new(), |mut m, v| {
+        if m.fits(v) {
+            let count = m.entry(*v).or_insert(0);
+            *count = *count / 2 + 1;
+        }
+        m
+    })
+}
+
+/// Returns the pairs whose keys another map lacks.
+pub fn lacking(pairs: &Map<u8, u8, 8>, other: &Map<u8, u8, 16>) -> Map<u8, u8, 8>
+    ensures { result ≡ fold (λ (m : List (ℕ × ℕ)) (p : ℕ × ℕ). put_if_fits nat_eq 8 m p.0 p.1) []
+        (filter (λ p. not (has nat_eq other.now p.0)) pairs.now) }
+{
+    pairs
+        .iter()
+        .filter(|(k, _)| !other.contains_key(*k))
+        .fold(Map::new(), |mut m, (k, v)| {
+            m.checked_insert(*k, *v);
+            m
+        })
+}
+
+/// Returns the halves of the items of a list, or `None` if they don't all fit.
+pub fn all_halves(list: &[u8]) -> Option<Map<u8, u8, 16>>
+    ensures { result ≡ fold
+        (λ (made : Option (List (ℕ × ℕ))) (p : ℕ × ℕ). option_and_then (λ m. if fits nat_eq 16 m p.0 then Some (put nat_eq m p.0 p.1) else None) made)
+        (Some []) (map (λ x. (x, x / 2)) list.now) }
+{
+    list.iter()
+        .map(|x| (*x, *x / 2))
+        .fold(Some(Map::new()), |made, p| {
+            let mut map = made?;
+            map.checked_insert(p.0, p.1)?;
+            Some(map)
+        })
+}
+
+/// Returns a map with each of the votes, as far as they fit.
+pub fn seen(votes: &[u8]) -> Map<u8, u8, 16>
+    ensures { result ≡ fold (λ (m : List (ℕ × ℕ)) (v : ℕ). put_if_fits nat_eq 16 m v 1) [] votes.now }
+{
+    votes.iter().fold(Map::new(), |mut m, v| {
+        m.checked_insert(*v, 1);
+        m
+    })
+}
+
+/// Returns a map of any capacity with each of the votes, as far as they fit.
+pub fn seen_any<const N: usize>(votes: &[u8]) -> Map<u8, u8, N>
+    requires { N < 1000 }
+    ensures { result ≡ fold (λ (m : List (ℕ × ℕ)) (v : ℕ). put_if_fits nat_eq N m v 1) [] votes.now }
+{
+    let start: Map<u8, u8, N> = Map::new();
+    votes.iter().fold(
+        start,
+        |mut m: Map<u8, u8, N>, v: &u8| -> Map<u8, u8, N>
+            ensures { result ≡ put_if_fits {V = ℕ} nat_eq N m.entry v.now 1 }
+        {
+            m.checked_insert(*v, 1);
+            m
+        },
+    )
+}
+
+/// Returns each item of a list with its index.
+pub fn numbered(list: &[u8]) -> Map<u8, usize, 16>
+    ensures { result ≡ fold (λ (m : List (ℕ × ℕ)) (p : ℕ × ℕ). put_if_fits nat_eq 16 m p.1 p.0) [] (enumerate_from 0 list.now) }
+{
+    list.iter().enumerate().fold(Map::new(), |mut m, (i, x)| {
+        m.checked_insert(*x, i);
+        m
+    })
+}
+
+/// Returns a map with each item of a list put into it with 0, as far as they fit.
+pub fn noted(mine: Map<u8, u8, 16>, list: &[u8]) -> Map<u8, u8, 16>
+    ensures { result ≡ fold (λ (m : List (ℕ × ℕ)) (x : ℕ). put_if_fits nat_eq 16 m x 0) mine list.now }
+{
+    list.iter().fold(mine, |mut m, x| {
+        m.checked_insert(*x, 0);
+        m
+    })
 }
