@@ -1,7 +1,8 @@
 //! What is read of a map, and of sets.
 #![tactic(auto, using(micromap::proofs::Rules::caller))]
 
-ghost use Rattle.std.specs.Prelude.{◌≡◌, ◌-◌, ◌^◌, ◌<◌, ◌&&◌, ◌==◌, IfOk, count_by, filter, length, map, max, min, nat_eq, nat_lt, position, slice_get, sum};
+ghost use Rattle.std.specs.Prelude.{◌≡◌, ◌-◌, ◌^◌, ◌<◌, ◌&&◌, ◌==◌, IfOk, count_by, filter, if◌then◌else◌, length, map, max, min, nat_eq, nat_lt, position, slice_get, sum};
+ghost use Rattle.std.specs.Cmp.Lexicographic.{pointwise};
 ghost use Rattle.std.specs.List.{enumerate_from, find, fold, list_all, list_any, reduce, zip};
 ghost use Rattle.std.specs.Map.{keys_of, values_of};
 ghost use Rattle.std.specs.Map.Iter.{deref_pair};
@@ -38,6 +39,30 @@ pub fn total<const N: usize>(pairs: &Map<u8, u32, N>) -> u32
     ensures { result ≡ sum (values_of pairs.now) }
 {
     pairs.values().sum()
+}
+
+/// Returns the sum of the values, which must fit, by their copies.
+pub fn total_of_copies<const N: usize>(pairs: &Map<u8, u32, N>) -> u32
+    requires { sum (values_of pairs.now) < 2 ^ 32 }
+    ensures { result ≡ sum (values_of pairs.now) }
+{
+    pairs.values().copied().sum()
+}
+
+/// Returns the greatest value, or 0.
+pub fn greatest_or_zero<const N: usize>(pairs: &Map<u8, u32, N>) -> u32
+    ensures { result ≡ fold (λ most v. if nat_lt most v then v else most) 0 (values_of pairs.now) }
+{
+    pairs
+        .values()
+        .fold(0, |most, v| if most < *v { *v } else { most })
+}
+
+/// Returns how many pairs there are.
+pub fn count_all<const N: usize>(pairs: &Map<u8, u32, N>) -> usize
+    ensures { result ≡ length pairs.now }
+{
+    pairs.iter().count()
 }
 
 /// Returns how many values are above a limit.
@@ -87,6 +112,20 @@ pub fn position_of<const N: usize>(pairs: &Map<u8, u32, N>, x: u32) -> Option<us
     ensures { result ≡ position (λ v. v == x) (values_of pairs.now) }
 {
     pairs.values().position(|v| *v == x)
+}
+
+/// Returns the number of pairs before the first whose value is above a limit, if any is.
+pub fn position_above<const N: usize>(pairs: &Map<u8, u32, N>, limit: u32) -> Option<usize>
+    ensures { result ≡ position (λ p. nat_lt limit p.1) pairs.now }
+{
+    pairs.iter().position(|(_, v)| *v > limit)
+}
+
+/// Returns `true` if the values of a map are those of a list, in order.
+pub fn has_values<const N: usize>(pairs: &Map<u8, u32, N>, list: &[u32]) -> bool
+    ensures { result ≡ pointwise nat_eq (values_of pairs.now) list.now }
+{
+    pairs.values().eq(list.iter())
 }
 
 /// Returns `true` if the values of two maps are the same, as far as both have some.
@@ -150,6 +189,13 @@ pub fn count_items_above<const N: usize>(set: &Set<u8, N>) -> usize
     ensures { result ≡ count_by (nat_lt 9) set.now }
 {
     set.iter().filter(|x| **x > 9).count()
+}
+
+/// Returns the first pair, if any.
+pub fn first_pair<const N: usize>(pairs: &Map<u8, u32, N>) -> Option<(&u8, &u32)>
+    ensures { option_map deref_pair result ≡ slice_get pairs.now 0 }
+{
+    pairs.iter().next()
 }
 
 /// Returns the last value, if any.
