@@ -1,9 +1,10 @@
 //! What is read of a map with texts as keys.
 #![tactic(auto, using(micromap::proofs::Rules::caller))]
 
-ghost use Rattle.std.specs.Prelude.{◌≡◌, ◌^◌, ◌<◌, count_by, length, nat_lt, sum};
-ghost use Rattle.std.specs.List.{list_any};
+ghost use Rattle.std.specs.Prelude.{◌≡◌, ◌^◌, ◌<◌, count_by, filter, length, map, max, nat_lt, sum};
+ghost use Rattle.std.specs.List.{list_any, reduce};
 ghost use Rattle.std.specs.Map.{keys_of, values_of};
+ghost use Rattle.std.specs.String.{string_bytes};
 
 use micromap::Map;
 
@@ -27,4 +28,34 @@ pub fn count_large<const N: usize>(names: &Map<&str, u64, N>) -> usize
     ensures { result ≡ count_by (λ p. nat_lt 5 p.1) names.now }
 {
     names.iter().filter(|(_, v)| **v > 5).count()
+}
+
+/// Returns how many bytes the longest key has, if any.
+pub fn longest<const N: usize>(names: &Map<&str, u64, N>) -> Option<usize>
+    ensures { result ≡ reduce max (map (λ k. length k.now) (keys_of names.now)) }
+{
+    names.keys().map(|k| k.len()).max()
+}
+
+/// Returns how many bytes the longest key has, if any, by the pairs.
+pub fn longest_of_pairs<const N: usize>(names: &Map<&str, u64, N>) -> Option<usize>
+    ensures { result ≡ reduce max (map (λ p. length p.0.now) names.now) }
+{
+    names.iter().map(|(k, _)| k.len()).max()
+}
+
+/// Returns how many bytes the longest key has, if any, where keys are `String`s.
+pub fn longest_of_strings<const N: usize>(names: &Map<String, u64, N>) -> Option<usize>
+    ensures { result ≡ reduce max (map (λ p. length (string_bytes p.0)) names.now) }
+{
+    names.iter().map(|(k, _)| k.len()).max()
+}
+
+/// Returns the pairs whose values are above five.
+pub fn large<'a, const N: usize>(names: &Map<&'a str, u64, N>) -> Map<&'a str, u64, N>
+    ensures { result ≡ filter (λ p. nat_lt 5 p.1) names.now }
+{
+    let mut some = names.copied();
+    some.retain(|_, value| *value > 5);
+    some
 }
