@@ -97,22 +97,17 @@ pub fn first_above(pairs: &Map<u8, u32, 16>, limit: u32) -> Option<u8>
 }
 
 /// Returns the first pair whose value is above a limit, if any.
-pub fn first_pair_above<const N: usize>(
-    pairs: &Map<u8, u32, N>,
-    limit: u32,
-) -> Option<(u8, u32)>
+pub fn first_pair_above<const N: usize>(pairs: &Map<u8, u32, N>, limit: u32) -> Option<(u8, u32)>
     ensures { result ≡ fold
         (λ (found : Option (ℕ × ℕ)) (p : ℕ × ℕ). if is_none found && nat_lt limit p.1 then Some p else found) None pairs.now }
 {
-    pairs
-        .iter()
-        .fold(None, |found: Option<(u8, u32)>, (k, v)| {
-            if found.is_none() && *v > limit {
-                Some((*k, *v))
-            } else {
-                found
-            }
-        })
+    pairs.iter().fold(None, |found: Option<(u8, u32)>, (k, v)| {
+        if found.is_none() && *v > limit {
+            Some((*k, *v))
+        } else {
+            found
+        }
+    })
 }
 
 /// Returns the greatest member of a difference, or 0.
@@ -264,4 +259,22 @@ pub fn noted(mine: Map<u8, u8, 16>, list: &[u8]) -> Map<u8, u8, 16>
         m.checked_insert(*x, 0);
         m
     })
+}
+
+/// Returns a map with the pairs of another put into it, as far as they fit. Keys and values are of any type.
+pub fn merged_any<K: Eq + Copy, V: Copy, const N: usize, const M: usize>(
+    mine: Map<K, V, N>,
+    other: &Map<K, V, M>,
+) -> Map<K, V, N>
+    ensures { result ≡ fold (λ m p. put_if_fits K.eq N m p.0 p.1) mine other.now }
+{
+    other.iter().fold(
+        mine,
+        |mut m: Map<K, V, N>, p: (&K, &V)| -> Map<K, V, N>
+            ensures { result ≡ put_if_fits K.eq N m p.entry.0.now p.entry.1.now }
+        {
+            m.checked_insert(*p.0, *p.1);
+            m
+        },
+    )
 }
