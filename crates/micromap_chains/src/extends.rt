@@ -18,6 +18,18 @@ pub fn put_list<const N: usize>(
     pairs.try_extend(list.iter().copied())
 }
 
+/// Puts the pairs of a map whose values are above 9 into another. The first stays as it is.
+pub fn put_pairs_above<const N: usize>(
+    pairs: &mut Map<u8, u32, N>,
+    other: &Map<u8, u32, 8>,
+) -> Result<(), Overfull>
+    ensures { OnOk result (pairs.new ≡ put_all nat_eq pairs.old (filter (λ p. nat_lt 9 p.1) other.now)) }
+{
+    let mut some = other.copied();
+    some.retain(|_, value| *value > 9);
+    pairs.try_extend(some.into_iter())
+}
+
 /// Moves the pairs of a map into another.
 pub fn put_drained<const N: usize, const M: usize>(
     pairs: &mut Map<u8, u8, N>,
