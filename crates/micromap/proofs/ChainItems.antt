@@ -17,7 +17,7 @@ use Rattle.std.specs.Result.{OnOk}
 use Rattle.std.specs.Set.{distinct_count}
 use Rattle.micromap_core.specs.Build.{AllItems, ItemsUpTo, PutsEach, StopsAt}
 use Rattle.micromap_core.specs.Equalities.{Lawful}
-use Rattle.micromap_core.specs.declared.map.build.Overfull.{Overfull}
+use Rattle.micromap_core.specs.declared.overfull.Overfull.{Overfull}
 use Rattle.micromap_core.proofs.CountLaws.{distinct_prefix}
 
 -- a chain through a `map` that makes values of references, as `|(k, v)| (*k, *v)`
