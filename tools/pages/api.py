@@ -15,12 +15,12 @@ OF_EACH = {
     "len is_empty capacity",
     "look up by probe": "get_by get_key_value_by get_mut_by contains_key_by contains_by fits_by index_by index_mut_by "
     "remove_by remove_entry_by take_by",
-    "insert": "checked_insert insert replace insert_key_value insert_unchecked try_extend",
+    "insert": "checked_insert insert try_insert replace insert_key_value insert_unchecked try_extend try_extend_from",
     "remove": "remove remove_entry take pop_first retain clear",
     "update": "update_all update_disjoint",
     "iterate": "iter keys values into_keys into_values drain IntoIterator",
     "compare": "eq_with differs_at is_subset is_superset is_disjoint PartialEq",
-    "build and convert": "try_from_iter From into_capacity copied clone Clone Display",
+    "build and convert": "try_from_iter of_all of_fitting From into_capacity copied clone Clone Display",
     "operations": "difference intersection union symmetric_difference difference_ref bitand sub",
 }
 OTHERS = {
