@@ -1,6 +1,6 @@
 -- What a set is after items are put into it one after the other, and which item is the first that doesn't fit.
-use Rattle.std.specs.Prelude.{ℕ, Bool, List, [], fold}
-use Rattle.micromap_core.specs.Build.{each_fits, PutsEach, PutsUpTo, StopsAt}
+use Rattle.std.specs.Prelude.{ℕ, Bool, List, [], Option, fold}
+use Rattle.micromap_core.specs.Build.{each_fits, put_whole, PutsEach, PutsUpTo, StopsAt}
 use Rattle.micromap.specs.Items.{put_item, item_fits}
 
 module _ {T : Type 0} (eq : T → T → Bool) where
@@ -11,6 +11,10 @@ module _ {T : Type 0} (eq : T → T → Bool) where
   -- the items of a new set once these are put: each distinct one as it came first
   abbrev pub distinct : List T → List T
   distinct = put_all_items []
+
+  -- the items once x is put, or `None` if it doesn't fit or if one before it didn't
+  abbrev pub put_item_or_refuse : ℕ → Option (List T) → T → Option (List T)
+  put_item_or_refuse N = put_whole (item_fits eq N) (put_item eq)
 
   -- whether each item fits a new set of capacity N when it is put
   abbrev pub all_items_fit : ℕ → List T → Bool

@@ -1,11 +1,13 @@
-//! Building a set from an array or an iterator, and extending it. Of equal items the first is stored. Items are in the
-//! order in which they first came.
-ghost use Rattle.std.specs.Prelude.{◌≡◌, ◌<◌, ◌≤◌, [], length, IfOk, OnOk, IfErr, OnErr, IsTrue};
-ghost use Rattle.std.specs.Iterator.{UpTo};
+//! Building a set from an array or an iterator, extending it, and taking the items of an iterator out of it. Of equal
+//! items the first is stored. Items are in the order in which they first came.
+ghost use Rattle.std.specs.Prelude.{◌≡◌, ◌<◌, ◌≤◌, List, [], fold, length, Option, Some, IfSome, IfOk, OnOk, IfErr, OnErr, IsTrue, ⊤};
+ghost use Rattle.std.specs.Bool.{then_some};
+ghost use Rattle.std.specs.Borrow.{Bor};
+ghost use Rattle.std.specs.Iterator.{Drains, IsFinite, UpTo};
 ghost use Rattle.std.specs.Set.{distinct_count};
 ghost use Rattle.micromap.specs.Build.{most_items, AllItems, ItemsUpTo};
-ghost use Rattle.micromap.specs.Extend.{all_items_fit, distinct, ItemMisfitIn, PutsAllItems, PutsItemsBefore};
-ghost use Rattle.micromap.specs.Items.{AreItems, IsItems};
+ghost use Rattle.micromap.specs.Extend.{all_items_fit, distinct, put_item_or_refuse, ItemMisfitIn, PutsAllItems, PutsItemsBefore};
+ghost use Rattle.micromap.specs.Items.{AreItems, IsItems, put_item_if_fits, take_item};
 
 use super::Set;
 use crate::Overfull;
@@ -67,6 +69,124 @@ impl<T: Eq + Drop, const N: usize> Set<T, N> {
         let mut set = Set::new();
         set.try_extend(items)?;
         Ok(set)
+    }
+
+    // Inserts those of the items that fit, and returns whether all did.
+    #[inline]
+    fn put_fitting<I: Iterator<Item = T>>(&mut self, items: I) -> bool
+        requires can { I.can_next items }
+        requires ends { IsFinite (I.remaining items) }
+        ensures ran { (xs : List T) × (⊤ → Drains I.next_gives items xs)
+            × (then_some result self.new ≡ fold (put_item_or_refuse T.eq N) (Some self.old) xs)
+            × (self.new ≡ fold (put_item_if_fits T.eq N) self.old xs) }
+        ensures content { AreItems T.eq N self.old self.new }
+    {
+        let _content = self.len();
+        let mut all_fit = true;
+        for x in items {
+            if !self.put(x) {
+                all_fit = false;
+            }
+        }
+        all_fit
+    }
+
+    /// Creates a set of all items of an iterator, inserted one after the other as `insert` does, or returns `None` if
+    /// they don't all fit.
+    ///
+    /// Requires that the iterator ends. Takes every item, also after one that doesn't fit. The result is `None` exactly
+    /// if more than `N` of the items are distinct: then all are dropped. Makes one scan for each item.
+    ///
+    /// ```
+    /// let halves: Option<Set<u8, 4>> = Set::of_all(list.iter().map(|x| *x / 2));
+    /// ```
+    pub fn of_all<I: Iterator<Item = T>>(items: I) -> Option<Self>
+        requires can { I.can_next items }
+        requires ends { IsFinite (I.remaining items) }
+        ensures ran { (xs : List T) × (⊤ → Drains I.next_gives items xs)
+            × (result ≡ fold (put_item_or_refuse T.eq N) (Some []) xs) }
+        ensures content { IfSome result (IsItems T.eq N) }
+    {
+        let mut set = Set::new();
+        if set.put_fitting(items) {
+            Some(set)
+        } else {
+            None
+        }
+    }
+
+    /// Creates a set of those items of an iterator that fit, inserted one after the other.
+    ///
+    /// Requires that the iterator ends. A new item doesn't fit a full set: it is dropped, and the next ones are taken.
+    /// Makes one scan for each item.
+    pub fn of_fitting<I: Iterator<Item = T>>(items: I) -> Self
+        requires can { I.can_next items }
+        requires ends { IsFinite (I.remaining items) }
+        ensures ran { (xs : List T) × (⊤ → Drains I.next_gives items xs)
+            × (result ≡ fold (put_item_if_fits T.eq N) [] xs) }
+        ensures content { IsItems T.eq N result }
+    {
+        let mut set = Set::new();
+        set.put_fitting(items);
+        set
+    }
+
+    /// Returns the set with all items of an iterator, inserted one after the other as `insert` does, or `None` if they
+    /// don't all fit.
+    ///
+    /// Requires that the iterator ends. Takes every item, also after one that doesn't fit. The result is `None` exactly
+    /// if there are more than `N` distinct items with those of the set: then the set and all items are dropped. Makes one
+    /// scan for each item.
+    pub fn with_all<I: Iterator<Item = T>>(items: I, mut set: Self) -> Option<Self>
+        requires can { I.can_next items }
+        requires ends { IsFinite (I.remaining items) }
+        ensures ran { (xs : List T) × (⊤ → Drains I.next_gives items xs)
+            × (result ≡ fold (put_item_or_refuse T.eq N) (Some set) xs) }
+        ensures content { IsItems T.eq N set × IfSome result (IsItems T.eq N) }
+    {
+        if set.put_fitting(items) {
+            Some(set)
+        } else {
+            None
+        }
+    }
+
+    /// Returns the set with those items of an iterator that fit, inserted one after the other.
+    ///
+    /// Requires that the iterator ends. A new item doesn't fit a full set: it is dropped, and the next ones are taken.
+    /// Makes one scan for each item.
+    pub fn with_fitting<I: Iterator<Item = T>>(items: I, mut set: Self) -> Self
+        requires can { I.can_next items }
+        requires ends { IsFinite (I.remaining items) }
+        ensures ran { (xs : List T) × (⊤ → Drains I.next_gives items xs)
+            × (result ≡ fold (put_item_if_fits T.eq N) set xs) }
+        ensures content { AreItems T.eq N set result }
+    {
+        set.put_fitting(items);
+        set
+    }
+
+    /// Returns the set without the items of an iterator, each removed as `remove` does.
+    ///
+    /// Requires that the iterator ends. An item that is no member changes nothing. Makes one scan for each item.
+    ///
+    /// ```
+    /// let left: Set<u8, 4> = Set::without_all([2, 3].iter(), [1, 2, 3, 4].into());
+    /// ```
+    pub fn without_all<'a, I: Iterator<Item = &'a T>>(items: I, mut set: Self) -> Self
+    where
+        T: 'a,
+        requires can { I.can_next items }
+        requires ends { IsFinite (I.remaining items) }
+        ensures ran { (xs : List (Bor T)) × (⊤ → Drains I.next_gives items xs)
+            × (result ≡ fold (λ kept x. take_item T.eq kept x.now) set xs) }
+        ensures content { AreItems T.eq N set result }
+    {
+        let _content = set.len();
+        for x in items {
+            set.remove(x);
+        }
+        set
     }
 }
 
