@@ -1,5 +1,5 @@
 -- What a set is after items are put into it one after the other, and which item is the first that doesn't fit.
-use Rattle.std.specs.Prelude.{ℕ, Bool, List, [], Option, fold}
+use Rattle.std.specs.Prelude.{ℕ, Bool, List, [], Option, Some, fold}
 use Rattle.micromap_core.specs.Build.{each_fits, put_whole, PutsEach, PutsUpTo, StopsAt}
 use Rattle.micromap.specs.Items.{put_item, item_fits}
 
@@ -15,6 +15,10 @@ module _ {T : Type 0} (eq : T → T → Bool) where
   -- the items once x is put, or `None` if it doesn't fit or if one before it didn't
   abbrev pub put_item_or_refuse : ℕ → Option (List T) → T → Option (List T)
   put_item_or_refuse N = put_whole (item_fits eq N) (put_item eq)
+
+  -- the items of a new set of capacity N once these are put, or `None` if one of them doesn't fit
+  unfoldable pub distinct_or_refuse : ℕ → List T → Option (List T)
+  distinct_or_refuse N items = fold (put_item_or_refuse N) (Some []) items
 
   -- whether each item fits a new set of capacity N when it is put
   abbrev pub all_items_fit : ℕ → List T → Bool

@@ -1,7 +1,7 @@
 -- Items are put into a container one after the other: what one more item does, and what all of them do. The container
 -- has one key for each distinct key of the items. So all items fit if they have few distinct keys. Each lemma is about
 -- any container that is `IsKeyed`.
-use Rattle.std.proofs.Common.{◌≡◌, ℕ, zero, suc, ◌+◌, ◌<◌, ◌≤◌, nat_lt, Bool, true, false, ◌&&◌, ◌||◌, not, List, [], ◌∷◌, ◌++◌, length, get_or, take, Option, Some, None, is_some, if◌then◌else◌, IsTrue, refl, ap, sym, subst, ◌∙◌, arith, nat_le, ◌⊎◌, ◌↔◌, inl, inr, map, true≢false, IfSome, IsNone}
+use Rattle.std.proofs.Common.{◌≡◌, ℕ, zero, suc, ◌+◌, ◌<◌, ◌≤◌, nat_lt, Bool, true, false, ◌&&◌, ◌||◌, not, List, [], ◌∷◌, ◌++◌, length, get_or, take, Option, Some, None, is_some, if◌then◌else◌, IsTrue, refl, ap, sym, subst, ◌∙◌, arith, nat_le, ◌⊎◌, inl, inr, map, IfSome}
 use Rattle.std.specs.Cmp.{first_so, second_so, IsEquivalence}
 use Rattle.std.specs.Cmp.Derive.{both_true}
 use Rattle.std.specs.Iterator.{Drains, YieldsThen}
@@ -194,14 +194,9 @@ module _ {C X K : Type 0} {eq : K → K → Bool} (laws : IsEquivalence eq) {N :
   pub many_prefix : (items : List X) → IsTrue (not (each_fits fits put empty items)) → N < count items
   many_prefix items misfit = leb-false _ N (sym (all_fit-count items) ∙ not-true _ misfit)
 
-  -- a result that is made of all of them is none exactly where there are too many distinct ones
-  pub whole_refused : (items : List X) {result : Option C} → result ≡ fold (put_whole fits put) (Some empty) items → IsNone result ↔ (N < count items)
-  whole_refused items made =
-      let counted = made ∙ all_or_none fits put empty items ∙ ap (λ b. if b then Some (fold put empty items) else None) (all_fit-count items) in
-      rw counted (elim (leb_tells (count items) N) [
-        | inl few ↦ rw (few.0) ((λ none. absurd (true≢false none)), λ many. absurd (omega (arith, few.1, many)))
-        | inr many ↦ rw (many.0) ((λ none. many.1), λ _. refl)
-      ])
+  -- what is made of all of them, or none if there are too many distinct ones
+  pub whole_counted : (items : List X) → fold (put_whole fits put) (Some empty) items ≡ (if nat_le (count items) N then Some (fold put empty items) else None)
+  whole_counted items = all_or_none fits put empty items ∙ ap (λ b. if b then Some (fold put empty items) else None) (all_fit-count items)
 
   -- the same of items that end with the first that doesn't fit
   pub many_taken : (items : List X) (position n : ℕ) → n ≡ length items → n ≡ position + 1 → IsTrue (not (each_fits fits put empty (take (position + 1) items))) → N < count items

@@ -62,6 +62,10 @@ module _ {K V : Type 0} (eq : K → K → Bool) where
   abbrev pub put_or_refuse : ℕ → Option (List (K × V)) → K × V → Option (List (K × V))
   put_or_refuse N = put_whole (pair_fits N) put_pair
 
+  -- the pairs of a new map of capacity N once the items are put, or `None` if one of them doesn't fit
+  unfoldable pub build_or_refuse : ℕ → List (K × V) → Option (List (K × V))
+  build_or_refuse N items = fold (put_or_refuse N) (Some []) items
+
   -- the pairs once the items are put
   abbrev pub put_all : List (K × V) → List (K × V) → List (K × V)
   put_all = fold put_pair
