@@ -98,7 +98,8 @@ impl<T: Eq + Drop, const N: usize> Set<T, N> {
     /// if more than `N` of the items are distinct: then all are dropped. Makes one scan for each item.
     ///
     /// ```
-    /// let halves: Option<Set<u8, 4>> = Set::of_all(list.iter().map(|x| *x / 2));
+    /// let halves: Option<Set<u8, 2>> = Set::of_all([4, 5, 6].iter().map(|x| *x / 2));
+    /// assert_eq!(rt; halves.map(|set| set.len()), Some(2));
     /// ```
     pub fn of_all<I: Iterator<Item = T>>(items: I) -> Option<Self>
         requires can { I.can_next items }
@@ -171,7 +172,8 @@ impl<T: Eq + Drop, const N: usize> Set<T, N> {
     /// Requires that the iterator ends. An item that is no member changes nothing. Makes one scan for each item.
     ///
     /// ```
-    /// let left: Set<u8, 4> = Set::without_all([2, 3].iter(), [1, 2, 3, 4].into());
+    /// let left = Set::without_all([2, 3].iter(), Set::from([1, 2, 3, 4]));
+    /// assert!(rt; left.iter().eq(&[1, 4]));
     /// ```
     pub fn without_all<'a, I: Iterator<Item = &'a T>>(items: I, mut set: Self) -> Self
     where

@@ -88,3 +88,42 @@ fn items_are_inserted_up_to_a_misfit(rt: HostRuntime) {
     assert_eq!(rt; ended, Err(Overfull { at: 3 }));
     assert!(rt; seen.iter().eq(&[5, 6]));
 }
+
+#[test]
+fn all_items_make_a_set(rt: HostRuntime) {
+    let halves: Option<Set<u8, 2>> = Set::of_all([4, 5, 6].iter().map(|x| *x / 2));
+    assert_eq!(rt; halves.map(|set| set.len()), Some(2));
+    let left = Set::without_all([2, 3].iter(), Set::from([1, 2, 3, 4]));
+    assert!(rt; left.iter().eq(&[1, 4]));
+}
+
+#[test]
+fn a_new_pair_or_item_is_inserted_or_comes_back(rt: HostRuntime) {
+    let mut map: Map<u64, &str, 1> = Map::new();
+    assert_eq!(rt; map.try_insert(1, "foo"), Ok(None));
+    assert_eq!(rt; map.try_insert(1, "bar"), Ok(Some((1, "bar"))));
+    assert_eq!(rt; map.try_insert(2, "baz"), Err((2, "baz")));
+    assert_eq!(rt; map.get(&1), Some(&"foo"));
+    let mut seen: Set<u8, 1> = Set::new();
+    assert_eq!(rt; seen.try_insert(1), Ok(None));
+    assert_eq!(rt; seen.try_insert(1), Ok(Some(1)));
+    assert_eq!(rt; seen.try_insert(2), Err(2));
+}
+
+#[test]
+fn a_map_takes_all_of_another_or_nothing(rt: HostRuntime) {
+    let mut prices: Map<u8, u32, 2> = Map::from([(1, 10), (2, 20)]);
+    assert_eq!(rt; prices.try_extend_from(&Map::from([(2, 25)])), Ok(()));
+    let ended = prices.try_extend_from(&Map::from([(1, 15), (3, 30)]));
+    assert_eq!(rt; ended, Err(Overfull { at: 1 }));
+    assert!(rt; prices.into_iter().eq([(1, 10), (2, 25)]));
+}
+
+#[test]
+fn a_set_takes_all_of_another_or_nothing(rt: HostRuntime) {
+    let mut seen: Set<u8, 3> = Set::from([5, 6, 5]);
+    assert_eq!(rt; seen.try_extend_from(&Set::from([6, 7])), Ok(()));
+    let ended = seen.try_extend_from(&Set::from([5, 8]));
+    assert_eq!(rt; ended, Err(Overfull { at: 1 }));
+    assert!(rt; seen.iter().eq(&[5, 6, 7]));
+}
