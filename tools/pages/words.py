@@ -16,8 +16,10 @@ decimal n | the decimal digits of the number, as bytes
 deref r | what the reference points to
 deref_pair p | what the two references of the pair point to
 distinct_count eq xs | how many elements there are, if equal ones count once
+Drains T i xs | calls of `next` from `i` return the elements of the list in their order, and then `None`
 drop n xs | the list without its first `n` elements
 find test xs | the first element that passes the test, if any
+fold f s xs | `f` applied to `s` and the first element, then to what that makes and the next element, and so on
 GivesInOrder T | the calls of `next` return the items left, in their order
 IfErr r P | `P` holds of the error, if `r` is one
 IfOk r P | `P` holds of the value, if `r` is `Ok`
@@ -29,6 +31,7 @@ IsDistinct eq xs | no two elements are equal
 IsErr r | `r` is an error
 IsFalse b | `b` is `false`
 IsFiltered T f xs ys | `f` was called on each element in turn, and `ys` has those at which it returned `true`
+IsFinite c | the number of items has a bound
 IsNone o | there is no value
 IsOk r | `r` is `Ok`
 IsTrue b | `b` is `true`
@@ -43,6 +46,7 @@ map f xs | the list of `f` of each element
 MatchResult r P Q | `P` holds of the value of an `Ok`, or `Q` of the error
 ModifiesValue F.FnOnce f old new | a call of `f` can leave the value `new` for `old`, or both are `None`
 MutBor T | a `&mut T`, and `it.now` is what it points to
+nat_lt m n | whether `m` is less than `n`
 object members | the JSON object of these members
 on f R | the relation of `x` and `y` that is `R (f x) (f y)`
 OnErr r P | `P` holds, if `r` is an error
@@ -86,7 +90,7 @@ zip xs ys | the pairs of the elements at the same index
 .styled_output x spec | the bytes that `x` prints with these flags, if its type promises them
 """
 # Words that mean what their names say: types, values and functions of Rust, and the variants of types of the library.
-PLAIN = """AllocError Bool length List Memory None not Occupied Ok Option Some true Vacant ℕ
+PLAIN = """AllocError Bool Err length List Memory None not Occupied Ok Option Some true Vacant ℕ
 .Error .faults .last_fault .left .matches .taken""".split()
 FORMS = dict(line.split(" | ") for line in MEANINGS.strip().split("\n"))
 FORM_OF = {it.split()[0]: form for form in FORMS for it in form.split(", ")}
@@ -125,6 +129,9 @@ MisfitIn eq N old items position | `position` is that of the first of the items 
 Probes eq test | `eq` is an equivalence, `test` passes equal keys alike, and keys that pass are equal
 put_all eq pairs items |
 put_all_items eq old items |
+put_item_or_refuse eq N content x | the items once `x` is put, or `None` if it doesn't fit or if `content` is `None`
+put_or_refuse eq N content p | the pairs once `p` is put, or `None` if it doesn't fit or if `content` is `None`
+put_pair_if_fits eq N pairs p |
 PutsAll eq N old new items |
 PutsAllItems eq N old new items |
 PutsBefore eq N old new items position | the first of the items that doesn't fit stands at `position`, and `new` is `put_all` of those before it
