@@ -1,5 +1,5 @@
 //! Chains of iterators over maps and sets in the place of loops. Each is proved with nothing but the line at the head of
-//! its file, except those of `answered`, each of which has one expression.
+//! its file, except those of `answered` and `results`, each of which has one expression.
 #![tactic(auto)]
 
 pub mod answered;
@@ -10,5 +10,6 @@ pub mod folds;
 pub mod members;
 pub mod nested;
 pub mod reads;
+pub mod results;
 pub mod sums;
 pub mod texts;
