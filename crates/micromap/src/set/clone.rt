@@ -28,7 +28,7 @@ impl<T: Eq + Clone + Drop, const N: usize> Set<T, N> {
 impl<T: Eq + Copy, const N: usize> Set<T, N> {
     /// Returns a copy of this set: the same items, in the same order.
     ///
-    /// Copies all items at once, and compares none.
+    /// Copies all items of a full set at once, of any other one after the other. Compares no item.
     pub fn copied(&self) -> Self
         ensures answer { result ≡ self.now }
         ensures content { IsItems T.eq N result }
