@@ -15,6 +15,7 @@ mod gathered;
 mod generic;
 mod graph;
 mod headers;
+mod holders;
 mod keys;
 mod laws;
 mod listed;
