@@ -1,2 +1,4 @@
+pub mod AffectedLemmas
+pub mod OrderLemmas
 pub mod ReachLemmas
 pub mod ScopeLemmas

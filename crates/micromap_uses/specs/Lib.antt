@@ -1,4 +1,5 @@
 pub mod Frame
 pub mod Graph
 pub mod Headers
+pub mod Order
 pub mod Scopes

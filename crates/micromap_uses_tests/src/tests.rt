@@ -22,6 +22,7 @@ mod listed;
 mod merged;
 mod moved;
 mod named;
+mod order;
 mod passing;
 mod permissions;
 mod related;
