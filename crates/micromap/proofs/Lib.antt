@@ -4,6 +4,7 @@ pub mod ChainLaws
 pub mod EntryItems
 pub mod ExtendLemmas
 pub mod Forwarded
+pub mod FoundLaws
 pub mod ItemCounts
 pub mod ItemLemmas
 pub mod JsonPairs

@@ -10,6 +10,7 @@ mod copies;
 mod counts;
 mod entered;
 mod folded;
+mod found;
 mod frame;
 mod gathered;
 mod generic;
