@@ -4,6 +4,7 @@
 mod added;
 mod attributes;
 mod built;
+mod changed;
 mod collected;
 mod combined;
 mod copies;

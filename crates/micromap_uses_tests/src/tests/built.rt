@@ -62,7 +62,10 @@ fn doubled<const N: usize>(amounts: &Map<u8, u8, N>) -> Map<u8, u8, N>
 }
 
 // Adds the pairs of another map, up to the first that doesn't fit. If one doesn't, they would be more than `N`.
-fn add_all<const N: usize, const M: usize>(map: &mut Map<u8, u8, N>, other: &Map<u8, u8, M>) -> bool
+pub(super) fn add_all<const N: usize, const M: usize>(
+    map: &mut Map<u8, u8, N>,
+    other: &Map<u8, u8, M>,
+) -> bool
     ensures put { OnTrue result (map.new ≡ put_all nat_eq map.old other.now) }
     ensures refused { IsFalse result → N < length (put_all nat_eq map.old other.now) }
 {
