@@ -15,6 +15,7 @@ mod found;
 mod frame;
 mod gathered;
 mod generic;
+mod granted;
 mod graph;
 mod headers;
 mod holders;

@@ -9,7 +9,10 @@ ghost use Rattle.micromap.specs.Operations.{difference, union};
 use micromap::Set;
 
 // Adds the items of another set, up to the first that doesn't fit. If all fit, the set is the union.
-fn add_all_items<const N: usize, const M: usize>(set: &mut Set<u8, N>, other: &Set<u8, M>) -> bool
+pub(super) fn add_all_items<const N: usize, const M: usize>(
+    set: &mut Set<u8, N>,
+    other: &Set<u8, M>,
+) -> bool
     ensures union { OnTrue result (set.new ≡ union nat_eq other.now set.old) }
     ensures refused { IsFalse result → N < length (union nat_eq other.now set.old) }
 {
