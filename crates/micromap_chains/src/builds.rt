@@ -33,6 +33,31 @@ pub fn map_of_lists<const N: usize>(
     Ok(Map::try_from_iter(a.iter().chain(b.iter()).copied())?)
 }
 
+/// Returns the map of the pairs of two maps.
+pub fn map_of_maps(a: &Map<u8, u32, 8>, b: &Map<u8, u32, 8>) -> Result<Map<u8, u32, 16>, Overfull>
+    ensures { IfOk result (λ m. m ≡ build nat_eq (a.now ++ b.now)) }
+{
+    Ok(Map::try_from_iter(a.copied().into_iter().chain(b.copied().into_iter()))?)
+}
+
+/// Returns the pairs whose values are above 9, as the map that is built of them.
+pub fn built_above<const N: usize>(pairs: &Map<u8, u32, N>) -> Map<u8, u32, N>
+    ensures { result ≡ build nat_eq (filter (λ p. nat_lt 9 p.1) pairs.now) }
+{
+    let mut some = pairs.copied();
+    some.retain(|_, value| *value > 9);
+    some
+}
+
+/// Returns the pairs with the halves of their values, as the map that is built of them.
+pub fn built_halves<const N: usize>(pairs: &Map<u8, u32, N>) -> Map<u8, u32, N>
+    ensures { result ≡ build nat_eq (map (λ p. (p.0, p.1 / 2)) pairs.now) }
+{
+    let mut halves = pairs.copied();
+    halves.update_all(|_, value| *value /= 2);
+    halves
+}
+
 /// Returns the pairs whose values are above 9.
 pub fn map_above(pairs: Map<u8, u32, 8>) -> Result<Map<u8, u32, 8>, Overfull>
     ensures { IfOk result (λ m. m ≡ filter (λ p. nat_lt 9 p.1) pairs) }
@@ -45,6 +70,13 @@ pub fn set_of_list<const N: usize>(list: &[u8]) -> Result<Set<u8, N>, Overfull>
     ensures { IfOk result (λ s. s ≡ distinct nat_eq list.now) }
 {
     Set::try_from_iter(list.iter().copied())
+}
+
+/// Returns the set of two lists.
+pub fn set_of_lists<const N: usize>(a: &[u8], b: &[u8]) -> Result<Set<u8, N>, Overfull>
+    ensures { IfOk result (λ s. s ≡ distinct nat_eq (a.now ++ b.now)) }
+{
+    Set::try_from_iter(a.iter().chain(b.iter()).copied())
 }
 
 /// Returns the keys of a map as a set.
@@ -108,4 +140,20 @@ pub fn map_of_halves<const N: usize>(pairs: &Map<u8, u32, N>) -> Result<Map<u8, 
     ensures { IsOk result }
 {
     Map::try_from_iter(pairs.iter().map(|(k, v)| (*k, *v / 2)))
+}
+
+/// Returns the pairs whose values are above 9, for which a map of the same capacity has room.
+pub fn map_of_all_above<const N: usize>(
+    pairs: &Map<u8, u32, N>,
+) -> Result<Map<u8, u32, N>, Overfull>
+    ensures { IsOk result }
+{
+    Map::try_from_iter(pairs.iter().filter(|(_, v)| **v > 9).map(|(k, v)| (*k, *v)))
+}
+
+/// Returns the items of a set that are above 9, for which a set of the same capacity has room.
+pub fn set_of_all_above<const N: usize>(set: &Set<u8, N>) -> Result<Set<u8, N>, Overfull>
+    ensures { IsOk result }
+{
+    Set::try_from_iter(set.iter().copied().filter(|x| *x > 9))
 }
