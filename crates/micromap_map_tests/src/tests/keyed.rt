@@ -70,10 +70,16 @@ fn a_pair_with_a_stored_key_or_no_room_comes_back(rt: HostRuntime) {
     let mut map: Map<Marked, u8, 2> = Map::new();
     assert_eq!(rt; map.try_insert(Marked::new(1, 'x'), 10), Ok(None));
     let stored = map.try_insert(Marked::new(1, 'y'), 11).ok().flatten();
-    assert_eq!(rt; stored.map(|(key, value)| (key.mark, value)), Some(('y', 11)));
+    assert_eq!(rt;
+        stored.map(|(key, value)| (key.mark, value)),
+        Some(('y', 11))
+    );
     assert_eq!(rt; map.try_insert(Marked::new(2, 'x'), 20), Ok(None));
     let refused = map.try_insert(Marked::new(3, 'z'), 30).err();
-    assert_eq!(rt; refused.map(|(key, value)| (key.mark, value)), Some(('z', 30)));
+    assert_eq!(rt;
+        refused.map(|(key, value)| (key.mark, value)),
+        Some(('z', 30))
+    );
     assert!(rt; gives(map.keys().map(|key| key.mark), &['x', 'x']));
     assert!(rt; gives(map.values(), &[&10, &20]));
 }
