@@ -21,26 +21,32 @@ count the values that pass | reads::count_above | walks::values_over
 count the pairs that pass | reads::count_pairs |
 count the items that pass | reads::count_items_above | tallied::items_over
 count the items of a list, or of a set, that are in a set | members::count_stored, members::count_stored_any, members::count_known |
+ask whether the values are those of a list, in order | reads::has_values |
 count the values that are their own index | reads::count_at_index |
 count the members of an operation on two sets | reads::count_union, reads::count_common, set_tests/operations::missing |
 add up the values, if the sum fits | reads::total | map_tests/walks::total
 add up the values of a map by value | reads::total_of |
 count the pairs of a map by value that pass | reads::count_of |
+add up the values, the pairs or the items in a wider type, however many there are | sums::total_wide, sums::total_of_pairs, sums::total_of_items |
 add up the members of an operation on two sets, if the sum fits | | set_tests/operations::total
 find the greatest value | reads::greatest |
 find the least key | reads::least_key |
 find the greatest key of the pairs that pass | reads::greatest_key_above |
 find the greatest member of an operation on two sets | folds::greatest_alone |
 find the first key that passes | reads::first_key_above | walks::first_over
-find the first key whose value passes | folds::first_above |
+find the first key, or the first pair, whose value passes | folds::first_above, folds::first_pair_above, answered::pair_above |
+find the first key whose value is one of an enum with a derived `==` | | holders::first_with, holders::user_with
+ask whether a value is one of an enum, or keep the pairs whose value is in a set of them | uses_tests/holders::is_held, uses_tests/holders::keep_listed |
 find the first key whose value, a set, has a member | | combined::group_of
 find a pair that passes, which is what its key finds | | walks::pair_over
 find such a pair with keys of any type, or of a struct with a derived `==` | | walks::any_over, walks::square_of
 find a key that passes, which is stored | | walks::key_other
 find an item that passes, which is a member, of numbers or of any type | | walks::item_over, walks::other_than
-find the index of a value | reads::position_of |
+find the index of a value, or of the first pair that passes | reads::position_of, reads::position_above |
 read the pair at an index, or the last value | reads::pair_at, reads::last_value |
 read the pairs or items at both ends | uses_tests/copies::oldest_and_newest, uses_tests/copies::ends |
+know that `get` finds the pair that is found first, or that no value passes | uses_tests/found::over, uses_tests/found::each_below, uses_tests/found::each_small |
+know that there is no pair where `get` finds nothing, or that equal keys find the same | uses_tests/found::reissue, uses_tests/found::is_open, uses_tests/found::are_one |
 compare two maps in their order | reads::have_equal_values, uses_tests/combined::have_keys_in_order |
 ask whether two maps are the same, or read the values at which they differ | uses_tests/generic::find_same, uses_tests/sameness::conflict |
 ask whether two sets have the same items, or one has all items of the other | uses_tests/sameness::have_same_items, uses_tests/sameness::includes |
@@ -51,8 +57,10 @@ make a map of pairs, of two lists, of a `Vec` | builds::map_of_list, builds::map
 make a set of items | builds::set_of_list | counts::distinct_items
 make a map, or a set, of any iterator | uses_tests/counts::collected_pairs, uses_tests/counts::collected_items |
 know when a map, or a set, of a list is refused | uses_tests/listed::pairs_of, uses_tests/listed::items_of |
+make a map of what a function makes of each, all or none, or with each one's index | folds::all_halves, folds::numbered |
+know when a map, or a set, of what a function makes of each is refused | answered::map_of_mapped, answered::set_of_list |
 make a set of what a function makes of each | builds::set_of_halves |
-count how often each item comes | | uses/votes::tally
+count how often each item comes | folds::counted | uses/votes::tally
 count in numbers that may overflow | | merged::count_numbers
 add each amount to its key's total, in a map that is there, or in a new one by entry | | merged::add_amounts, merged::totals_of
 add the amounts of a `Vec` by value, or of any iterator | | merged::add_vector, merged::add_all
@@ -65,7 +73,7 @@ put items into a set, and know when they are refused | uses_tests/generic::put_s
 put the items that pass into a set | extends::put_above |
 count how many different keys or items there are, in a local of any capacity | | generic::count_keys, generic::count_items, walks::count_different
 # Building from another map or set
-make a map of the pairs that pass | copies::above | built::pairs_over
+make a map of the pairs that pass | copies::above, builds::built_above | built::pairs_over
 make a map of the pairs that pass, in another capacity, and know exactly when it is refused | copies::above_in |
 make a map of the pairs of a map by value that pass | builds::map_above |
 make a map with other values | copies::halved | built::doubled
@@ -73,6 +81,8 @@ make a map of a list, or of two lists of keys and values, as far as they fit | f
 make a map with key and value exchanged, as far as they fit | folds::turned |
 make a map with other values of the pairs that pass, as far as they fit | folds::halves |
 make a map of the pairs that another map lacks | copies::lacking, copies::lacking_any |
+make a map of the pairs of two maps | builds::map_of_maps |
+make a map of the pairs that another map lacks, or has with another value | uses_tests/changed::changed |
 copy a map whose values are cloned | | built::copied
 make a set of the items that pass, or that another set lacks | copies::items_above, copies::items_lacking | collected::items_over
 make a set of the keys, or of the values | builds::set_of_keys, builds::set_of_values |
@@ -84,12 +94,15 @@ know exactly when the set of an operation is refused | set_tests/operations::joi
 make a set of the items of several sets, as far as they fit | folds::gathered |
 # Texts as keys or items
 make a map with `&str` keys of a list, as far as they fit | folds::named |
+make a map with `String` keys of a list, as far as they fit | results::spelled |
 count how often each word comes | | gathered::counted
 make a map of names and amounts | | gathered::amounts_of
 make a set of names | | spelled::set_of
+keep the pairs whose name another map lacks | uses_tests/changed::keep_missing, uses_tests/changed::keep_missing_any |
+find the first name at which two maps differ | uses_tests/changed::first_change |
 add up the values, if the sum fits | texts::total | texts::total
 ask whether a key passes, or count the values that pass | texts::any_long, texts::count_large |
-find how long the longest key is | folds::longest |
+find how long the longest key is | texts::longest, texts::longest_of_strings |
 count the items that pass | | tallied::longer
 ask whether all texts of a list are keys, or any is an item | | passing::has_names, passing::has_any
 change all values, or keep the pairs that pass, in place | uses_tests/named::double_all, uses_tests/named::keep_over, uses_tests/named::keep_longer |
@@ -109,14 +122,17 @@ take the names of a set, or of a list, out of a set | | spelled::remove_names, s
 drop the words that begin with a text | uses_tests/texts::drop_beginning |
 # Changing one in place
 change all values | map_tests/closures::keys_as_values |
+multiply all values, or change nothing if one doesn't fit then | uses_tests/changed::can_scale, uses_tests/changed::scale |
 change the values of some keys at once | map_tests/closures::positions |
 keep the pairs that pass | map_tests/closures::keep_even |
 keep some pairs, and know how many were dropped | nested::expire |
-take an item out of each set of a map | nested::drop_everywhere |
+take an item out of each set of a map | nested::drop_everywhere, uses_tests/granted::take_built |
+add an item to a set that is a value, or keep the items of each such set that pass | uses_tests/granted::grant, uses_tests/granted::limit_all |
 keep some pairs, and insert one | uses_tests/copies::keep_and_insert |
 take the first pair, or the first of all and drop the others | uses_tests/generic::take_first, uses_tests/generic::first_drained, uses_tests/generic::first_key, uses_tests/generic::first_item |
 # Searching one and changing another
 put a map into another, up to the first that doesn't fit; as far as it fits | copies::put_map, folds::merged | built::add_all
+put a map into a copy of another, and know exactly when it is refused | | changed::merged
 put a map by value into another, all or nothing | uses_tests/combined::merge |
 move what `drain` yields into another map | extends::put_drained |
 add a map's amounts to the totals of another | | merged::add_map
@@ -124,8 +140,13 @@ put the items of a set, or the keys of a map, into a set | extends::put_items, e
 take the items of a set out of another, or out of its copy | copies::items_lacking | collected::remove_all_items
 take the items of a list out of a set | folds::left_over | collected::remove_listed
 keep the pairs whose key is in a set | uses_tests/combined::restrict |
+compare two sets that are values of a map | uses_tests/granted::covers, uses_tests/granted::are_apart |
+add the items of one set to another, and know exactly when it is refused | | granted::include
+ask whether all items of the sets of a map are its keys | uses_tests/granted::are_closed |
+know what is true of each set that is a value of a map | | granted::know_sets
 move one name's amount from a map to another | uses_tests/moved::transfer |
 visit all that is reached from one, by a recursive call in the place of a list of work | | uses/graph::search
+go on with a list of work until nothing is left: an order in which targets can be built, or all that depend on one | | uses/order::order_of, uses/order::affected
 """
 MOST = 150  # of letters of a chain that is shown
 
