@@ -1,12 +1,14 @@
 //! Maps and sets that are built by chains.
 #![tactic(auto, using(micromap::proofs::Rules::caller, micromap::proofs::ChainLaws::chain_laws))]
 
-ghost use Rattle.std.specs.Prelude.{◌≡◌, ◌↔◌, ◌<◌, ◌++◌, ◌/◌, IfOk, IsErr, IsOk, filter, length, map, nat_eq, nat_lt};
+ghost use Rattle.std.specs.Prelude.{◌≡◌, ◌↔◌, ◌<◌, ◌++◌, ◌/◌, IfOk, IfSome, IsErr, IsNone, IsOk, filter, length, map, nat_eq, nat_lt};
 ghost use Rattle.std.specs.Map.{keys_of};
+ghost use Rattle.std.specs.Set.{distinct_count};
 ghost use Rattle.micromap.specs.Build.{build};
 ghost use Rattle.micromap.specs.Extend.{distinct};
 ghost use Rattle.micromap.specs.Operations.{difference, union};
 
+use crate::wholes;
 use micromap::{Map, Overfull, Set};
 
 /// Returns the map of a list of pairs.
@@ -156,4 +158,21 @@ pub fn set_of_all_above<const N: usize>(set: &Set<u8, N>) -> Result<Set<u8, N>, 
     ensures { IsOk result }
 {
     Set::try_from_iter(set.iter().copied().filter(|x| *x > 9))
+}
+
+/// Returns the items of a list with their halves, or `None` exactly if more than `N` items are distinct. The function
+/// within follows the chain, and a law of the ruleset says what its word means.
+pub fn halves_or_none<const N: usize>(list: &[u8]) -> Option<Map<u8, u8, N>>
+    ensures built { IfSome result (λ m. m ≡ build nat_eq (map (λ x. (x, x / 2)) list.now)) }
+    ensures refused { IsNone result ↔ (N < distinct_count nat_eq (keys_of (map (λ x. (x, x / 2)) list.now))) }
+{
+    wholes::halves(list)
+}
+
+/// Returns the distinct halves of a list, or `None` exactly if they are more than `N`.
+pub fn distinct_halves<const N: usize>(list: &[u8]) -> Option<Set<u8, N>>
+    ensures built { IfSome result (λ s. s ≡ distinct nat_eq (map (λ x. x / 2) list.now)) }
+    ensures refused { IsNone result ↔ (N < distinct_count nat_eq (map (λ x. x / 2) list.now)) }
+{
+    wholes::set_of_all_halves(list)
 }

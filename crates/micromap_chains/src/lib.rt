@@ -13,3 +13,4 @@ pub mod reads;
 pub mod results;
 pub mod sums;
 pub mod texts;
+pub mod wholes;

@@ -1,0 +1,44 @@
+//! Maps and sets that are made of all items of a chain, or of those that fit. A call that makes one takes every item, so
+//! that its result is a fold over the items.
+#![tactic(auto)]
+
+ghost use Rattle.std.specs.Prelude.{◌≡◌, ◌/◌, List, ℕ, Some, [], filter, fold, map, nat_eq, nat_lt};
+ghost use Rattle.micromap.specs.Build.{build_or_refuse, put_or_refuse, put_pair_if_fits};
+ghost use Rattle.micromap.specs.Extend.{distinct_or_refuse};
+
+use micromap::{Map, Set};
+
+/// Returns the items of a list with their halves, or `None` if they don't all fit.
+#[tactic(auto, unfolding(micromap_core::specs::Build::build_or_refuse))]
+pub fn halves<const N: usize>(list: &[u8]) -> Option<Map<u8, u8, N>>
+    ensures { result ≡ build_or_refuse nat_eq N (map (λ x. (x, x / 2)) list.now) }
+{
+    Map::of_all(list.iter().map(|x| (*x, *x / 2)))
+}
+
+/// Returns the pairs whose values are below 100, with half the value, or `None` if they don't all fit.
+pub fn low_halves<const N: usize, const M: usize>(pairs: &Map<u8, u8, N>) -> Option<Map<u8, u8, M>>
+    ensures { result ≡ fold (put_or_refuse nat_eq M) (Some []) (map (λ p. (p.0, p.1 / 2)) (filter (λ p. nat_lt p.1 100) pairs.now)) }
+{
+    Map::of_all(
+        pairs
+            .iter()
+            .filter(|p| *p.1 < 100)
+            .map(|(k, v)| (*k, *v / 2)),
+    )
+}
+
+/// Returns those items of a list that fit, with their halves.
+pub fn first_halves<const N: usize>(list: &[u8]) -> Map<u8, u8, N>
+    ensures { result ≡ fold (put_pair_if_fits nat_eq N) [] (map (λ x. (x, x / 2)) list.now) }
+{
+    Map::of_fitting(list.iter().map(|x| (*x, *x / 2)))
+}
+
+/// Returns the halves of a list as a set, or `None` if they don't all fit.
+#[tactic(auto, unfolding(micromap::specs::Extend::distinct_or_refuse))]
+pub fn set_of_all_halves<const N: usize>(list: &[u8]) -> Option<Set<u8, N>>
+    ensures { result ≡ distinct_or_refuse nat_eq N (map (λ x. x / 2) list.now) }
+{
+    Set::of_all(list.iter().map(|x| *x / 2))
+}
