@@ -80,3 +80,58 @@ fn items_that_do_not_fit_are_dropped(rt: HostRuntime) {
     assert!(rt; set.is_err());
     assert_eq!(rt; counts.drops.get(), 5);
 }
+
+#[test]
+fn all_items_or_none_make_a_map(rt: HostRuntime) {
+    let items = [(1, 'a'), (2, 'b'), (1, 'c')];
+    let map: Option<Map<u8, char, 2>> = Map::of_all(items.into_iter());
+    assert!(rt; map.is_some_and(|map| map.into_iter().eq([(1, 'c'), (2, 'b')])));
+    let mut left = items.into_iter();
+    let map: Option<Map<u8, char, 1>> = Map::of_all(&mut left);
+    assert!(rt; map.is_none());
+    assert!(rt; left.next().is_none());
+    let set: Option<Set<u8, 2>> = Set::of_all([5, 6, 5].into_iter());
+    assert!(rt; set.is_some_and(|set| holds(&set, &[5, 6])));
+    let set: Option<Set<u8, 1>> = Set::of_all([5, 6, 5].into_iter());
+    assert!(rt; set.is_none());
+}
+
+#[test]
+fn items_that_fit_make_a_map(rt: HostRuntime) {
+    let map: Map<u8, char, 1> = Map::of_fitting([(1, 'a'), (2, 'b'), (1, 'c')].into_iter());
+    assert!(rt; map.into_iter().eq([(1, 'c')]));
+    let set: Set<u8, 2> = Set::of_fitting([5, 6, 7, 5].into_iter());
+    assert!(rt; holds(&set, &[5, 6]));
+}
+
+#[test]
+fn a_map_goes_on_with_items(rt: HostRuntime) {
+    let start: Map<u8, char, 2> = Map::of_fitting([(1, 'a')].into_iter());
+    let map = Map::with_fitting([(1, 'b'), (2, 'c'), (3, 'd')].into_iter(), start);
+    assert!(rt; map.iter().eq([(&1, &'b'), (&2, &'c')]));
+    let map = Map::with_all([(2, 'e')].into_iter(), map);
+    let map = map.and_then(|map| Map::with_all([(3, 'f'), (1, 'g')].into_iter(), map));
+    assert!(rt; map.is_none());
+    let start: Set<u8, 3> = [5, 6, 6].into();
+    let set = Set::with_all([7, 6].into_iter(), start);
+    assert!(rt; set.is_some_and(|set| holds(&set, &[5, 6, 7])));
+    let set = Set::with_fitting([7, 8].into_iter(), [5, 6, 6].into());
+    let set: Set<u8, 3> = Set::without_all([6, 9].iter(), set);
+    assert!(rt; holds(&set, &[5, 7]));
+}
+
+#[test]
+fn a_map_is_left_without_keys(rt: HostRuntime) {
+    let map: Map<u8, char, 3> = [(1, 'a'), (2, 'b'), (3, 'c')].into();
+    let map = Map::without_keys([2, 4].iter(), map);
+    assert!(rt; map.iter().eq([(&1, &'a'), (&3, &'c')]));
+}
+
+#[test]
+fn items_that_are_not_in_a_map_are_dropped(rt: HostRuntime) {
+    let counts = Counts::new();
+    let items = [0, 1, 0, 2, 3].map(|id| Counted::new(id, &counts));
+    let set: Option<Set<Counted<'_>, 2>> = Set::of_all(items.into_iter());
+    assert!(rt; set.is_none());
+    assert_eq!(rt; counts.drops.get(), 5);
+}
