@@ -1,5 +1,5 @@
 -- A map's pairs with their keys as bytes. A map that is read of an object has the pairs that its text has.
-use Rattle.std.proofs.Common.{◌≡◌, ℕ, Result, Ok, Err, MatchResult, IfOk, IfErr, ok_or, BTreeMap, String, Global, inr, bytes_eq, refl, ap, sym, subst, ◌∙◌, int_eq, string_eq, true≢false}
+use Rattle.std.proofs.Common.{◌≡◌, ℕ, Result, Ok, Err, MatchResult, IfOk, IfErr, ok_or, BTreeMap, String, Global, inr, bytes_eq, refl, ap, sym, subst, ◌∙◌, int_eq, string_bytes, string_eq, true≢false}
 use Rattle.std.specs.Cmp.{IsEquivalence, int_eq_equiv}
 use Rattle.std.specs.Cmp.Lexicographic.{nat_list_eq_equiv}
 use Rattle.std.specs.Result.{is_ok, result_map_both}
@@ -30,6 +30,6 @@ map_read N text (Ok now) is = (
   tt,
   λ pairs has. (
       let read : has.0 ≡ key_texts now = cc (has.1, is) in
-      sym (same_texts int_eq pairs now) ∙ bytes_equiv.symm (key_texts pairs) (key_texts now) ∙ subst (λ ms. Same bytes_eq int_eq ms (key_texts pairs)) read has.2),
+      sym (same_texts string_bytes (λ v. v) int_eq pairs now) ∙ bytes_equiv.symm (key_texts pairs) (key_texts now) ∙ subst (λ ms. Same bytes_eq int_eq ms (key_texts pairs)) read has.2),
 )
 map_read N text (Err fault) is = (tt, tt, inr is, λ pairs has. absurd (true≢false (ap is_ok (sym has.1 ∙ is))))

@@ -21,7 +21,7 @@ use Rattle.micromap.specs.declared.json.JsonFault.{JsonFault}
 use Rattle.micromap.specs.declared.json.JsonFault.TheVariants.{NotWhole, TooMany}
 use Rattle.micromap_core.specs.Build.{build, put_pair}
 use Rattle.micromap_core.specs.Pairs.{fits, put, put_if_fits}
-use Rattle.micromap_core.specs.Texts.{item_texts, key_texts}
+use Rattle.micromap_core.specs.Texts.{item_texts, items_by, key_texts}
 use Rattle.micromap_core.proofs.MapLaws.{length_put}
 use Rattle.micromap_core.proofs.StreamLemmas.{built_in_turn}
 use Rattle.micromap_core.proofs.TextViews.{length_texts, texts_put}
@@ -72,19 +72,19 @@ module _ {B : Type 0} {put : List B → B → List B} {N : ℕ} {all rest : Opti
 module _ {N : ℕ} {all : Option (List Bytes)} {rest later : Items} {d : Data} (items : List (String Global)) {all_fit : Bool} (has : HasRead (put_item bytes_eq) N all (all_texts rest) (item_texts items) all_fit) (first : rest ≡ item d later) (x : String Global) (is : as_str d ≡ Some (string_bytes x)) where
   pub text_put : {new : List (String Global)} {fit : Bool} → fit ≡ item_fits string_eq N items x → new ≡ put_item_if_fits string_eq N items x → HasRead (put_item bytes_eq) N all (all_texts later) (item_texts new) (all_fit && fit)
   text_put {fit = fit} answer made =
-      read_one has (λ t. t) (all_texts later) (as_str d) (ap all_texts first) (string_bytes x) is (λ texts. grind (arith, length_put_item bytes_eq texts (string_bytes x))) fit (item_texts_put_item items x) (λ fits. grind (arith, answer, made, fits))
-      (λ misfit. grind (arith, not_fits string_eq items x N (sym answer ∙ misfit), length_put_item string_eq items x, length_item_texts (put_item string_eq items x)))
+      read_one has (λ t. t) (all_texts later) (as_str d) (ap all_texts first) (string_bytes x) is (λ texts. grind (arith, length_put_item bytes_eq texts (string_bytes x))) fit (item_texts_put_item string_bytes items string_eq x (λ x y. refl)) (λ fits. grind (arith, answer, made, fits))
+      (λ misfit. grind (arith, not_fits string_eq items x N (sym answer ∙ misfit), length_put_item string_eq items x, length_item_texts string_bytes (put_item string_eq items x)))
 
 -- a member whose value is whole, in a map
 module _ {N : ℕ} {all : Option (List (Bytes × ℤ))} {rest later : List Entry} {k : String Global} {value : Value} (pairs : Pairs) {all_fit : Bool} (has : HasRead (put_pair bytes_eq) N all (whole_members (members_view rest)) (key_texts pairs) all_fit) (first : rest ≡ (k, value) ∷ later) (n : ℤ) (is : whole_number (view value) ≡ Some n) where
   pub member_put : {new : Pairs} {fit : Bool} → fit ≡ fits string_eq N pairs k → new ≡ put_if_fits string_eq N pairs k n → HasRead (put_pair bytes_eq) N all (whole_members (members_view later)) (key_texts new) (all_fit && fit)
   member_put {fit = fit} answer made =
-      read_one has (λ i. (string_bytes k, i)) (whole_members (members_view later)) (whole_number (view value)) (ap (λ es. whole_members (members_view es)) first) n is (λ ps. grind (arith, length_put bytes_eq ps (string_bytes k) n)) fit (texts_put (λ v. v) k pairs n) (λ fits. grind (arith, answer, made, fits))
-      (λ misfit. grind (arith, answer, misfit, ltb-false (length pairs) N, length_put string_eq pairs k n, length_texts (λ v. v) (put string_eq pairs k n)))
+      read_one has (λ i. (string_bytes k, i)) (whole_members (members_view later)) (whole_number (view value)) (ap (λ es. whole_members (members_view es)) first) n is (λ ps. grind (arith, length_put bytes_eq ps (string_bytes k) n)) fit (texts_put string_bytes (λ v. v) k string_eq pairs n (λ x y. refl)) (λ fits. grind (arith, answer, made, fits))
+      (λ misfit. grind (arith, answer, misfit, ltb-false (length pairs) N, length_put string_eq pairs k n, length_texts string_bytes (λ v. v) (put string_eq pairs k n)))
 
 -- the names of an object's whole members
 names_kept : (es : List Entry) (ps : List (Bytes × ℤ)) → whole_members (members_view es) ≡ Some ps → keys_of ps ≡ item_texts (keys_of es)
-unfolding item_texts
+unfolding items_by
 names_kept [] ps is = grind (arith, is)
 names_kept ((k, v) ∷ es) ps is = grind (arith, is, names_kept es)
 
@@ -93,7 +93,7 @@ pub members_built : (N : ℕ) (es : List Entry) → IsStrictlySortedBy string_cm
 members_built N es sorted = by (whole_members (members_view es)) refl
   where
     names : IsDistinct bytes_eq (item_texts (keys_of es))
-    names = unique_item_texts (keys_of es) (subst (λ eq. IsDistinct eq (keys_of es)) (λ i x y. is_eq-slice_cmp (string_bytes x) (string_bytes y) i) (IsDistinct-from_sorted string_cmp (keys_of es) sorted))
+    names = unique_item_texts string_bytes (keys_of es) (subst (λ eq. IsDistinct eq (keys_of es)) (λ i x y. is_eq-slice_cmp (string_bytes x) (string_bytes y) i) (IsDistinct-from_sorted string_cmp (keys_of es) sorted))
 
     by : (o : Option (List (Bytes × ℤ))) → whole_members (members_view es) ≡ o → and_then (ok_or o NotWhole) (λ ps. items_for N (build bytes_eq ps)) ≡ and_then (ok_or o NotWhole) (items_for N)
     by None is = refl

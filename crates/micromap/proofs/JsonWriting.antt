@@ -21,7 +21,7 @@ use Rattle.serde_json.specs.declared.value.Value.{Value}
 use Rattle.micromap.specs.Extend.{distinct}
 use Rattle.micromap.specs.Json.{Bytes, HasPairs, Pairs, all_texts, elements, members, texts_for, whole_number, whole_members}
 use Rattle.micromap_core.specs.Same.{Same, pair_eq}
-use Rattle.micromap_core.specs.Texts.{item_texts, key_texts, texts_by}
+use Rattle.micromap_core.specs.Texts.{item_texts, items_by, key_texts, texts_by}
 use Rattle.micromap_core.proofs.DistinctLemmas.{new_behind}
 use Rattle.micromap.proofs.AddedItems.{added_all}
 use Rattle.micromap.proofs.JsonPairs.{bytes_equiv}
@@ -131,7 +131,7 @@ pushes_one vs new v x rest later all has first is made =
     ∙ (λ i. map view vs ++ is i ∷ as_data later) ∙ sym (ap (λ r. map view vs ++ as_data r) first) ∙ has
 
 texts-elements : (items : List (String Global)) → all_texts (elements items) ≡ Some (item_texts items)
-unfolding item_texts
+unfolding items_by
 texts-elements [] = refl
 texts-elements (x ∷ items) = ap (option_map (λ texts. string_bytes x ∷ texts)) (texts-elements items)
 
@@ -160,4 +160,4 @@ module _ (vs : List Value) (items : List (String Global)) (text : Bytes) (all : 
 
     -- and is read as the same items in any capacity that holds them
     pub elements_again : IsDistinct string_eq items → (M : ℕ) → length items ≤ M → texts_for M text ≡ Ok (item_texts items)
-    elements_again distinct_items M short = rw (elements_read, texts-elements items, added_all nat_list_eq_equiv (item_texts items) (unique_item_texts items distinct_items)) (few M (item_texts items) (omega (arith, short, length_item_texts items)))
+    elements_again distinct_items M short = rw (elements_read, texts-elements items, added_all nat_list_eq_equiv (item_texts items) (unique_item_texts string_bytes items distinct_items)) (few M (item_texts items) (omega (arith, short, length_item_texts string_bytes items)))

@@ -2,9 +2,8 @@
 use Rattle.std.proofs.lemmas.Str.Pattern.{starts_text}
 use Rattle.micromap_core.proofs.ClosureLaws.{closure_laws}
 use Rattle.micromap_core.proofs.MapLaws.{map_laws}
-use Rattle.micromap_core.proofs.TextLoops.{values_texts}
 use Rattle.micromap_core.proofs.TextViews.{text_views}
 use Rattle.micromap.proofs.SetLaws.{set_laws}
 use Rattle.micromap.proofs.SetTextViews.{set_texts}
 
-pub ruleset caller = (map_laws, text_views, set_laws, set_texts, closure_laws, values_texts, starts_text)
+pub ruleset caller = (map_laws, text_views, set_laws, set_texts, closure_laws, starts_text)

@@ -1,58 +1,74 @@
 -- For callers: loops that build a set of texts, or take texts out of one, seen by their bytes. The ruleset
 -- `set_text_loops` is all that such a loop needs, over a set of texts, an operation on two such sets, or a map's keys.
-use Rattle.std.proofs.Common.{◌≡◌, ℕ, List, [], ◌∷◌, ◌++◌, String, ap, subst, ◌∙◌, string_bytes, append-nil, bytes_eq, string_eq}
+use Rattle.std.proofs.Common.{◌≡◌, ℕ, List, [], ◌∷◌, ◌++◌, Bool, refl, ap, sym, subst, ◌∙◌, append-nil, bytes_eq}
 use Rattle.std.specs.List.{IsDistinct}
+use Rattle.std.specs.Ordering.{on}
 use Rattle.std.specs.Set.{remove_key}
 use Rattle.std.proofs.lemmas.List.{length-append, map-append}
 use Rattle.std.proofs.lemmas.Map.Entries.{length-keys_of}
 use Rattle.std.proofs.lemmas.Str.Pattern.{starts_text}
-use Rattle.micromap_core.specs.Probe.{is_text}
-use Rattle.micromap_core.specs.Texts.{item_texts}
+use Rattle.micromap_core.specs.Texts.{items_by}
 use Rattle.micromap_core.proofs.DistinctLemmas.{IsDistinct-filter}
 use Rattle.micromap_core.proofs.Equalities.{equalities, lawful_bytes}
 use Rattle.micromap_core.proofs.LoopLaws.{each_left_map}
-use Rattle.micromap_core.proofs.TextLoops.{keys_texts}
+use Rattle.micromap_core.proofs.TextViews.{compares_by, keys_texts, ComparesBy}
+use Rattle.micromap.specs.Extend.{distinct, put_all_items}
 use Rattle.micromap.specs.Items.{put_item, take_item}
 use Rattle.micromap.specs.Operations.{difference, symmetric_difference, union}
 use Rattle.micromap.proofs.SetLaws.{length_put_item, not_fits}
 use Rattle.micromap.proofs.SetLoopLaws.{copied_item_next, difference_none, difference_take_item}
-use Rattle.micromap.proofs.SetTextViews.{difference_texts, intersection_texts, is_member_made, item_texts_empty, item_texts_first, item_texts_put_item, item_texts_remove_key, length_item_texts, unique_item_texts}
+use Rattle.micromap.proofs.SetTextViews.{difference_texts, intersection_texts, is_member_made, item_texts_empty, item_texts_first, item_texts_put_item, item_texts_remove_key, item_texts_take_item, length_item_texts, unique_item_texts}
 
-module _ {Z : Type 0} where
-  pub item_texts_end : (items : List (String Z)) → item_texts items ++ [] ≡ item_texts items
-  item_texts_end items = append-nil (item_texts items)
+module _ {T : Type 0} (see : T → List ℕ) where
+  pub item_texts_end : (items : List T) → items_by see items ++ [] ≡ items_by see items
+  item_texts_end items = append-nil (items_by see items)
 
-  -- a text that is put between the items that are done and those that are left
-  pub item_texts_next : (done : List (String Z)) (rest : List (List ℕ)) (x : String Z) → IsDistinct bytes_eq (item_texts done ++ string_bytes x ∷ rest) → item_texts (put_item string_eq done x) ++ rest ≡ item_texts done ++ string_bytes x ∷ rest
-  item_texts_next done rest x distinct = ap (λ l. l ++ rest) (item_texts_put_item done x) ∙ copied_item_next bytes_eq (item_texts done) rest (string_bytes x) lawful_bytes distinct
+  append_texts : (a b : List T) → items_by see (a ++ b) ≡ items_by see a ++ items_by see b
+  unfolding items_by
+  append_texts a b = map-append see a b
 
   -- a text that is taken out is one that a difference leaves out
-  module _ (xs : List (String Z)) (ys : List (List ℕ)) where
-    pub difference_remove_text : (bs : List ℕ) → IsDistinct string_eq xs → difference bytes_eq (item_texts (remove_key (is_text bs) xs)) ys ≡ difference bytes_eq (item_texts xs) (bs ∷ ys)
-    difference_remove_text bs distinct = ap (λ l. difference bytes_eq l ys) (item_texts_remove_key xs bs) ∙ difference_take_item bytes_eq (item_texts xs) ys bs lawful_bytes (unique_item_texts xs distinct)
+  module _ (xs : List T) (ys : List (List ℕ)) where
+    pub difference_remove_text : (bs : List ℕ) → IsDistinct (on see bytes_eq) xs → difference bytes_eq (items_by see xs) (bs ∷ ys) ≡ difference bytes_eq (items_by see (remove_key (λ x. bytes_eq bs (see x)) xs)) ys
+    difference_remove_text bs distinct =
+        sym (difference_take_item bytes_eq (items_by see xs) ys bs lawful_bytes (unique_item_texts see xs distinct)) ∙ ap (λ l. difference bytes_eq l ys) (item_texts_remove_key see xs bs)
 
-    pub difference_take_text : (x : String Z) → IsDistinct string_eq xs → difference bytes_eq (item_texts (take_item string_eq xs x)) ys ≡ difference bytes_eq (item_texts xs) (string_bytes x ∷ ys)
-    unfolding take_item
-    difference_take_text x distinct = difference_remove_text (string_bytes x) distinct
+    pub difference_take_text : (eq : T → T → Bool) (x : T) → ComparesBy see eq → IsDistinct (on see bytes_eq) xs → difference bytes_eq (items_by see (take_item eq xs x)) ys ≡ difference bytes_eq (items_by see xs) (see x ∷ ys)
+    difference_take_text eq x compares distinct =
+        ap (λ l. difference bytes_eq l ys) (item_texts_take_item see xs eq x compares) ∙ difference_take_item bytes_eq (items_by see xs) ys (see x) lawful_bytes (unique_item_texts see xs distinct)
 
-  append_texts : (a b : List (String Z)) → item_texts (a ++ b) ≡ item_texts a ++ item_texts b
-  unfolding item_texts
-  append_texts a b = map-append string_bytes a b
+  module _ (eq : T → T → Bool) where
+    -- a text that is put between the items that are done and those that are left
+    pub item_texts_next : (done : List T) (rest : List (List ℕ)) (x : T) → ComparesBy see eq → IsDistinct bytes_eq (items_by see done ++ see x ∷ rest) → items_by see (put_item eq done x) ++ rest ≡ items_by see done ++ see x ∷ rest
+    item_texts_next done rest x compares distinct =
+        ap (λ l. l ++ rest) (item_texts_put_item see done eq x compares) ∙ copied_item_next bytes_eq (items_by see done) rest (see x) lawful_bytes distinct
 
-  -- the members of an operation on two sets
-  module _ (a b : List (String Z)) where
-    pub union_texts : item_texts (union string_eq a b) ≡ union bytes_eq (item_texts a) (item_texts b)
-    unfolding union
-    union_texts = append_texts b (difference string_eq a b) ∙ ap (λ l. item_texts b ++ l) (difference_texts a b)
+    -- the items once these are put
+    pub item_texts_put_all : (items xs : List T) → ComparesBy see eq → items_by see (put_all_items eq items xs) ≡ put_all_items bytes_eq (items_by see items) (items_by see xs)
+    unfolding items_by
+    item_texts_put_all items [] compares = refl
+    item_texts_put_all items (x ∷ xs) compares =
+        item_texts_put_all (put_item eq items x) xs compares ∙ ap (λ l. put_all_items bytes_eq l (items_by see xs)) (item_texts_put_item see items eq x compares)
 
-    pub unique_union_texts : IsDistinct string_eq (union string_eq a b) → IsDistinct bytes_eq (union bytes_eq (item_texts a) (item_texts b))
-    unique_union_texts unique = subst (IsDistinct bytes_eq) union_texts (unique_item_texts (union string_eq a b) unique)
+    pub item_texts_distinct : (xs : List T) → ComparesBy see eq → items_by see (distinct eq xs) ≡ distinct bytes_eq (items_by see xs)
+    unfolding items_by
+    item_texts_distinct xs compares = item_texts_put_all [] xs compares
 
-    pub symmetric_difference_texts : item_texts (symmetric_difference string_eq a b) ≡ symmetric_difference bytes_eq (item_texts a) (item_texts b)
-    unfolding symmetric_difference
-    symmetric_difference_texts = append_texts (difference string_eq a b) (difference string_eq b a) ∙ (λ i. difference_texts a b i ++ difference_texts b a i)
+    -- the members of an operation on two sets
+    module _ (a b : List T) where
+      pub union_texts : ComparesBy see eq → items_by see (union eq a b) ≡ union bytes_eq (items_by see a) (items_by see b)
+      unfolding union
+      union_texts compares = ap (λ e. items_by see (union e a b)) (compares_by see eq compares) ∙ append_texts b _ ∙ ap (λ l. items_by see b ++ l) (sym (difference_texts see a b))
 
-    pub unique_symmetric_texts : IsDistinct string_eq (symmetric_difference string_eq a b) → IsDistinct bytes_eq (symmetric_difference bytes_eq (item_texts a) (item_texts b))
-    unique_symmetric_texts unique = subst (IsDistinct bytes_eq) symmetric_difference_texts (unique_item_texts (symmetric_difference string_eq a b) unique)
+      pub symmetric_difference_texts : ComparesBy see eq → items_by see (symmetric_difference eq a b) ≡ symmetric_difference bytes_eq (items_by see a) (items_by see b)
+      unfolding symmetric_difference
+      symmetric_difference_texts compares =
+          ap (λ e. items_by see (symmetric_difference e a b)) (compares_by see eq compares) ∙ append_texts _ _ ∙ sym (λ i. difference_texts see a b i ++ difference_texts see b a i)
+
+      pub unique_union_texts : ComparesBy see eq → IsDistinct eq (union eq a b) → IsDistinct bytes_eq (union bytes_eq (items_by see a) (items_by see b))
+      unique_union_texts compares unique = subst (IsDistinct bytes_eq) (union_texts compares) (unique_item_texts see (union eq a b) (subst (λ e. IsDistinct e (union eq a b)) (compares_by see eq compares) unique))
+
+      pub unique_symmetric_texts : ComparesBy see eq → IsDistinct eq (symmetric_difference eq a b) → IsDistinct bytes_eq (symmetric_difference bytes_eq (items_by see a) (items_by see b))
+      unique_symmetric_texts compares unique = subst (IsDistinct bytes_eq) (symmetric_difference_texts compares) (unique_item_texts see (symmetric_difference eq a b) (subst (λ e. IsDistinct e (symmetric_difference eq a b)) (compares_by see eq compares) unique))
 
 pub ruleset set_text_loops = (item_texts_empty, item_texts_first, item_texts_end, item_texts_next, item_texts_put_item, is_member_made, unique_item_texts, unique_union_texts, unique_symmetric_texts, IsDistinct-filter, union_texts, difference_texts, intersection_texts, symmetric_difference_texts, difference_take_text, difference_remove_text, difference_none, each_left_map, keys_texts, not_fits, length_item_texts, length_put_item, length-keys_of, length-append, starts_text, equalities)

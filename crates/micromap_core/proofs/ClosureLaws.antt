@@ -1,6 +1,6 @@
 -- For callers: what a closure that changes no capture leaves of a map, of a map with texts as keys, and of a list of items.
 -- The ruleset `closure_laws` has the laws in a form in which a search finds them from the clause of the call.
-use Rattle.std.proofs.Common.{◌≡◌, ℕ, Bool, Bor, MutBor, List, [], ◌∷◌, filter, length, map, String, string_bytes, refl, ap, sym, ◌∙◌}
+use Rattle.std.proofs.Common.{◌≡◌, ℕ, Bool, Bor, MutBor, List, [], filter, length, map, ap, sym, ◌∙◌}
 use Rattle.std.specs.Fn.{Mut}
 use Rattle.std.specs.List.{FoldsTo, enumerate_from, items_where_true}
 use Rattle.std.specs.List.Retain.{ReturnsInTurn}
@@ -8,8 +8,9 @@ use Rattle.std.specs.Map.Calls.{RetainsPairs}
 use Rattle.std.proofs.lemmas.Fn.{filter_same}
 use Rattle.std.proofs.lemmas.List.{map-id}
 use Rattle.std.proofs.lemmas.Map.Made.{filter_same_pairs}
+use Rattle.std.proofs.lemmas.Simd.{map-map}
 use Rattle.micromap_core.specs.Closures.{CalledOnPair, CalledOnValue, UpdateAllTurn, UpdateDisjointTurn, updated_disjoint}
-use Rattle.micromap_core.specs.Texts.{key_texts, texts_by}
+use Rattle.micromap_core.specs.Texts.{texts_by}
 use Rattle.micromap_core.proofs.ClosureLemmas.{seen, updated_at_keys}
 use Rattle.micromap_core.proofs.TextLoops.{texts_filter_by}
 
@@ -18,9 +19,9 @@ module _ {F K V : Type 0} (T : F → K → V → Bool → V → F → Type 0) (f
   pub retained : RetainsPairs T f pairs new → ((k : K) (v : V) (b : Bool) (w : V) (t : F) → T f k v b w t → (b ≡ test (k, v)) × (w ≡ v) × (t ≡ f)) → new ≡ filter test pairs
   retained calls pure = filter_same_pairs T test f pure pairs new calls
 
-module _ {F Z V : Type 0} (T : F → String Z → V → Bool → V → F → Type 0) (f : F) (pairs new : List (String Z × V)) (test : List ℕ × V → Bool) where
-  pub texts_retained : RetainsPairs T f pairs new → ((k : String Z) (v : V) (b : Bool) (w : V) (t : F) → T f k v b w t → (b ≡ test (string_bytes k, v)) × (w ≡ v) × (t ≡ f)) → key_texts new ≡ filter test (key_texts pairs)
-  texts_retained calls pure = ap key_texts (retained T f pairs new (λ p. test (string_bytes p.0, p.1)) calls pure) ∙ texts_filter_by (λ k v. test (k, v)) pairs
+module _ {F K V : Type 0} (see : K → List ℕ) (T : F → K → V → Bool → V → F → Type 0) (f : F) (pairs new : List (K × V)) (test : List ℕ × V → Bool) where
+  pub texts_retained : RetainsPairs T f pairs new → ((k : K) (v : V) (b : Bool) (w : V) (t : F) → T f k v b w t → (b ≡ test (see k, v)) × (w ≡ v) × (t ≡ f)) → texts_by see (λ v. v) new ≡ filter test (texts_by see (λ v. v) pairs)
+  texts_retained calls pure = ap (texts_by see (λ v. v)) (retained T f pairs new (λ p. test (see p.0, p.1)) calls pure) ∙ texts_filter_by see (λ k v. test (k, v)) pairs
 
 module _ {F X : Type 0} (R : F → X → Bool → F → Type 0) (f q : F) (bs : List Bool) (items new : List X) (test : X → Bool) where
   pub retained_items : length bs ≡ length items → ReturnsInTurn R f bs items q → new ≡ items_where_true bs items → ((x : X) (b : Bool) (t : F) → R f x b t → (b ≡ test x) × (t ≡ f)) → new ≡ filter test items
@@ -31,15 +32,10 @@ module _ {F K V R : Type 0} (g : Mut F (Bor K × (MutBor V × Unit {0})) (R × (
   pub updated : FoldsTo (UpdateAllTurn g) (f, []) pairs (last, new) → ((k : K) (v : V) (r : R) (w : V) (t : F) → CalledOnPair g f k v r w t → ((k, w) ≡ h (k, v)) × (t ≡ f)) → new ≡ map h pairs
   updated turns pure = sym (map-id new) ∙ seen g f last pairs new (λ p. p) h turns pure
 
-module _ {F Z V R : Type 0} (g : Mut F (Bor (String Z) × (MutBor V × Unit {0})) (R × (MutBor V × Unit {0}))) (f last : F) (pairs new : List (String Z × V)) (h : List ℕ × V → List ℕ × V) where
-  over_texts : (ps : List (String Z × V)) → map (λ (p : String Z × V). h (string_bytes p.0, p.1)) ps ≡ map h (key_texts ps)
+module _ {F K V R : Type 0} (see : K → List ℕ) (g : Mut F (Bor K × (MutBor V × Unit {0})) (R × (MutBor V × Unit {0}))) (f last : F) (pairs new : List (K × V)) (h : List ℕ × V → List ℕ × V) where
+  pub texts_updated : FoldsTo (UpdateAllTurn g) (f, []) pairs (last, new) → ((k : K) (v : V) (r : R) (w : V) (t : F) → CalledOnPair g f k v r w t → ((see k, w) ≡ h (see k, v)) × (t ≡ f)) → texts_by see (λ v. v) new ≡ map h (texts_by see (λ v. v) pairs)
   unfolding texts_by
-  over_texts [] = refl
-  over_texts (p ∷ ps) = ap (λ l. h (string_bytes p.0, p.1) ∷ l) (over_texts ps)
-
-  pub texts_updated : FoldsTo (UpdateAllTurn g) (f, []) pairs (last, new) → ((k : String Z) (v : V) (r : R) (w : V) (t : F) → CalledOnPair g f k v r w t → ((string_bytes k, w) ≡ h (string_bytes k, v)) × (t ≡ f)) → key_texts new ≡ map h (key_texts pairs)
-  unfolding texts_by
-  texts_updated turns pure = seen g f last pairs new (λ p. (string_bytes p.0, p.1)) h turns pure ∙ over_texts pairs
+  texts_updated turns pure = seen g f last pairs new (λ p. (see p.0, p.1)) h turns pure ∙ sym (map-map h (λ (p : K × V). (see p.0, p.1)) pairs)
 
 -- `update_disjoint`
 module _ {F K V R : Type 0} (eq : K → K → Bool) (g : Mut F (ℕ × (MutBor V × Unit {0})) (R × (MutBor V × Unit {0}))) (f last : F) (pairs new : List (K × V)) (keys : List K) (h : ℕ → V → V) where

@@ -1,6 +1,6 @@
 -- For callers: the equalities that are known to be lawful, and the tests that are known to be probes for them. For an
 -- equality of your own, `lawful` proves `lawful_mine : Lawful my_eq` in one line.
-use Rattle.std.proofs.Common.{◌≡◌, Bool, true, sym, ◌∙◌, ℕ, List, String, nat_eq, string_bytes, Bor}
+use Rattle.std.proofs.Common.{◌≡◌, Bool, true, sym, ◌∙◌, ℕ, List, String, nat_eq, string_bytes}
 use Rattle.std.specs.Cmp.{both_ways, IsEquivalence, bool_eq_equiv}
 use Rattle.std.specs.Bool.{beq}
 use Rattle.std.specs.Cmp.Lexicographic.{pointwise}
@@ -9,6 +9,7 @@ use Rattle.std.specs.String.{string_eq, string_eq_equiv}
 use Rattle.std.proofs.lemmas.Cmp.{int_eq_equiv, nat_eq_equiv, nat_list_eq_equiv, on_equiv}
 use Rattle.micromap_core.specs.Equalities.{IsProbe, Lawful, Probes}
 use Rattle.micromap_core.specs.Probe.{alike, equal, is_str, is_text}
+use Rattle.micromap_core.specs.Texts.{str_eq}
 
 -- a lawful probe tests the keys as the one that it matches does
 pub same_test : {K : Type 0} (eq : K → K → Bool) (test : K → Bool) (alike : (x y : K) → eq x y ≡ true → test x ≡ test y) (single : (x y : K) → test x ≡ true → test y ≡ true → eq x y ≡ true) (k : K) → test k ≡ true → test ≡ eq k
@@ -58,13 +59,17 @@ lawful_string Z = lawful string_eq string_eq_equiv
 pub probes_string : (Z : Type 0) (k : String Z) → Probes (string_eq {Z = Z}) (string_eq {Z = Z} k)
 probes_string Z k = probes_key string_eq k (lawful_string Z)
 
-pub probes_text : (Z : Type 0) (bytes : List ℕ) → Probes (string_eq {Z = Z}) (is_text {Z = Z} bytes)
-probes_text Z bytes =
-    probes string_eq (is_text bytes) (record {
-      laws = string_eq_equiv;
-      alike_keys = λ x y. alike nat_list_eq_equiv bytes (string_bytes x) (string_bytes y);
-      equal_keys = λ x y. equal nat_list_eq_equiv bytes (string_bytes x) (string_bytes y);
+-- a key that is seen by its bytes
+pub probes_by : {K : Type 0} (see : K → List ℕ) (bytes : List ℕ) → Probes (on see (pointwise nat_eq)) (λ k. pointwise nat_eq bytes (see k))
+probes_by see bytes =
+    probes _ _ (record {
+      laws = on_equiv see nat_list_eq_equiv;
+      alike_keys = λ x y. alike nat_list_eq_equiv bytes (see x) (see y);
+      equal_keys = λ x y. equal nat_list_eq_equiv bytes (see x) (see y);
     })
+
+pub probes_text : (Z : Type 0) (bytes : List ℕ) → Probes (string_eq {Z = Z}) (is_text {Z = Z} bytes)
+probes_text Z bytes = probes_by string_bytes bytes
 
 pub lawful_bytes : Lawful (pointwise nat_eq)
 lawful_bytes = lawful (pointwise nat_eq) nat_list_eq_equiv
@@ -76,20 +81,11 @@ probes_bytes bytes = probes_key (pointwise nat_eq) bytes lawful_bytes
 pub bytes_turned : (xs ys : List ℕ) → pointwise nat_eq xs ys ≡ pointwise nat_eq ys xs
 bytes_turned = nat_list_eq_equiv.symm
 
--- the equality of two `&str`
-abbrev str_eq : Bor (List ℕ) → Bor (List ℕ) → Bool
-str_eq x y = pointwise nat_eq x.now y.now
-
 pub lawful_str : Lawful str_eq
 lawful_str = lawful str_eq (on_equiv (λ s. s.now) nat_list_eq_equiv)
 
 pub probes_str : (bytes : List ℕ) → Probes str_eq (is_str bytes)
-probes_str bytes =
-    probes str_eq (is_str bytes) (record {
-      laws = on_equiv (λ s. s.now) nat_list_eq_equiv;
-      alike_keys = λ x y. alike nat_list_eq_equiv bytes x.now y.now;
-      equal_keys = λ x y. equal nat_list_eq_equiv bytes x.now y.now;
-    })
+probes_str bytes = probes_by (λ s. s.now) bytes
 
 -- what compares by a part
 pub lawful_on : {K J : Type 0} (f : K → J) (eq : J → J → Bool) → Lawful eq → Lawful (on f eq)

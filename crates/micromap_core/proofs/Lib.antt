@@ -27,3 +27,4 @@ pub mod SumLaws
 pub mod TextLemmas
 pub mod TextLoops
 pub mod TextViews
+pub mod Views

@@ -1,18 +1,39 @@
--- Texts seen by their bytes. The words are for callers' contracts: a caller that makes a `String` knows no more of it.
-use Rattle.std.specs.Prelude.{ℕ, List, String, map, string_bytes}
+-- Texts seen by their bytes. The words are for callers' contracts: a caller that makes a `String` knows no more of it, and
+-- a `&str` of its own says where it points besides. `see` shows a key's bytes: `string_bytes` those of a `String`, and
+-- `λ s. s.now` those of a `&str`.
+use Rattle.std.specs.Prelude.{ℕ, Bool, List, String, map, string_bytes}
+use Rattle.std.specs.Borrow.{Bor}
+use Rattle.std.specs.Ordering.{on}
+use Rattle.std.specs.Str.{bytes_eq}
+
+-- the `==` of `&str`
+abbrev pub str_eq : Bor (List ℕ) → Bor (List ℕ) → Bool
+str_eq = on (λ s. s.now) bytes_eq
 
 -- the pairs with each key as its bytes, and each value as `read` sees it
-unfoldable pub texts_by : {Z V W : Type 0} → (V → W) → List (String Z × V) → List (List ℕ × W)
-texts_by read pairs = map (λ p. (string_bytes p.0, read p.1)) pairs
+unfoldable pub texts_by : {K V W : Type 0} → (K → List ℕ) → (V → W) → List (K × V) → List (List ℕ × W)
+texts_by see read pairs = map (λ p. (see p.0, read p.1)) pairs
 
--- the keys by their bytes, and the values as they are
+-- a set's items, by their bytes
+unfoldable pub items_by : {T : Type 0} → (T → List ℕ) → List T → List (List ℕ)
+items_by see items = map see items
+
+-- of `String`: the keys by their bytes and the values as they are, both by their bytes, and a set's items
 abbrev pub key_texts : {Z V : Type 0} → List (String Z × V) → List (List ℕ × V)
-key_texts pairs = texts_by (λ v. v) pairs
+key_texts pairs = texts_by string_bytes (λ v. v) pairs
 
--- keys and values by their bytes
 abbrev pub texts : {Y Z : Type 0} → List (String Y × String Z) → List (List ℕ × List ℕ)
-texts pairs = texts_by string_bytes pairs
+texts pairs = texts_by string_bytes string_bytes pairs
 
--- a set's items by their bytes
-unfoldable pub item_texts : {Z : Type 0} → List (String Z) → List (List ℕ)
-item_texts items = map string_bytes items
+abbrev pub item_texts : {Z : Type 0} → List (String Z) → List (List ℕ)
+item_texts items = items_by string_bytes items
+
+-- of `&str`, likewise
+abbrev pub key_strs : {V : Type 0} → List (Bor (List ℕ) × V) → List (List ℕ × V)
+key_strs pairs = texts_by (λ s. s.now) (λ v. v) pairs
+
+abbrev pub strs : List (Bor (List ℕ) × Bor (List ℕ)) → List (List ℕ × List ℕ)
+strs pairs = texts_by (λ s. s.now) (λ s. s.now) pairs
+
+abbrev pub item_strs : List (Bor (List ℕ)) → List (List ℕ)
+item_strs items = items_by (λ s. s.now) items

@@ -20,7 +20,7 @@ loop-name-preserved g c = member_put _ c.loop-name.invariant c.in-Some.ensures.s
 pub returns-then-all_fit-clause-answer : goal.returns-then-all_fit-clause-answer
 returns-then-all_fit-clause-answer g c =
     let last = ap (λ es. whole_members (members_view es)) c.in-None.ensures.steps.0 in
-    sym (read_whole c.loop-name.invariant last NotWhole c.if-all_fit.true (omega (arith, c.len-content.ensures.content.bounded, length_texts (λ v. v) c.loop-name.map))) ∙ members_built g.row.N c.args.members.entries c.into_iter-name-iterator.ensures.into_iter_gives.5
+    sym (read_whole c.loop-name.invariant last NotWhole c.if-all_fit.true (omega (arith, c.len-content.ensures.content.bounded, length_texts string_bytes (λ v. v) c.loop-name.map))) ∙ members_built g.row.N c.args.members.entries c.into_iter-name-iterator.ensures.into_iter_gives.5
 
 pub returns-else-all_fit-clause-answer : goal.returns-else-all_fit-clause-answer
 returns-else-all_fit-clause-answer g c =

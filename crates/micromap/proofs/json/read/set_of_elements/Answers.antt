@@ -1,4 +1,4 @@
-use Rattle.std.proofs.Common.{ok_or, sym, ap, ◌∙◌, bytes_eq, arith, rules}
+use Rattle.std.proofs.Common.{ok_or, sym, ap, ◌∙◌, string_bytes, bytes_eq, arith, rules}
 use Rattle.std.proofs.lemmas.List.{nil_from_length}
 use Rattle.serde_json.specs.View.{items_view}
 use Rattle.micromap.specs.Extend.{distinct}
@@ -22,7 +22,7 @@ loop-element-preserved g c = text_put _ c.loop-element.invariant (ap items_view 
 pub returns-then-all_fit-clause-texts : goal.returns-then-all_fit-clause-texts
 returns-then-all_fit-clause-texts g c =
     read_whole c.loop-element.invariant (ap (λ vs. all_texts (items_view vs)) (nil_from_length c.loop-element.element-iterator.rest.items (sym c.loop-element.element-iterator.rest.ok.0 ∙ c.in-None.ensures.steps.0))) NotText c.if-all_fit.true
-    (omega (arith, c.len-content.ensures.content.bounded, length_item_texts c.loop-element.set))
+    (omega (arith, c.len-content.ensures.content.bounded, length_item_texts string_bytes c.loop-element.set))
 
 pub returns-else-all_fit-clause-fault : goal.returns-else-all_fit-clause-fault
 returns-else-all_fit-clause-fault g c = read_beyond c.loop-element.invariant (ap (λ vs. all_texts (items_view vs)) (nil_from_length c.loop-element.element-iterator.rest.items (sym c.loop-element.element-iterator.rest.ok.0 ∙ c.in-None.ensures.steps.0))) NotText c.if-all_fit.false
