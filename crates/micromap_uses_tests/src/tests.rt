@@ -38,3 +38,4 @@ mod tallied;
 mod texts;
 mod votes;
 mod walks;
+mod words;
