@@ -8,7 +8,6 @@ use Rattle.std.specs.Ordering.{on}
 use Rattle.std.specs.Set.{is_member, remove_key}
 use Rattle.std.proofs.lemmas.List.{drop-map, length-map, map-append}
 use Rattle.std.proofs.lemmas.List.Folds.{list_all-map, list_any-append}
-use Rattle.std.proofs.lemmas.Result.{IfOk-weaker}
 use Rattle.std.proofs.lemmas.Slice.Eq.{bytes_eq-Decides}
 use Rattle.micromap_core.specs.Print.{set_text}
 use Rattle.micromap_core.specs.Same.{have_equal_items}
@@ -162,14 +161,6 @@ module _ {T : Type 0} (see : T → List ℕ) where
 
       pub intersection_clone : AllZip (λ x y. see y ≡ see x) (intersection (on see bytes_eq) a b) new → items_by see new ≡ intersection bytes_eq (items_by see a) (items_by see b)
       intersection_clone clones = item_texts_clone _ new clones ∙ sym intersection_texts
-
-    -- what `sub` and `bitand` return, from their clause `clones`
-    module _ {E : Type 0} (r : Result (List T) E) where
-      pub sub_texts : IfOk r (AllZip (λ x y. see y ≡ see x) (difference (on see bytes_eq) a b)) → IfOk r (λ new. items_by see new ≡ difference bytes_eq (items_by see a) (items_by see b))
-      sub_texts = IfOk-weaker r _ _ difference_clone
-
-      pub bitand_texts : IfOk r (AllZip (λ x y. see y ≡ see x) (intersection (on see bytes_eq) a b)) → IfOk r (λ new. items_by see new ≡ intersection bytes_eq (items_by see a) (items_by see b))
-      bitand_texts = IfOk-weaker r _ _ intersection_clone
 
   -- what `retain` leaves, if its closure changes no capture
   module _ {F : Type 0} (R : F → T → Bool → F → Type 0) (f q : F) (bs : List Bool) (items new : List T) (test : List ℕ → Bool) where
