@@ -95,14 +95,14 @@ make a set of the items of several sets, as far as they fit | folds::gathered |
 # Texts as keys or items
 make a map with `&str` keys of a list, as far as they fit | folds::named |
 make a map with `String` keys of a list, as far as they fit | results::spelled |
-count how often each word comes | | gathered::counted
-make a map of names and amounts | | gathered::amounts_of
+count how often each word comes | | gathered::counted, words::counted
+make a map of names and amounts | | gathered::amounts_of, words::numbers_of
 make a set of names | | spelled::set_of
 keep the pairs whose name another map lacks | uses_tests/changed::keep_missing, uses_tests/changed::keep_missing_any |
-find the first name at which two maps differ | uses_tests/changed::first_change |
+find the first name at which two maps differ | uses_tests/words::first_changed |
 add up the values, if the sum fits | texts::total | texts::total
 ask whether a key passes, or count the values that pass | texts::any_long, texts::count_large |
-find how long the longest key is | texts::longest, texts::longest_of_strings |
+find how long the longest key is, or the longest `&str` among the keys | texts::longest, texts::longest_of_strings | words::longest
 count the items that pass | | tallied::longer
 ask whether all texts of a list are keys, or any is an item | | passing::has_names, passing::has_any
 change all values, or keep the pairs that pass, in place | uses_tests/named::double_all, uses_tests/named::keep_over, uses_tests/named::keep_longer |

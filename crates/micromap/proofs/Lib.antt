@@ -19,7 +19,6 @@ pub mod SetLaws
 pub mod SetLoopLaws
 pub mod SetTextLoops
 pub mod SetTextViews
-pub mod TextDifference
 pub use Rattle.micromap_core.proofs.ClosureLaws
 pub use Rattle.micromap_core.proofs.ClosureLemmas
 pub use Rattle.micromap_core.proofs.ComparisonLaws

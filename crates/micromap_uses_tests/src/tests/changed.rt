@@ -1,14 +1,12 @@
-//! Two maps compared, and changes that are made whole or not at all. Only `first_change` names a law of its own, and none
-//! has a proof.
+//! Two maps compared, and changes that are made whole or not at all. None has a proof.
 ghost use Rattle.std.specs.Prelude.{◌≡◌, ◌↔◌, ◌*◌, ◌-◌, ◌^◌, ◌<◌, IfSome, IsFalse, IsNone, IsTrue, filter, length, map, min, nat_eq, nat_lt, not};
 ghost use Rattle.std.specs.List.{list_all};
 ghost use Rattle.std.specs.Map.{values_of};
-ghost use Rattle.std.specs.Option.{option_map};
 ghost use Rattle.std.specs.Str.{bytes_eq};
 ghost use Rattle.std.specs.String.{string_bytes};
 ghost use Rattle.micromap.specs.Build.{put_all};
 ghost use Rattle.micromap.specs.Pairs.{has};
-ghost use Rattle.micromap.specs.Same.{first_difference, has_value};
+ghost use Rattle.micromap.specs.Same.{has_value};
 ghost use Rattle.micromap.specs.Texts.{key_texts};
 
 use super::built::add_all;
@@ -51,17 +49,6 @@ fn changed<const N: usize, const M: usize>(
         { other.get(number) != Some(value) },
     );
     kept
-}
-
-// The first name at which two maps differ, if any, by its bytes.
-#[tactic(auto, using(micromap::proofs::TextDifference::first_difference_texts))]
-fn first_change<'a, const N: usize, const M: usize>(
-    settings: &'a Map<String, u8, N>,
-    other: &'a Map<String, u8, M>,
-) -> Option<&'a String>
-    ensures { option_map (λ name. string_bytes name.now) result ≡ first_difference bytes_eq nat_eq (key_texts settings.now) (key_texts other.now) }
-{
-    settings.differs_at(other)
 }
 
 // A map with the pairs of two, where the second one's values stand, or `None` exactly if they don't fit.
@@ -113,9 +100,6 @@ mod tests {
             changed(&settings, &other)
                 .into_iter()
                 .eq([(1, 10), (2, 20)])
-        );
-        assert!(rt;
-            first_change(&Map::<String, u8, 1>::new(), &Map::<String, u8, 2>::new()).is_none()
         );
     }
 
