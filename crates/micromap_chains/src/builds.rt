@@ -1,5 +1,5 @@
 //! Maps and sets that are built by chains.
-#![tactic(auto, using(micromap::proofs::Rules::caller, micromap::proofs::ChainLaws::chain_laws))]
+#![tactic(auto, using(micromap::proofs::Rules::caller, micromap::proofs::laws::ChainLaws::chain_laws))]
 
 ghost use Rattle.std.specs.Prelude.{◌≡◌, ◌↔◌, ◌<◌, ◌++◌, ◌/◌, IfOk, IfSome, IsErr, IsNone, IsOk, filter, length, map, nat_eq, nat_lt};
 ghost use Rattle.std.specs.Map.{keys_of};

@@ -15,10 +15,10 @@ use Rattle.micromap_core.specs.Equalities.{Lawful}
 use Rattle.micromap_core.specs.Fair.{IsFairCall, IsFair, AnswersAgree, ToldApart, SameForGood}
 use Rattle.micromap_core.specs.Pairs.{at, pair, has, has_room, fits, put, put_key, take_out, IsContent, IsUnique}
 use Rattle.micromap_core.specs.Same.{has_value, pair_eq, is_same, Same}
-use Rattle.micromap_core.proofs.Equalities.{lawful, of_lawful}
+use Rattle.micromap_core.proofs.laws.Equalities.{lawful, of_lawful}
 use Rattle.micromap_core.proofs.SameLemmas.{answered_long, answered_short, FindAlike, alike_from_same, same_from_alike, differs_where_unlike}
 use Rattle.micromap_core.proofs.MapLemmas.{lookup-entry}
-use Rattle.micromap_core.proofs.MapLaws.{at_put, at_put_key, at_take_out, unique_put, unique_put_key, unique_take_out}
+use Rattle.micromap_core.proofs.laws.MapLaws.{at_put, at_put_key, at_take_out, unique_put, unique_put_key, unique_take_out}
 
 -- the two have pairwise unequal keys, which find alike
 pub record AreSame {K V : Type 0} (eq : K → K → Bool) (same : V → V → Bool) (first second : List (K × V)) : Type 0 where

@@ -19,8 +19,8 @@ use Rattle.std.proofs.lemmas.Option.{MatchOption-at_none, MatchOption-at_some, g
 use Rattle.std.specs.Cmp.Lexicographic.{options_equiv}
 use Rattle.micromap_core.specs.Pairs.{at, has, IsUnique}
 use Rattle.micromap_core.specs.Same.{pair_eq, is_same, Same, same_at, has_value, first_missing, first_unequal, first_difference}
-use Rattle.micromap_core.proofs.Equalities.{lawful}
-use Rattle.micromap_core.proofs.MapLaws.{at_alike}
+use Rattle.micromap_core.proofs.laws.Equalities.{lawful}
+use Rattle.micromap_core.proofs.laws.MapLaws.{at_alike}
 use Rattle.std.proofs.lemmas.Bool.Decides.{nat_tests}
 use Rattle.micromap_core.proofs.DistinctLemmas.{length-le_from_members, members_turned}
 

@@ -1,5 +1,5 @@
 //! Loops over a set, a list or an operation on two sets that build another set, add to one or take items out of one.
-#![tactic(auto, using(micromap::proofs::SetLoopLaws::set_loop_laws))]
+#![tactic(auto, using(micromap::proofs::laws::SetLoopLaws::set_loop_laws))]
 
 ghost use Rattle.std.specs.Prelude.{◌≡◌, ◌↔◌, ◌<◌, IsFalse, IsNone, filter, length, nat_eq, nat_lt};
 ghost use Rattle.std.specs.Bool.{OnTrue};

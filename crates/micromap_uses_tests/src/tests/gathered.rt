@@ -1,5 +1,5 @@
 //! Maps that a loop builds of a list of texts, and the sum of a map's values, known by their bytes.
-#![tactic(auto, using(micromap_core::proofs::MapLaws::map_laws, micromap_core::proofs::TextViews::text_views, micromap_core::proofs::CountLaws::count_laws, micromap_core::proofs::TextLoops::text_loops))]
+#![tactic(auto, using(micromap_core::proofs::laws::MapLaws::map_laws, micromap_core::proofs::laws::TextViews::text_views, micromap_core::proofs::laws::CountLaws::count_laws, micromap_core::proofs::laws::TextLoops::text_loops))]
 
 ghost use Rattle.std.specs.Prelude.{◌≡◌, ◌↔◌, ◌<◌, ◌^◌, IfOk, IsNone, length, map, sum};
 ghost use Rattle.std.specs.Map.{values_of};
@@ -84,7 +84,7 @@ mod tests {
     }
 
     #[test]
-    #[tactic(auto, using(micromap_core::proofs::MapLaws::map_laws, micromap_core::proofs::TextViews::text_views, micromap_core::proofs::TextLoops::text_loops))]
+    #[tactic(auto, using(micromap_core::proofs::laws::MapLaws::map_laws, micromap_core::proofs::laws::TextViews::text_views, micromap_core::proofs::laws::TextLoops::text_loops))]
     fn amounts_add_up(rt: HostRuntime) -> Result<(), AllocError> {
         let mut amounts = Map::<String, u64, 1>::new();
         amounts.insert(String::from_str(rt.alloc(), "a")?, 7);

@@ -1,5 +1,5 @@
 //! Callers of how two sets of texts are related, and of the operators on them, in terms of their bytes.
-#![tactic(auto, using(micromap::proofs::SetTextViews::set_text_operations))]
+#![tactic(auto, using(micromap::proofs::laws::SetTextViews::set_text_operations))]
 
 ghost use Rattle.std.specs.Prelude.{◌≡◌, ◌↔◌, IfOk, IsTrue, not};
 ghost use Rattle.std.specs.List.{list_all};

@@ -47,7 +47,7 @@ fn rename<'a, const N: usize>(numbers: &mut Map<&'a str, u8, N>, from: &'a str, 
 }
 
 // Whether two maps have the same words with the same numbers.
-#[tactic(auto, using(micromap_core::proofs::TextViews::text_views))]
+#[tactic(auto, using(micromap_core::proofs::laws::TextViews::text_views))]
 fn have_same_numbers<'a, const N: usize, const M: usize>(
     one: &Map<&'a str, u8, N>,
     other: &Map<&'a str, u8, M>,
@@ -86,7 +86,7 @@ fn first_changed<'a, const N: usize>(
 
 // The map of these words and numbers, or `None` if there are more than `N` words. A word that comes again gets its last
 // number.
-#[tactic(auto, using(micromap_core::proofs::MapLaws::map_laws, micromap_core::proofs::TextViews::text_views, micromap_core::proofs::CountLaws::count_laws, micromap_core::proofs::TextLoops::text_loops))]
+#[tactic(auto, using(micromap_core::proofs::laws::MapLaws::map_laws, micromap_core::proofs::laws::TextViews::text_views, micromap_core::proofs::laws::CountLaws::count_laws, micromap_core::proofs::laws::TextLoops::text_loops))]
 fn numbers_of<'a, const N: usize>(list: &[(&'a str, u8)]) -> Option<Map<&'a str, u8, N>>
     ensures numbers { IfSome result (λ m. key_strs m ≡ build bytes_eq (map (λ p. (p.0.now, p.1)) list.now)) }
     ensures refused { IsNone result ↔ (N < length (build bytes_eq (map (λ p. (p.0.now, p.1)) list.now))) }
@@ -99,7 +99,7 @@ fn numbers_of<'a, const N: usize>(list: &[(&'a str, u8)]) -> Option<Map<&'a str,
 }
 
 // Each word with the number of times that it comes, or `None` if there are more than `N` words.
-#[tactic(auto, using(micromap_core::proofs::MapLaws::map_laws, micromap_core::proofs::TextViews::text_views, micromap_core::proofs::CountLaws::count_laws, micromap_core::proofs::TextLoops::text_loops))]
+#[tactic(auto, using(micromap_core::proofs::laws::MapLaws::map_laws, micromap_core::proofs::laws::TextViews::text_views, micromap_core::proofs::laws::CountLaws::count_laws, micromap_core::proofs::laws::TextLoops::text_loops))]
 fn counted<'a, const N: usize>(words: &[&'a str]) -> Option<Map<&'a str, usize, N>>
     ensures { IfSome result (λ m. key_strs m ≡ counts bytes_eq (map (λ word. word.now) words.now)) }
 {
@@ -117,7 +117,7 @@ fn counted<'a, const N: usize>(words: &[&'a str]) -> Option<Map<&'a str, usize, 
 }
 
 // The first of the longest words, or the empty text.
-#[tactic(auto, using(micromap::proofs::SetTextLoops::set_text_loops))]
+#[tactic(auto, using(micromap::proofs::laws::SetTextLoops::set_text_loops))]
 fn longest<'a, const N: usize>(numbers: &Map<&'a str, u8, N>) -> &'a str
     ensures { result.now ≡ fold (λ most word. if nat_lt (length most) (length word) then word else most) [] (keys_of (key_strs numbers.now)) }
 {

@@ -1,8 +1,8 @@
 use Rattle.std.proofs.Common.{◌/◌, rules, tests}
 use Rattle.std.proofs.lemmas.Iterator.{YieldsList-from_map, YieldsList-from_slice}
 use Rattle.std.proofs.lemmas.Iterator.Consumers.{YieldsList-at}
-use Rattle.micromap.proofs.Equalities.{lawful_nat}
-use Rattle.micromap.proofs.ChainItems.{built_of, misfit_of, refused_of}
+use Rattle.micromap.proofs.laws.Equalities.{lawful_nat}
+use Rattle.micromap.proofs.laws.ChainItems.{built_of, misfit_of, refused_of}
 use Rattle.micromap_chains.proofs.answered.map_of_mapped.Goals as goal
 
 pub returns : goal.returns

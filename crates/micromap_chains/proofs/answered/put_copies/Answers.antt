@@ -1,6 +1,6 @@
 use Rattle.std.proofs.Common.{rules, tests}
 use Rattle.std.proofs.lemmas.Iterator.Consumers.{YieldsList-at, YieldsList-from_rest}
-use Rattle.micromap.proofs.ChainItems.{extended_of, YieldsList-from_values}
+use Rattle.micromap.proofs.laws.ChainItems.{extended_of, YieldsList-from_values}
 use Rattle.micromap_chains.proofs.answered.put_copies.Goals as goal
 
 pub returns : goal.returns

@@ -1,4 +1,4 @@
-use Rattle.micromap.proofs.MisfitLemmas.{copied_items, refused_is_many}
+use Rattle.micromap.proofs.laws.MisfitLemmas.{copied_items, refused_is_many}
 use Rattle.micromap_chains.proofs.answered.put_list.Goals as goal
 
 pub returns : goal.returns

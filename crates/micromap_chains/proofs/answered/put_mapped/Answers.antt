@@ -1,7 +1,7 @@
 use Rattle.std.proofs.Common.{rules, tests}
 use Rattle.std.proofs.lemmas.Iterator.{YieldsList-from_map, YieldsList-from_slice}
 use Rattle.std.proofs.lemmas.Iterator.Consumers.{YieldsList-at}
-use Rattle.micromap.proofs.ChainItems.{extended_of}
+use Rattle.micromap.proofs.laws.ChainItems.{extended_of}
 use Rattle.micromap_chains.proofs.answered.put_mapped.Goals as goal
 
 pub returns : goal.returns

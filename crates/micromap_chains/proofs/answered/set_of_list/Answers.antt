@@ -1,7 +1,7 @@
 use Rattle.std.proofs.lemmas.Iterator.{YieldsList-from_slice}
 use Rattle.std.proofs.lemmas.Iterator.Consumers.{YieldsList-at, YieldsList-from_copied}
-use Rattle.micromap.proofs.Equalities.{lawful_nat}
-use Rattle.micromap.proofs.ChainItems.{items_refused_of}
+use Rattle.micromap.proofs.laws.Equalities.{lawful_nat}
+use Rattle.micromap.proofs.laws.ChainItems.{items_refused_of}
 use Rattle.micromap_chains.proofs.answered.set_of_list.Goals as goal
 
 pub returns : goal.returns

@@ -3,7 +3,7 @@ use Rattle.std.proofs.lemmas.Iterator.{YieldsList-from_slice}
 use Rattle.std.specs.Str.{bytes_eq}
 use Rattle.micromap.specs.Pairs.{put_if_fits}
 use Rattle.micromap.specs.Texts.{key_texts}
-use Rattle.micromap.proofs.TextViews.{texts_empty}
+use Rattle.micromap.proofs.laws.TextViews.{texts_empty}
 use Rattle.micromap_chains.proofs.FoldedResults.{folded_results}
 use Rattle.micromap_chains.proofs.results.spelled.Goals as goal
 

@@ -1,7 +1,7 @@
 use Rattle.std.proofs.Common.{ok_or, sym, ap, ◌∙◌, string_bytes, bytes_eq, arith, rules}
 use Rattle.serde_json.specs.View.{members_view}
 use Rattle.micromap_core.specs.Build.{put_pair}
-use Rattle.micromap_core.proofs.TextViews.{length_texts, texts_empty}
+use Rattle.micromap_core.proofs.laws.TextViews.{length_texts, texts_empty}
 use Rattle.micromap.specs.Json.{and_then, items_for, whole_members}
 use Rattle.micromap.specs.declared.json.JsonFault.TheVariants.{NotWhole}
 use Rattle.micromap.proofs.JsonReading.{member_put, members_built, none_read, not_read, read_beyond, read_whole}

@@ -6,7 +6,7 @@ use Rattle.micromap.specs.Items.{put_item}
 use Rattle.micromap.specs.Json.{all_texts, and_then, items_for}
 use Rattle.micromap.specs.declared.json.JsonFault.TheVariants.{NotText}
 use Rattle.micromap.proofs.JsonReading.{none_read, not_read, read_beyond, read_whole, text_put}
-use Rattle.micromap.proofs.SetTextViews.{item_texts_empty, length_item_texts}
+use Rattle.micromap.proofs.laws.SetTextViews.{item_texts_empty, length_item_texts}
 use Rattle.micromap.proofs.json.read.set_of_elements.Goals as goal
 
 pub loop-element-init : goal.loop-element-init

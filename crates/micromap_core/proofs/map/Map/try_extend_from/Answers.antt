@@ -2,7 +2,7 @@ use Rattle.std.proofs.Common.{length, ap, refl, arith}
 use Rattle.std.proofs.lemmas.Bool.{false≢true}
 use Rattle.micromap_core.specs.Build.{pair_fits, put_pair}
 use Rattle.micromap_core.proofs.BuildLemmas.{fits_checked}
-use Rattle.micromap_core.proofs.MisfitLemmas.{stopped_many}
+use Rattle.micromap_core.proofs.laws.MisfitLemmas.{stopped_many}
 use Rattle.micromap_core.proofs.PutLemmas.{put_counted, put_ends, put_goes_on, put_starts, put_stops}
 use Rattle.micromap_core.proofs.map.Map.try_extend_from.Goals as goal
 

@@ -1,5 +1,5 @@
-use Rattle.micromap.proofs.Equalities.{lawful_nat}
-use Rattle.micromap.proofs.ItemCounts.{many_items_in}
+use Rattle.micromap.proofs.laws.Equalities.{lawful_nat}
+use Rattle.micromap.proofs.laws.ItemCounts.{many_items_in}
 use Rattle.micromap_uses_tests.proofs.tests.counts.collected_items.Goals as goal
 
 pub returns : goal.returns

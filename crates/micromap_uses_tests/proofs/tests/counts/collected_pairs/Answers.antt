@@ -1,5 +1,5 @@
-use Rattle.micromap.proofs.Equalities.{lawful_nat}
-use Rattle.micromap.proofs.MisfitLemmas.{many_in}
+use Rattle.micromap.proofs.laws.Equalities.{lawful_nat}
+use Rattle.micromap.proofs.laws.MisfitLemmas.{many_in}
 use Rattle.micromap_uses_tests.proofs.tests.counts.collected_pairs.Goals as goal
 
 pub returns : goal.returns

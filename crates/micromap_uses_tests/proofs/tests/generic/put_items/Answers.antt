@@ -1,4 +1,4 @@
-use Rattle.micromap.proofs.MisfitLemmas.{refused_is_many}
+use Rattle.micromap.proofs.laws.MisfitLemmas.{refused_is_many}
 use Rattle.micromap_uses_tests.proofs.tests.generic.put_items.Goals as goal
 
 pub returns : goal.returns

@@ -1,4 +1,4 @@
-use Rattle.micromap.proofs.ItemCounts.{refused_is_many}
+use Rattle.micromap.proofs.laws.ItemCounts.{refused_is_many}
 use Rattle.micromap_uses_tests.proofs.tests.generic.put_set_items.Goals as goal
 
 pub returns : goal.returns

@@ -1,8 +1,8 @@
 use Rattle.std.proofs.Common.{◌∙◌}
 use Rattle.std.specs.String.{string_eq}
 use Rattle.micromap.specs.Probe.{is_text}
-use Rattle.micromap.proofs.Equalities.{probes_text}
-use Rattle.micromap.proofs.SetLaws.{items_remove_key}
+use Rattle.micromap.proofs.laws.Equalities.{probes_text}
+use Rattle.micromap.proofs.laws.SetLaws.{items_remove_key}
 use Rattle.micromap_uses_tests.proofs.tests.laws.strike.Goals as goal
 
 pub returns : goal.returns

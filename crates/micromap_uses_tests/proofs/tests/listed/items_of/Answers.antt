@@ -1,6 +1,6 @@
-use Rattle.micromap.proofs.Equalities.{lawful_nat}
-use Rattle.micromap.proofs.ItemCounts.{many_items_in}
-use Rattle.micromap.proofs.MisfitLemmas.{built_in, copied_items}
+use Rattle.micromap.proofs.laws.Equalities.{lawful_nat}
+use Rattle.micromap.proofs.laws.ItemCounts.{many_items_in}
+use Rattle.micromap.proofs.laws.MisfitLemmas.{built_in, copied_items}
 use Rattle.micromap_uses_tests.proofs.tests.listed.items_of.Goals as goal
 
 pub returns : goal.returns

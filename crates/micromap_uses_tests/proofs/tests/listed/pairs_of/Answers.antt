@@ -1,5 +1,5 @@
-use Rattle.micromap.proofs.Equalities.{lawful_nat}
-use Rattle.micromap.proofs.MisfitLemmas.{built_in, copied_items, many_in, misfit_in}
+use Rattle.micromap.proofs.laws.Equalities.{lawful_nat}
+use Rattle.micromap.proofs.laws.MisfitLemmas.{built_in, copied_items, many_in, misfit_in}
 use Rattle.micromap_uses_tests.proofs.tests.listed.pairs_of.Goals as goal
 
 pub returns : goal.returns

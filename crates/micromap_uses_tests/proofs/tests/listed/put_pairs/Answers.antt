@@ -1,4 +1,4 @@
-use Rattle.micromap.proofs.MisfitLemmas.{copied_items, extended_in, refused_is_many}
+use Rattle.micromap.proofs.laws.MisfitLemmas.{copied_items, extended_in, refused_is_many}
 use Rattle.micromap_uses_tests.proofs.tests.listed.put_pairs.Goals as goal
 
 pub returns : goal.returns

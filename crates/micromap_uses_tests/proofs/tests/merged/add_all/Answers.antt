@@ -1,5 +1,5 @@
 use Rattle.std.proofs.Common.{rules}
-use Rattle.micromap.proofs.MergeLaws.{merged_run, merged_run_before, merged_run_stops}
+use Rattle.micromap.proofs.laws.MergeLaws.{merged_run, merged_run_before, merged_run_stops}
 use Rattle.micromap_uses_tests.proofs.tests.merged.add_all.Goals as goal
 
 pub returns-clause-all : goal.returns-clause-all

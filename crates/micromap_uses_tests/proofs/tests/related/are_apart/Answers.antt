@@ -1,5 +1,5 @@
 use Rattle.std.proofs.Common.{sym, ◌∙◌, string_bytes}
-use Rattle.micromap.proofs.SetTextViews.{disjoint_texts}
+use Rattle.micromap.proofs.laws.SetTextViews.{disjoint_texts}
 use Rattle.micromap_uses_tests.proofs.tests.related.are_apart.Goals as goal
 
 pub returns : goal.returns

@@ -1,7 +1,7 @@
 use Rattle.std.proofs.Common.{◌≡◌, length, nat_eq, arith}
 use Rattle.std.proofs.lemmas.Bool.Decides.{nat_tests}
-use Rattle.micromap.proofs.Equalities.{lawful_nat}
-use Rattle.micromap.proofs.Laws.{same_from_one_side}
+use Rattle.micromap.proofs.laws.Equalities.{lawful_nat}
+use Rattle.micromap.proofs.laws.Laws.{same_from_one_side}
 use Rattle.micromap_uses_tests.proofs.tests.sameness.as_long.Goals as goal
 
 pub returns : goal.returns

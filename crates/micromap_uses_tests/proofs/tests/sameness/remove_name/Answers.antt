@@ -1,7 +1,7 @@
 use Rattle.std.proofs.Common.{nat_eq}
 use Rattle.std.specs.String.{string_eq}
-use Rattle.micromap.proofs.Equalities.{lawful_nat, lawful_string}
-use Rattle.micromap.proofs.ComparisonLaws.{same_take_out}
+use Rattle.micromap.proofs.laws.Equalities.{lawful_nat, lawful_string}
+use Rattle.micromap.proofs.laws.ComparisonLaws.{same_take_out}
 use Rattle.micromap_uses_tests.proofs.tests.sameness.remove_name.Goals as goal
 
 pub returns : goal.returns

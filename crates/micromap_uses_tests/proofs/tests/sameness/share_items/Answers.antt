@@ -1,8 +1,8 @@
 use Rattle.std.proofs.Common.{nat_eq, ◌∙◌}
 use Rattle.std.proofs.lemmas.Bool.{OnTrue_from}
 use Rattle.micromap.specs.Same.{have_equal_items}
-use Rattle.micromap.proofs.Equalities.{lawful_nat, of_lawful}
-use Rattle.micromap.proofs.Laws.{sameness_of_items}
+use Rattle.micromap.proofs.laws.Equalities.{lawful_nat, of_lawful}
+use Rattle.micromap.proofs.laws.Laws.{sameness_of_items}
 use Rattle.micromap_uses_tests.proofs.tests.sameness.share_items.Goals as goal
 
 pub returns-then-eq_with : goal.returns-then-eq_with

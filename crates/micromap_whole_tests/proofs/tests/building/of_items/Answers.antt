@@ -1,4 +1,4 @@
-use Rattle.micromap.proofs.MisfitLemmas.{built_in, misfit_in}
+use Rattle.micromap.proofs.laws.MisfitLemmas.{built_in, misfit_in}
 use Rattle.micromap_whole_tests.proofs.tests.building.of_items.Goals as goal
 
 pub returns-clause-built : goal.returns-clause-built

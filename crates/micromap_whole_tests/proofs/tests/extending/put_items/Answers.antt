@@ -1,4 +1,4 @@
-use Rattle.micromap.proofs.MisfitLemmas.{put_before_in}
+use Rattle.micromap.proofs.laws.MisfitLemmas.{put_before_in}
 use Rattle.micromap_whole_tests.proofs.tests.extending.put_items.Goals as goal
 
 pub returns-clause-before : goal.returns-clause-before

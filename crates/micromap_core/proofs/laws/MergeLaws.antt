@@ -17,9 +17,9 @@ use Rattle.micromap_core.specs.Build.{all_merge, count_one, counts, merge_pair, 
 use Rattle.micromap_core.specs.Equalities.{Lawful}
 use Rattle.micromap_core.specs.Pairs.{at, fits, has, IsUnique}
 use Rattle.micromap_core.proofs.BuildLemmas.{each_fits-push, keys-fold, pairs_keyed, IsKeyed}
-use Rattle.micromap_core.proofs.CountLaws.{distinct_grows}
-use Rattle.micromap_core.proofs.Equalities.{of_lawful}
-use Rattle.micromap_core.proofs.MapLaws.{at_alike, at_put, has_put, length_put, unique_empty, unique_put}
+use Rattle.micromap_core.proofs.laws.CountLaws.{distinct_grows}
+use Rattle.micromap_core.proofs.laws.Equalities.{of_lawful}
+use Rattle.micromap_core.proofs.laws.MapLaws.{at_alike, at_put, has_put, length_put, unique_empty, unique_put}
 
 module _ {K V W : Type 0} (eq : K → K → Bool) (step : Option V → W → V) where
   -- no item, the first item, two lists of them, and one more

@@ -4,7 +4,7 @@ use Rattle.std.proofs.Common.{◌≡◌, Bool, List, [], ◌∷◌, Option, refl
 use Rattle.std.specs.Map.{keys_of}
 use Rattle.micromap_core.specs.Build.{merge_pair, merged}
 use Rattle.micromap_core.specs.Pairs.{at}
-use Rattle.micromap_core.proofs.MergeLaws.{merge_laws}
+use Rattle.micromap_core.proofs.laws.MergeLaws.{merge_laws}
 use Rattle.micromap.specs.Extend.{put_all_items}
 use Rattle.micromap.proofs.ItemLemmas.{keys_put_item}
 

@@ -8,10 +8,10 @@ use Rattle.std.proofs.lemmas.Str.Pattern.{starts_text}
 use Rattle.micromap_core.specs.Build.{build, merge_pair, merged, put_all}
 use Rattle.micromap_core.specs.Pairs.{at, put, IsUnique}
 use Rattle.micromap_core.specs.Texts.{key_strs, key_texts, str_eq, texts_by}
-use Rattle.micromap_core.proofs.Equalities.{equalities, lawful_bytes}
-use Rattle.micromap_core.proofs.LoopLaws.{copied_next, length_le_put_all, unique_map}
-use Rattle.micromap_core.proofs.MapLaws.{length_put, not_fits}
-use Rattle.micromap_core.proofs.TextViews.{at_key_texts, at_made, has_texts, length_texts, texts_empty, texts_put, unique_texts, values_texts, compares_by, ComparesBy}
+use Rattle.micromap_core.proofs.laws.Equalities.{equalities, lawful_bytes}
+use Rattle.micromap_core.proofs.laws.LoopLaws.{copied_next, length_le_put_all, unique_map}
+use Rattle.micromap_core.proofs.laws.MapLaws.{length_put, not_fits}
+use Rattle.micromap_core.proofs.laws.TextViews.{at_key_texts, at_made, has_texts, length_texts, texts_empty, texts_put, unique_texts, values_texts, compares_by, ComparesBy}
 use Rattle.micromap_core.proofs.Views.{filter-map}
 
 module _ {K V W : Type 0} (see : K → List ℕ) (read : V → W) where

@@ -10,8 +10,8 @@ use Rattle.micromap_core.specs.Build.{build, build_or_refuse, pair_fits, put_all
 use Rattle.micromap_core.specs.Equalities.{Lawful}
 use Rattle.micromap_core.proofs.BuildLemmas.{pairs_keyed, whole_counted, whole_made}
 use Rattle.micromap_core.proofs.DistinctLemmas.{IsDistinct-filter}
-use Rattle.micromap_core.proofs.Equalities.{equalities, of_lawful}
-use Rattle.micromap_core.proofs.LoopLaws.{build_unique}
+use Rattle.micromap_core.proofs.laws.Equalities.{equalities, of_lawful}
+use Rattle.micromap_core.proofs.laws.LoopLaws.{build_unique}
 use Rattle.micromap.specs.Extend.{distinct, distinct_or_refuse, put_all_items, put_item_or_refuse}
 use Rattle.micromap.specs.Items.{item_fits, put_item}
 use Rattle.micromap.proofs.AddedItems.{added_all}

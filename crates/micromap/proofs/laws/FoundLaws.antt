@@ -10,8 +10,8 @@ use Rattle.std.proofs.lemmas.List.Folds.{find_at}
 use Rattle.std.proofs.lemmas.Map.Entries.{lookup_from_place}
 use Rattle.micromap_core.specs.Equalities.{Lawful}
 use Rattle.micromap_core.specs.Pairs.{at, has, IsUnique}
-use Rattle.micromap_core.proofs.Equalities.{equalities, of_lawful}
-use Rattle.micromap_core.proofs.MapLaws.{at_alike}
+use Rattle.micromap_core.proofs.laws.Equalities.{equalities, of_lawful}
+use Rattle.micromap_core.proofs.laws.MapLaws.{at_alike}
 use Rattle.micromap_core.proofs.MapLemmas.{lookup-entry}
 
 module _ {K V : Type 0} where

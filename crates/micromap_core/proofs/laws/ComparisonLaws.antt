@@ -4,7 +4,7 @@ use Rattle.std.proofs.Common.{◌≡◌, Bool, ◌||◌, List, IsFalse, refl, ap
 use Rattle.micromap_core.specs.Equalities.{Lawful}
 use Rattle.micromap_core.specs.Pairs.{has, has_room, fits, put, put_key, take_out, IsUnique}
 use Rattle.micromap_core.specs.Same.{Same}
-use Rattle.micromap_core.proofs.Equalities.{equalities, of_lawful}
+use Rattle.micromap_core.proofs.laws.Equalities.{equalities, of_lawful}
 use Rattle.micromap_core.proofs.FairLemmas.{are_same, found_same, put_same, put_key_same, take_out_same}
 
 -- the insertion of a key that fits both lists, or neither, is fair

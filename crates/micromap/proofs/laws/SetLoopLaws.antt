@@ -8,13 +8,13 @@ use Rattle.std.proofs.lemmas.Map.Entries.{length-keys_of}
 use Rattle.std.proofs.lemmas.Map.Keys.{IsDistinct-head, IsDistinct-tail}
 use Rattle.micromap_core.specs.Equalities.{Lawful}
 use Rattle.micromap_core.proofs.DistinctLemmas.{IsDistinct-filter, new_behind}
-use Rattle.micromap_core.proofs.Equalities.{equalities, of_lawful}
-use Rattle.micromap_core.proofs.LoopLaws.{each_left}
+use Rattle.micromap_core.proofs.laws.Equalities.{equalities, of_lawful}
+use Rattle.micromap_core.proofs.laws.LoopLaws.{each_left}
 use Rattle.micromap.specs.Extend.{put_all_items}
 use Rattle.micromap.specs.Items.{put_item, take_item}
 use Rattle.micromap.specs.Operations.{difference, union}
 use Rattle.micromap.proofs.ItemLemmas.{keys_put_item, keys_put_all_items}
-use Rattle.micromap.proofs.SetLaws.{is_member_put_item, items_take_item, length_put_item, not_fits, put_item_back, put_item_new}
+use Rattle.micromap.proofs.laws.SetLaws.{is_member_put_item, items_take_item, length_put_item, not_fits, put_item_back, put_item_new}
 
 module _ {T : Type 0} (eq : T → T → Bool) where
   -- items that are done and items that are left: a new one goes between them

@@ -15,8 +15,8 @@ use Rattle.micromap_core.specs.Build.{build, put_all, count_one, counts, put_pai
 use Rattle.micromap_core.specs.Equalities.{Lawful}
 use Rattle.micromap_core.specs.Pairs.{at, has, put, IsUnique}
 use Rattle.micromap_core.proofs.BuildLemmas.{keys-fold, pairs_keyed}
-use Rattle.micromap_core.proofs.Equalities.{of_lawful}
-use Rattle.micromap_core.proofs.MapLaws.{at_alike, at_put, has_put, length_put, unique_empty, unique_put}
+use Rattle.micromap_core.proofs.laws.Equalities.{of_lawful}
+use Rattle.micromap_core.proofs.laws.MapLaws.{at_alike, at_put, has_put, length_put, unique_empty, unique_put}
 
 module _ {K : Type 0} (eq : K → K → Bool) where
   -- one key more counts if none before it is equal to it

@@ -10,10 +10,10 @@ use Rattle.std.proofs.lemmas.Bool.Decides.{nat_tests}
 use Rattle.std.proofs.lemmas.Map.Entries.{length-keys_of}
 use Rattle.micromap_core.specs.Equalities.{Lawful, Probes}
 use Rattle.micromap_core.specs.Pairs.{put, put_key, take_out, IsUnique}
-use Rattle.micromap_core.proofs.Equalities.{equalities, of_lawful, probes_key}
-use Rattle.micromap_core.proofs.TextLemmas.{each_set_text}
+use Rattle.micromap_core.proofs.laws.Equalities.{equalities, of_lawful, probes_key}
+use Rattle.micromap_core.proofs.laws.TextLemmas.{each_set_text}
 use Rattle.std.proofs.option.Match.{None-if_not_some}
-use Rattle.micromap_core.proofs.MapLaws.{lookup_put, lookup_put_key, lookup_take_out, pair_put, pair_put_key, pair_take_out, length_put, length_put_key, length_take_out, unique_put, unique_put_key, unique_take_out, take_out_missing, keys_take_out, keys_remove_entry, has_behind}
+use Rattle.micromap_core.proofs.laws.MapLaws.{lookup_put, lookup_put_key, lookup_take_out, pair_put, pair_put_key, pair_take_out, length_put, length_put_key, length_take_out, unique_put, unique_put_key, unique_take_out, take_out_missing, keys_take_out, keys_remove_entry, has_behind}
 use Rattle.micromap.specs.ItemEntries.{entries_of}
 use Rattle.micromap.specs.Extend.{put_all_items}
 use Rattle.micromap.specs.Items.{put_item, replace_item, find_item, item_fits, take_item}

@@ -20,11 +20,11 @@ use Rattle.micromap_core.specs.Build.{build, put_all, put_pair}
 use Rattle.micromap_core.specs.Equalities.{Lawful, Probes}
 use Rattle.micromap_core.specs.Pairs.{at, pair, has, put, put_key, take_out, without_at, IsUnique, fits}
 use Rattle.micromap_core.specs.Same.{has_value}
-use Rattle.micromap_core.proofs.Equalities.{equalities, lawful, of_lawful, of_probes, probes_key, same_test, probes_text}
+use Rattle.micromap_core.proofs.laws.Equalities.{equalities, lawful, of_lawful, of_probes, probes_key, same_test, probes_text}
 use Rattle.micromap_core.proofs.DistinctLemmas.{IsDistinct-filter}
 use Rattle.micromap_core.proofs.BuildLemmas.{IsDistinct-nil, keys-built, length-built, pairs_keyed}
 use Rattle.micromap_core.proofs.MapLemmas.{lookup-entry, push-put, push-put_key, slice_set-put_key, IsUnique-push, IsUnique-set, IsUnique-set_key, IsUnique-remove, keys_of-put_new, keys_of-put_stored, entry_push, entry_set, entry_set_key, none_apart, lookup-append, entry_new, length-remove_entry, length-set_key, keys_removed, by_test, lookup-set, no_value, set_put, lookup-reverse}
-use Rattle.micromap_core.proofs.TextLemmas.{each_map_text}
+use Rattle.micromap_core.proofs.laws.TextLemmas.{each_map_text}
 use Rattle.micromap_core.specs.Probe.{is_text}
 
 -- by a test: the pair that is found, and its value

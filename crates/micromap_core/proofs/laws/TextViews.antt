@@ -15,10 +15,10 @@ use Rattle.micromap_core.specs.Print.{map_text, pair_text}
 use Rattle.micromap_core.specs.Probe.{is_str, is_text}
 use Rattle.micromap_core.specs.Same.{first_difference, first_missing, first_unequal, is_same, same_at}
 use Rattle.micromap_core.specs.Texts.{items_by, key_strs, key_texts, str_eq, texts, texts_by}
-use Rattle.micromap_core.proofs.Equalities.{probes_by}
+use Rattle.micromap_core.proofs.laws.Equalities.{probes_by}
 use Rattle.micromap_core.proofs.MapLemmas.{by_test, lookup-entry}
-use Rattle.micromap_core.proofs.MapLaws.{matched_test, pair_key}
-use Rattle.micromap_core.proofs.TextLemmas.{map_text_known}
+use Rattle.micromap_core.proofs.laws.MapLaws.{matched_test, pair_key}
+use Rattle.micromap_core.proofs.laws.TextLemmas.{map_text_known}
 use Rattle.micromap_core.proofs.Views.{clones-map, distinct-map, equal_items-map, front-map, printed-map}
 
 -- eq compares keys by the bytes that `see` shows, as `string_eq` does by `string_bytes`

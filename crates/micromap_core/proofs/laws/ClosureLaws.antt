@@ -12,7 +12,7 @@ use Rattle.std.proofs.lemmas.Simd.{map-map}
 use Rattle.micromap_core.specs.Closures.{CalledOnPair, CalledOnValue, UpdateAllTurn, UpdateDisjointTurn, updated_disjoint}
 use Rattle.micromap_core.specs.Texts.{texts_by}
 use Rattle.micromap_core.proofs.ClosureLemmas.{seen, updated_at_keys}
-use Rattle.micromap_core.proofs.TextLoops.{texts_filter_by}
+use Rattle.micromap_core.proofs.laws.TextLoops.{texts_filter_by}
 
 -- `retain`
 module _ {F K V : Type 0} (T : F → K → V → Bool → V → F → Type 0) (f : F) (pairs new : List (K × V)) (test : K × V → Bool) where

@@ -15,11 +15,11 @@ use Rattle.std.specs.Map.{keys_of}
 use Rattle.std.specs.Set.{distinct_count}
 use Rattle.micromap_core.specs.Build.{pair_fits, put_pair, MisfitIn, PutsBefore, PutsEach, PutsUpTo, StopsAt, put_all}
 use Rattle.micromap_core.specs.Equalities.{Lawful}
-use Rattle.micromap_core.proofs.CountLaws.{distinct_prefix, put_all_grows}
+use Rattle.micromap_core.proofs.laws.CountLaws.{distinct_prefix, put_all_grows}
 use Rattle.micromap_core.proofs.BuildLemmas.{many_prefix, pairs_keyed, each_fits-count}
 use Rattle.std.proofs.lemmas.Map.Entries.{length-keys_of}
 use Rattle.micromap_core.specs.Pairs.{IsContent}
-use Rattle.micromap_core.proofs.Equalities.{of_lawful}
+use Rattle.micromap_core.proofs.laws.Equalities.{of_lawful}
 
 -- what a run took of a list that it reads from the front
 run_taken : {S A : Type 0} {steps : S → Option A → S → Type 0} (p : Run steps) (xs : List A) → p.len ≤ length xs → ((k : ℕ) (d : A) → k < p.len → option_map (λ y. y) (p.at k) ≡ Some (slice_index_or xs k d)) → p.items ≡ take p.len xs

@@ -18,7 +18,7 @@ use Rattle.std.specs.Set.{distinct_count}
 use Rattle.micromap_core.specs.Build.{AllItems, ItemsUpTo, PutsEach, StopsAt}
 use Rattle.micromap_core.specs.Equalities.{Lawful}
 use Rattle.micromap_core.specs.declared.overfull.Overfull.{Overfull}
-use Rattle.micromap_core.proofs.CountLaws.{distinct_prefix}
+use Rattle.micromap_core.proofs.laws.CountLaws.{distinct_prefix}
 
 -- a chain through a `map` that makes values of references, as `|(k, v)| (*k, *v)`
 pub YieldsList-from_values : {S A B F : Type 0} {steps : S → Option A → S → Type 0} {v : A → B} {ys : List B} {s : Map S F} (g : Mut F (A × Unit {0}) B) {f : F}

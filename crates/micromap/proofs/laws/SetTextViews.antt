@@ -12,14 +12,14 @@ use Rattle.std.proofs.lemmas.Slice.Eq.{bytes_eq-Decides}
 use Rattle.micromap_core.specs.Print.{set_text}
 use Rattle.micromap_core.specs.Same.{have_equal_items}
 use Rattle.micromap_core.specs.Texts.{item_strs, item_texts, items_by, str_eq}
-use Rattle.micromap_core.proofs.ClosureLaws.{retained_items}
-use Rattle.micromap_core.proofs.Equalities.{equalities, lawful_bytes, of_lawful, of_probes, probes_by, same_test}
-use Rattle.micromap_core.proofs.TextLemmas.{set_text_known}
-use Rattle.micromap_core.proofs.TextViews.{compares_by, ComparesBy}
+use Rattle.micromap_core.proofs.laws.ClosureLaws.{retained_items}
+use Rattle.micromap_core.proofs.laws.Equalities.{equalities, lawful_bytes, of_lawful, of_probes, probes_by, same_test}
+use Rattle.micromap_core.proofs.laws.TextLemmas.{set_text_known}
+use Rattle.micromap_core.proofs.laws.TextViews.{compares_by, ComparesBy}
 use Rattle.micromap_core.proofs.Views.{any-map, by_items, clones-map, distinct-map, equal_items-map, filter-map, find-map, front-map, printed-map, remove_key-map, swap_key-map}
 use Rattle.micromap.proofs.ItemLemmas.{any-find}
 use Rattle.micromap.proofs.OperationLaws.{same_members}
-use Rattle.micromap.proofs.SetLaws.{length_put_item, put_item_back}
+use Rattle.micromap.proofs.laws.SetLaws.{length_put_item, put_item_back}
 use Rattle.micromap.specs.Items.{put_item, replace_item, find_item, take_item}
 use Rattle.micromap.specs.Operations.{difference, intersection, HaveEquals, IsDisjoint}
 

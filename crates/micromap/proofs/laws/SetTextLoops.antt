@@ -9,15 +9,15 @@ use Rattle.std.proofs.lemmas.Map.Entries.{length-keys_of}
 use Rattle.std.proofs.lemmas.Str.Pattern.{starts_text}
 use Rattle.micromap_core.specs.Texts.{items_by}
 use Rattle.micromap_core.proofs.DistinctLemmas.{IsDistinct-filter}
-use Rattle.micromap_core.proofs.Equalities.{equalities, lawful_bytes}
-use Rattle.micromap_core.proofs.LoopLaws.{each_left_map}
-use Rattle.micromap_core.proofs.TextViews.{compares_by, keys_texts, ComparesBy}
+use Rattle.micromap_core.proofs.laws.Equalities.{equalities, lawful_bytes}
+use Rattle.micromap_core.proofs.laws.LoopLaws.{each_left_map}
+use Rattle.micromap_core.proofs.laws.TextViews.{compares_by, keys_texts, ComparesBy}
 use Rattle.micromap.specs.Extend.{distinct, put_all_items}
 use Rattle.micromap.specs.Items.{put_item, take_item}
 use Rattle.micromap.specs.Operations.{difference, symmetric_difference, union}
-use Rattle.micromap.proofs.SetLaws.{length_put_item, not_fits}
-use Rattle.micromap.proofs.SetLoopLaws.{copied_item_next, difference_none, difference_take_item}
-use Rattle.micromap.proofs.SetTextViews.{difference_texts, intersection_texts, is_member_made, item_texts_empty, item_texts_first, item_texts_put_item, item_texts_remove_key, item_texts_take_item, length_item_texts, unique_item_texts}
+use Rattle.micromap.proofs.laws.SetLaws.{length_put_item, not_fits}
+use Rattle.micromap.proofs.laws.SetLoopLaws.{copied_item_next, difference_none, difference_take_item}
+use Rattle.micromap.proofs.laws.SetTextViews.{difference_texts, intersection_texts, is_member_made, item_texts_empty, item_texts_first, item_texts_put_item, item_texts_remove_key, item_texts_take_item, length_item_texts, unique_item_texts}
 
 module _ {T : Type 0} (see : T → List ℕ) where
   pub item_texts_end : (items : List T) → items_by see items ++ [] ≡ items_by see items

@@ -10,8 +10,8 @@ use Rattle.micromap_core.specs.Build.{build, put_all}
 use Rattle.micromap_core.specs.Equalities.{Lawful}
 use Rattle.micromap_core.specs.Pairs.{fits, has, put, IsUnique}
 use Rattle.micromap_core.proofs.DistinctLemmas.{new_behind}
-use Rattle.micromap_core.proofs.Equalities.{equalities, of_lawful}
-use Rattle.micromap_core.proofs.MapLaws.{at_first, length_put, not_fits, put_new}
+use Rattle.micromap_core.proofs.laws.Equalities.{equalities, of_lawful}
+use Rattle.micromap_core.proofs.laws.MapLaws.{at_first, length_put, not_fits, put_new}
 use Rattle.micromap_core.proofs.StreamLemmas.{built_in_turn}
 
 module _ {K V : Type 0} (eq : K → K → Bool) where

@@ -14,7 +14,7 @@ use Rattle.micromap_core.specs.Pairs.{has, IsUnique}
 use Rattle.micromap_core.specs.Same.{have_equal_items, HaveEqualItems, has_value, is_same, Same}
 use Rattle.micromap_core.specs.SameLaws.{have_equal_items_equiv, is_same_equiv}
 use Rattle.micromap_core.proofs.DistinctLemmas.{length-filter_members, members_turned, missing_in_shorter}
-use Rattle.micromap_core.proofs.Equalities.{lawful, of_lawful}
+use Rattle.micromap_core.proofs.laws.Equalities.{lawful, of_lawful}
 use Rattle.micromap_core.proofs.SameLemmas.{long_from_same, same_from_long, filters_empty, same_from_filters, values_within}
 
 -- where not all items pass a test, one fails it

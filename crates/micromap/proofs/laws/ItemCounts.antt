@@ -12,14 +12,14 @@ use Rattle.std.proofs.lemmas.List.Sums.{fold_more, fold_push}
 use Rattle.std.proofs.lemmas.Map.Made.{length-from_keys}
 use Rattle.std.proofs.lemmas.Result.{IfErr-weaker}
 use Rattle.micromap_core.specs.Equalities.{Lawful}
-use Rattle.micromap_core.proofs.CountLaws.{distinct_prefix, distinct_grows}
+use Rattle.micromap_core.proofs.laws.CountLaws.{distinct_prefix, distinct_grows}
 use Rattle.micromap_core.proofs.BuildLemmas.{keys-built, keys-fold, length-built, many_prefix, each_fits-count}
-use Rattle.micromap_core.proofs.Equalities.{of_lawful}
-use Rattle.micromap_core.proofs.MisfitLemmas.{misfit_in, put_before_in}
+use Rattle.micromap_core.proofs.laws.Equalities.{of_lawful}
+use Rattle.micromap_core.proofs.laws.MisfitLemmas.{misfit_in, put_before_in}
 use Rattle.micromap.specs.Extend.{put_all_items, distinct, ItemMisfitIn, PutsItemsBefore}
 use Rattle.micromap.specs.Items.{IsItems, put_item, item_fits}
 use Rattle.micromap.proofs.ExtendLemmas.{items_keyed}
-use Rattle.micromap.proofs.SetLaws.{length_put_item}
+use Rattle.micromap.proofs.laws.SetLaws.{length_put_item}
 
 module _ {T : Type 0} (eq : T → T → Bool) where
   -- after items are put

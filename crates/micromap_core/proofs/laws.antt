@@ -1,0 +1,13 @@
+pub mod ClosureLaws
+pub mod ComparisonLaws
+pub mod CountLaws
+pub mod Equalities
+pub mod Laws
+pub mod LoopLaws
+pub mod MapLaws
+pub mod MergeLaws
+pub mod MisfitLemmas
+pub mod SumLaws
+pub mod TextLemmas
+pub mod TextLoops
+pub mod TextViews
