@@ -5,7 +5,8 @@ use Rattle.std.proofs.lemmas.Bool.{cases_Bool}
 use Rattle.micromap_core.proofs.BuildLemmas.{IsKeyed}
 use Rattle.micromap.specs.Items.{put_item, item_fits}
 
-pub items_keyed : {T : Type 0} (eq : T → T → Bool) (N : ℕ) → IsKeyed eq N (item_fits eq N) (put_item eq) (λ items. items) (λ x. x) [] (distinct_count eq)
+pub items_keyed : {T : Type 0} (eq : T → T → Bool) (N : ℕ)
+    → IsKeyed eq N (item_fits eq N) (put_item eq) (λ items. items) (λ x. x) [] (distinct_count eq)
 unfolding put_item
 items_keyed eq N = record {
   cases = λ items x. elim (cases_Bool (is_member eq items x)) [

@@ -1,6 +1,7 @@
 -- The members of an operation on two lists of items are pairwise unequal. An operation that doesn't care which list is
 -- first has equal members if the lists change places. For callers: `same_members`.
-use Rattle.std.proofs.Common.{◌≡◌, ◌+◌, Bool, true, false, not, ◌&&◌, ◌||◌, ◌↔◌, List, [], ◌∷◌, length, filter, if◌then◌else◌, IsTrue, refl, ap, sym, ◌∙◌, arith, length-append}
+use Rattle.std.proofs.Common.{◌≡◌, ◌+◌, Bool, true, false, not, ◌&&◌, ◌||◌, ◌↔◌, List, [], ◌∷◌, length, filter}
+use Rattle.std.proofs.Common.{if◌then◌else◌, IsTrue, refl, ap, sym, ◌∙◌, arith, length-append}
 use Rattle.std.specs.Cmp.{IsEquivalence, both_ways, first_so, second_so}
 use Rattle.std.specs.Cmp.Derive.{both_true}
 use Rattle.std.specs.List.{IsDistinct, list_all}
@@ -18,42 +19,63 @@ use Rattle.micromap.proofs.OperationSteps.{length-parts}
 
 module _ {T : Type 0} {eq : T → T → Bool} (laws : IsEquivalence eq) where
   -- which items have an equal one among the members
-  pub is_member-difference : (xs ys : List T) (q : T) → is_member eq (difference eq xs ys) q ≡ (is_member eq xs q && not (is_member eq ys q))
-  is_member-difference xs ys q = is_member-filter laws (λ x. not (is_member eq ys x)) q (λ x same. ap not (list_any_congr laws q x ys same)) xs
+  pub is_member-difference : (xs ys : List T) (q : T)
+      → is_member eq (difference eq xs ys) q ≡ (is_member eq xs q && not (is_member eq ys q))
+  is_member-difference xs ys q =
+      is_member-filter laws (λ x. not (is_member eq ys x)) q
+      (λ x same. ap not (list_any_congr laws q x ys same)) xs
 
-  pub is_member-intersection : (xs ys : List T) (q : T) → is_member eq (intersection eq xs ys) q ≡ (is_member eq xs q && is_member eq ys q)
-  is_member-intersection xs ys q = is_member-filter laws (is_member eq ys) q (λ x same. list_any_congr laws q x ys same) xs
+  pub is_member-intersection : (xs ys : List T) (q : T)
+      → is_member eq (intersection eq xs ys) q ≡ (is_member eq xs q && is_member eq ys q)
+  is_member-intersection xs ys q =
+      is_member-filter laws (is_member eq ys) q (λ x same. list_any_congr laws q x ys same) xs
 
-  pub is_member-union : (xs ys : List T) (q : T) → is_member eq (union eq xs ys) q ≡ (is_member eq xs q || is_member eq ys q)
+  pub is_member-union : (xs ys : List T) (q : T)
+      → is_member eq (union eq xs ys) q ≡ (is_member eq xs q || is_member eq ys q)
   unfolding union
-  is_member-union xs ys q = grind (arith, list_any-append (eq q) ys (difference eq xs ys), is_member-difference xs ys q)
+  is_member-union xs ys q =
+      grind (arith, list_any-append (eq q) ys (difference eq xs ys), is_member-difference xs ys q)
 
-  pub is_member-symmetric_difference : (xs ys : List T) (q : T) → is_member eq (symmetric_difference eq xs ys) q ≡ (if is_member eq xs q then not (is_member eq ys q) else is_member eq ys q)
+  pub is_member-symmetric_difference : (xs ys : List T) (q : T)
+      → is_member eq (symmetric_difference eq xs ys) q
+      ≡ (if is_member eq xs q then not (is_member eq ys q) else is_member eq ys q)
   unfolding symmetric_difference
-  is_member-symmetric_difference xs ys q = grind (arith, list_any-append (eq q) (difference eq xs ys) (difference eq ys xs), is_member-difference xs ys q, is_member-difference ys xs q)
+  is_member-symmetric_difference xs ys q =
+      grind (arith, list_any-append (eq q) (difference eq xs ys) (difference eq ys xs),
+        is_member-difference xs ys q, is_member-difference ys xs q)
 
   -- turned round, the operations have equal members
   pub intersection_turned : (xs ys : List T) → Commutes eq (intersection eq) xs ys
-  intersection_turned xs ys q = grind (arith, is_member-intersection xs ys q, is_member-intersection ys xs q)
+  intersection_turned xs ys q =
+      grind (arith, is_member-intersection xs ys q, is_member-intersection ys xs q)
 
   pub union_turned : (xs ys : List T) → Commutes eq (union eq) xs ys
   union_turned xs ys q = grind (arith, is_member-union xs ys q, is_member-union ys xs q)
 
   pub symmetric_difference_turned : (xs ys : List T) → Commutes eq (symmetric_difference eq) xs ys
-  symmetric_difference_turned xs ys q = grind (arith, is_member-symmetric_difference xs ys q, is_member-symmetric_difference ys xs q)
+  symmetric_difference_turned xs ys q =
+      grind (arith, is_member-symmetric_difference xs ys q, is_member-symmetric_difference ys xs q)
 
   -- the members of both parts are pairwise unequal
-  pub IsDistinct-union : (xs ys : List T) → IsDistinct eq ys → IsDistinct eq (difference eq xs ys) → IsDistinct eq (union eq xs ys)
+  pub IsDistinct-union : (xs ys : List T) → IsDistinct eq ys → IsDistinct eq (difference eq xs ys)
+      → IsDistinct eq (union eq xs ys)
   unfolding union
-  IsDistinct-union xs ys others beyond = IsDistinct-append laws ys (difference eq xs ys) others beyond (λ q found. grind (arith, found, is_member-difference xs ys q))
+  IsDistinct-union xs ys others beyond =
+      IsDistinct-append laws ys (difference eq xs ys) others beyond
+      (λ q found. grind (arith, found, is_member-difference xs ys q))
 
-  pub IsDistinct-symmetric_difference : (xs ys : List T) → IsDistinct eq (difference eq xs ys) → IsDistinct eq (difference eq ys xs) → IsDistinct eq (symmetric_difference eq xs ys)
+  pub IsDistinct-symmetric_difference : (xs ys : List T) → IsDistinct eq (difference eq xs ys)
+      → IsDistinct eq (difference eq ys xs) → IsDistinct eq (symmetric_difference eq xs ys)
   unfolding symmetric_difference
   IsDistinct-symmetric_difference xs ys first second =
-      IsDistinct-append laws (difference eq xs ys) (difference eq ys xs) first second (λ q found. grind (arith, found, is_member-difference xs ys q, is_member-difference ys xs q))
+      IsDistinct-append laws (difference eq xs ys)
+          (difference eq ys xs) first second
+          (λ q found. grind (arith, found, is_member-difference xs ys q,
+              is_member-difference ys xs q))
 
 -- what is counted twice in the two lists is counted once in the intersection
-pub length-union : {T : Type 0} (eq : T → T → Bool) (xs ys : List T) → length (union eq xs ys) + length (intersection eq xs ys) ≡ length xs + length ys
+pub length-union : {T : Type 0} (eq : T → T → Bool) (xs ys : List T)
+    → length (union eq xs ys) + length (intersection eq xs ys) ≡ length xs + length ys
 unfolding union
 length-union eq xs ys = omega (arith, length-append ys (difference eq xs ys), length-parts eq xs ys)
 
@@ -61,60 +83,90 @@ length-union eq xs ys = omega (arith, length-append ys (difference eq xs ys), le
 module _ {T : Type 0} (test opposite : T → Bool) (turns : (x : T) → opposite x ≡ not (test x)) where
   none_pass : (xs : List T) → IsTrue (list_all opposite xs) ↔ (filter test xs ≡ [])
   none_pass [] = (λ all. refl, λ none. refl)
-  none_pass (x ∷ xs) = (λ all. grind (arith, all, turns x, none_pass xs), λ none. grind (arith, none, turns x, none_pass xs))
+  none_pass (x ∷ xs) = (λ all. grind (arith, all, turns x, none_pass xs),
+        λ none. grind (arith, none, turns x, none_pass xs))
 
 module _ {T : Type 0} (eq : T → T → Bool) (xs ys : List T) (answer : Bool) where
   -- a set is a subset exactly where the difference is empty, and disjoint exactly where the intersection is; the answer
   -- of a call says the same
-  pub subset_answered : answer ≡ list_all (is_member eq ys) xs → IsTrue answer ↔ (difference eq xs ys ≡ [])
-  subset_answered is = rw is (none_pass (λ x. not (is_member eq ys x)) (is_member eq ys) (λ x. sym (not-not (is_member eq ys x))) xs)
+  pub subset_answered : answer ≡ list_all (is_member eq ys) xs → IsTrue answer
+      ↔ (difference eq xs ys ≡ [])
+  subset_answered is = rw is
+      (none_pass (λ x. not (is_member eq ys x)) (is_member eq ys)
+        (λ x. sym (not-not (is_member eq ys x))) xs)
 
-  pub disjoint_answered : answer ≡ list_all (λ x. not (is_member eq ys x)) xs → IsTrue answer ↔ (intersection eq xs ys ≡ [])
-  disjoint_answered is = rw is (none_pass (is_member eq ys) (λ x. not (is_member eq ys x)) (λ x. refl) xs)
+  pub disjoint_answered : answer ≡ list_all (λ x. not (is_member eq ys x)) xs → IsTrue answer
+      ↔ (intersection eq xs ys ≡ [])
+  disjoint_answered is = rw is
+      (none_pass (is_member eq ys) (λ x. not (is_member eq ys x)) (λ x. refl) xs)
 
 -- that nothing is in both sets is said from either side
 module _ {T : Type 0} {eq : T → T → Bool} (laws : IsEquivalence eq) where
-  none_equal : (x : T) (p : T → Bool) (ys : List T) → list_all (λ y. not (eq y x || p y)) ys ≡ (not (is_member eq ys x) && list_all (λ y. not (p y)) ys)
+  none_equal : (x : T) (p : T → Bool) (ys : List T)
+      → list_all (λ y. not (eq y x || p y)) ys
+      ≡ (not (is_member eq ys x) && list_all (λ y. not (p y)) ys)
   none_equal x p [] = refl
   none_equal x p (y ∷ ys) = grind (arith, laws.symm y x, none_equal x p ys)
 
-  pub disjoint_turned : (xs ys : List T) → list_all (λ x. not (is_member eq ys x)) xs ≡ list_all (λ y. not (is_member eq xs y)) ys
+  pub disjoint_turned : (xs ys : List T)
+      → list_all (λ x. not (is_member eq ys x)) xs ≡ list_all (λ y. not (is_member eq xs y)) ys
   disjoint_turned [] ys = sym (list_all-from_AllPass (λ y. true) ys (λ i d within. refl))
-  disjoint_turned (x ∷ xs) ys = ap (λ b. not (is_member eq ys x) && b) (disjoint_turned xs ys) ∙ sym (none_equal x (is_member eq xs) ys)
+  disjoint_turned (x ∷ xs) ys = ap (λ b. not (is_member eq ys x) && b) (disjoint_turned xs ys)
+      ∙ sym (none_equal x (is_member eq xs) ys)
 
 -- each item of either set has an equal one in the other exactly where both have the same members
 module _ {T : Type 0} {eq : T → T → Bool} (laws : IsEquivalence eq) where
-  is_member_within : (xs ys : List T) → list_all (is_member eq ys) xs ≡ true → (q : T) → is_member eq xs q ≡ true → is_member eq ys q ≡ true
+  is_member_within : (xs ys : List T) → list_all (is_member eq ys) xs ≡ true → (q : T)
+      → is_member eq xs q ≡ true → is_member eq ys q ≡ true
   is_member_within [] ys all q there = absurd (false≢true there)
-  is_member_within (x ∷ xs) ys all q there = grind (arith, all, there, list_any_congr laws q x ys, is_member_within xs ys)
+  is_member_within (x ∷ xs) ys all q there =
+      grind (arith, all, there, list_any_congr laws q x ys, is_member_within xs ys)
 
-  pub within_is_member : (xs ys : List T) → ((q : T) → is_member eq xs q ≡ true → is_member eq ys q ≡ true) → list_all (is_member eq ys) xs ≡ true
+  pub within_is_member : (xs ys : List T)
+      → ((q : T) → is_member eq xs q ≡ true → is_member eq ys q ≡ true)
+      → list_all (is_member eq ys) xs ≡ true
   within_is_member [] ys each = refl
   within_is_member (x ∷ xs) ys each =
-      both_true (each x (ap (λ b. b || is_member eq xs x) (laws.refl x))) (within_is_member xs ys (λ q there. each q (ap (λ b. eq q x || b) there ∙ or-true (eq q x))))
+      both_true (each x (ap (λ b. b || is_member eq xs x) (laws.refl x)))
+          (within_is_member xs ys
+            (λ q there. each q (ap (λ b. eq q x || b) there ∙ or-true (eq q x))))
 
   pub same_members : (xs ys : List T) → HaveEqualItems eq xs ys ↔ HaveEquals eq xs ys
   same_members xs ys = (
-    λ equal q. both_ways (is_member eq xs q) (is_member eq ys q) (is_member_within xs ys (first_so _ _ equal) q) (is_member_within ys xs (second_so _ _ equal) q),
-    λ same. both_true (within_is_member xs ys (λ q there. sym (same q) ∙ there)) (within_is_member ys xs (λ q there. same q ∙ there)),
+    λ equal q. both_ways (is_member eq xs q) (is_member eq ys q)
+        (is_member_within xs ys (first_so _ _ equal) q)
+        (is_member_within ys xs (second_so _ _ equal) q),
+    λ same. both_true (within_is_member xs ys (λ q there. sym (same q) ∙ there))
+        (within_is_member ys xs (λ q there. same q ∙ there)),
   )
 
   -- a comparison's answer says both
-  pub members_answered : (xs ys : List T) (answer : Bool) → answer ≡ have_equal_items eq xs ys → (IsTrue answer ↔ HaveEqualItems eq xs ys) × (IsTrue answer ↔ HaveEquals eq xs ys)
+  pub members_answered : (xs ys : List T) (answer : Bool) → answer ≡ have_equal_items eq xs ys
+      → (IsTrue answer ↔ HaveEqualItems eq xs ys) × (IsTrue answer ↔ HaveEquals eq xs ys)
   members_answered xs ys answer is = rw is ((λ yes. yes, λ yes. yes), same_members xs ys)
 
-  is_member_apart : (xs ys : List T) → list_all (λ x. not (is_member eq ys x)) xs ≡ true → (q : T) → is_member eq xs q ≡ true → is_member eq ys q ≡ false
+  is_member_apart : (xs ys : List T) → list_all (λ x. not (is_member eq ys x)) xs ≡ true → (q : T)
+      → is_member eq xs q ≡ true → is_member eq ys q ≡ false
   is_member_apart [] ys all q there = absurd (false≢true there)
-  is_member_apart (x ∷ xs) ys all q there = grind (arith, all, there, list_any_congr laws q x ys, is_member_apart xs ys)
+  is_member_apart (x ∷ xs) ys all q there =
+      grind (arith, all, there, list_any_congr laws q x ys, is_member_apart xs ys)
 
-  apart_is_member : (xs ys : List T) → ((q : T) → is_member eq xs q ≡ true → is_member eq ys q ≡ false) → list_all (λ x. not (is_member eq ys x)) xs ≡ true
+  apart_is_member : (xs ys : List T)
+      → ((q : T) → is_member eq xs q ≡ true → is_member eq ys q ≡ false)
+      → list_all (λ x. not (is_member eq ys x)) xs ≡ true
   apart_is_member [] ys each = refl
   apart_is_member (x ∷ xs) ys each =
-      both_true (ap not (each x (ap (λ b. b || is_member eq xs x) (laws.refl x)))) (apart_is_member xs ys (λ q there. each q (ap (λ b. eq q x || b) there ∙ or-true (eq q x))))
+      both_true (ap not (each x (ap (λ b. b || is_member eq xs x) (laws.refl x))))
+          (apart_is_member xs ys (λ q there. each q (ap (λ b. eq q x || b) there
+                ∙ or-true (eq q x))))
 
   -- the answers of `is_subset` and `is_disjoint` say the same of every item
-  pub is_subset_answered : (xs ys : List T) (answer : Bool) → answer ≡ list_all (is_member eq ys) xs → IsTrue answer ↔ IsSubset eq xs ys
-  is_subset_answered xs ys answer is = rw is (λ all q there. is_member_within xs ys all q there, λ each. within_is_member xs ys each)
+  pub is_subset_answered : (xs ys : List T) (answer : Bool) → answer ≡ list_all (is_member eq ys) xs
+      → IsTrue answer ↔ IsSubset eq xs ys
+  is_subset_answered xs ys answer is =
+      rw is (λ all q there. is_member_within xs ys all q there, λ each. within_is_member xs ys each)
 
-  pub is_disjoint_answered : (xs ys : List T) (answer : Bool) → answer ≡ list_all (λ x. not (is_member eq ys x)) xs → IsTrue answer ↔ IsDisjoint eq xs ys
-  is_disjoint_answered xs ys answer is = rw is (λ all q there. is_member_apart xs ys all q there, λ each. apart_is_member xs ys each)
+  pub is_disjoint_answered : (xs ys : List T) (answer : Bool)
+      → answer ≡ list_all (λ x. not (is_member eq ys x)) xs → IsTrue answer ↔ IsDisjoint eq xs ys
+  is_disjoint_answered xs ys answer is =
+      rw is (λ all q there. is_member_apart xs ys all q there, λ each. apart_is_member xs ys each)

@@ -1,6 +1,8 @@
 -- What a test of keys finds in a list of pairs, and what a change of a map makes of it: the lemmas behind `MapLaws` and
 -- the answers of the map's calls. The first part is about the index of the first key that passes a test, and a scan for it.
-use Rattle.std.proofs.Common.{◌≡◌, ℕ, zero, suc, ◌+◌, ◌<◌, ◌≤◌, Bool, true, false, not, cond, List, [], ◌∷◌, length, Option, Some, None, IfSome, IfNone, is_some, refl, ap, sym, arith, if◌then◌else◌, ◌++◌, get_or, set, slice_get, slice_set, subst, ◌∙◌, filter, reverse}
+use Rattle.std.proofs.Common.{◌≡◌, ℕ, zero, suc, ◌+◌, ◌<◌, ◌≤◌, Bool, true, false, not, cond, List, [], ◌∷◌, length}
+use Rattle.std.proofs.Common.{Option, Some, None, IfSome, IfNone, is_some, refl, ap, sym, arith, if◌then◌else◌, ◌++◌}
+use Rattle.std.proofs.Common.{get_or, set, slice_get, slice_set, subst, ◌∙◌, filter, reverse}
 use Rattle.std.specs.Cmp.{IsEquivalence}
 use Rattle.std.specs.List.{position_or_len, position, AllByRecursion, IsDistinct, remove}
 use Rattle.std.specs.Map.{keys_of, lookup, lookup_entry, set_value, remove_entry, set_key}
@@ -23,7 +25,9 @@ module _ {K V : Type 0} (test : K → Bool) where
   abbrev first : List (K × V) → ℕ
   first pairs = position_or_len test (keys_of pairs)
 
-  found_step : (e : K × V) (es : List (K × V)) → ((i : ℕ) → first es ≡ i → i < length es → FoundAt test es i) → (b : Bool) → test e.0 ≡ b → (i : ℕ) → cond (not b) (1 + first es) 0 ≡ i → i < length (e ∷ es) → FoundAt test (e ∷ es) i
+  found_step : (e : K × V) (es : List (K × V))
+      → ((i : ℕ) → first es ≡ i → i < length es → FoundAt test es i) → (b : Bool) → test e.0 ≡ b
+      → (i : ℕ) → cond (not b) (1 + first es) 0 ≡ i → i < length (e ∷ es) → FoundAt test (e ∷ es) i
   unfolding without_at
   found_step e es rest true h zero at within = record {
     pair = e;
@@ -51,11 +55,14 @@ module _ {K V : Type 0} (test : K → Bool) where
         taken = rw h (ap (λ l. e ∷ l) f.taken);
       }
 
-  found_from : (pairs : List (K × V)) (i : ℕ) → first pairs ≡ i → i < length pairs → FoundAt test pairs i
+  found_from : (pairs : List (K × V)) (i : ℕ) → first pairs ≡ i → i < length pairs
+      → FoundAt test pairs i
   found_from [] i at within = absurd (omega arith)
   found_from (e ∷ es) i at within = found_step e es (found_from es) (test e.0) refl i at within
 
-  missing_step : (e : K × V) (es : List (K × V)) → (length es ≤ first es → NotFound test es) → (b : Bool) → test e.0 ≡ b → length (e ∷ es) ≤ cond (not b) (1 + first es) 0 → NotFound test (e ∷ es)
+  missing_step : (e : K × V) (es : List (K × V)) → (length es ≤ first es → NotFound test es)
+      → (b : Bool) → test e.0 ≡ b → length (e ∷ es) ≤ cond (not b) (1 + first es) 0
+      → NotFound test (e ∷ es)
   missing_step e es rest true h past = absurd (omega (arith, past))
   missing_step e es rest false h past =
       let n = rest (omega (arith, past)) in record {
@@ -67,7 +74,8 @@ module _ {K V : Type 0} (test : K → Bool) where
       }
 
   missing_from : (pairs : List (K × V)) → length pairs ≤ first pairs → NotFound test pairs
-  missing_from [] past = record { entry = refl; value = refl; written = λ v. refl; taken = refl; none = refl }
+  missing_from [] past = record { entry = refl; value = refl; written = λ v. refl; taken =
+        refl; none = refl }
   missing_from (e ∷ es) past = missing_step e es (missing_from es) (test e.0) refl past
 
   module _ (pairs : List (K × V)) where
@@ -91,43 +99,53 @@ module _ {K : Type 0} (test : K → Bool) where
   pub not_yet-start : (all : List K) → NotYet 0 all all
   not_yet-start all = record { counted = omega arith; first = omega arith }
 
-  fails-on : (x : K) (rest : List K) → test x ≡ false → position_or_len test (x ∷ rest) ≡ 1 + position_or_len test rest
+  fails-on : (x : K) (rest : List K) → test x ≡ false
+      → position_or_len test (x ∷ rest) ≡ 1 + position_or_len test rest
   fails-on x rest fails = ap (λ b. if not b then 1 + position_or_len test rest else 0) fails
 
   passes-here : (x : K) (rest : List K) → test x ≡ true → position_or_len test (x ∷ rest) ≡ 0
   passes-here x rest passes = ap (λ b. if not b then 1 + position_or_len test rest else 0) passes
 
-module _ {K : Type 0} {test : K → Bool} {count : ℕ} {left all : List K} (scan : NotYet test count left all) where
+module _ {K : Type 0} {test : K → Bool} {count : ℕ} {left all : List K}
+    (scan : NotYet test count left all) where
   module _ {x : K} {rest : List K} (parts : left ≡ x ∷ rest) where
     pub not_yet-on : test x ≡ false → NotYet test (count + 1) rest all
     not_yet-on fails = record {
       counted = omega (arith, scan.counted, ap length parts);
-      first = omega (arith, scan.first, ap (position_or_len test) parts, fails-on test x rest fails);
+      first = omega (arith, scan.first, ap (position_or_len test) parts,
+            fails-on test x rest fails);
     }
 
     pub not_yet-found : test x ≡ true → position test all ≡ Some count
     not_yet-found passes =
-        let here : position_or_len test all ≡ count = omega (arith, scan.first, ap (position_or_len test) parts, passes-here test x rest passes) in
+        let here : position_or_len test all ≡ count =
+            omega (arith, scan.first, ap (position_or_len test) parts,
+              passes-here test x rest passes) in
         grind (arith, common_steps, here, scan.counted, ap length parts)
 
   pub not_yet-missing : left ≡ [] → position test all ≡ None
   not_yet-missing none =
-      let past : position_or_len test all ≡ length all = omega (arith, scan.counted, scan.first, ap length none, ap (position_or_len test) none) in
+      let past : position_or_len test all ≡ length all =
+          omega (arith, scan.counted, scan.first, ap length none, ap (position_or_len test) none) in
       grind (arith, common_steps, past)
 
 -- an index is answered where there is a value
-pub is_found : {K V : Type 0} (test : K → Bool) (pairs : List (K × V)) (o : Option ℕ) → IfSome o (FoundAt test pairs) → IfNone o (NotFound test pairs) → is_some o ≡ is_some (lookup test pairs)
+pub is_found : {K V : Type 0} (test : K → Bool) (pairs : List (K × V)) (o : Option ℕ)
+    → IfSome o (FoundAt test pairs) → IfNone o (NotFound test pairs)
+    → is_some o ≡ is_some (lookup test pairs)
 is_found test pairs None found missing = ap is_some (sym missing.value)
 is_found test pairs (Some i) found missing = ap is_some (sym found.value)
 
 module _ {K V : Type 0} (test : K → Bool) where
   -- the value of the first pair whose key passes
-  pub lookup-entry : (pairs : List (K × V)) → lookup test pairs ≡ option_map (λ e. e.1) (lookup_entry test pairs)
+  pub lookup-entry : (pairs : List (K × V))
+      → lookup test pairs ≡ option_map (λ e. e.1) (lookup_entry test pairs)
   lookup-entry [] = refl
   lookup-entry (e ∷ es) = grind (arith, lookup-entry es)
 
   -- a write at the index at which a key passes
-  pub written_at : (pairs : List (K × V)) (i : ℕ) → FoundAt test pairs i → (v : V) → with_value_at pairs i v ≡ set_value test pairs v
+  pub written_at : (pairs : List (K × V)) (i : ℕ) → FoundAt test pairs i → (v : V)
+      → with_value_at pairs i v ≡ set_value test pairs v
   written_at pairs i f v = rw f.here (sym (f.written v))
 
 module _ {K V : Type 0} (eq : K → K → Bool) (k : K) (pairs : List (K × V)) where
@@ -154,69 +172,94 @@ module _ {K V : Type 0} (eq : K → K → Bool) (k : K) (pairs : List (K × V)) 
     push-put_key v = rw n.value refl
 
 -- another value at the index of a pair leaves the keys
-keys_of-set : {K V : Type 0} (pairs : List (K × V)) (i : ℕ) (p : K × V) (v : V) → slice_get pairs i ≡ Some p → keys_of (set pairs i (p.0, v)) ≡ keys_of pairs
+keys_of-set : {K V : Type 0} (pairs : List (K × V)) (i : ℕ) (p : K × V) (v : V)
+    → slice_get pairs i ≡ Some p → keys_of (set pairs i (p.0, v)) ≡ keys_of pairs
 keys_of-set {K} {V} pairs i p v here =
     let key : K × V → K = λ e. e.0 in
-    let read = get_or-map key pairs i p p.0 (slice_get_within pairs i p here) ∙ ap key (get_or_from_slice_get pairs i p p here) in
-    map-set key pairs i (p.0, v) ∙ ap (λ q. set (keys_of pairs) i q) (sym read) ∙ set-get_or (keys_of pairs) i p.0
+    let read = get_or-map key pairs i p p.0 (slice_get_within pairs i p here)
+        ∙ ap key (get_or_from_slice_get pairs i p p here) in
+    map-set key pairs i (p.0, v) ∙ ap (λ q. set (keys_of pairs) i q) (sym read)
+        ∙ set-get_or (keys_of pairs) i p.0
 
-module _ {K : Type 0} (eq : K → K → Bool) (laws : IsEquivalence eq) (k old : K) (same : eq k old ≡ true) where
+module _ {K : Type 0} (eq : K → K → Bool) (laws : IsEquivalence eq) (k old : K)
+    (same : eq k old ≡ true) where
   -- what differs from a key differs from an equal one
-  apart_equal : (ks : List K) → AllByRecursion (λ y. eq old y ≡ false) ks → AllByRecursion (λ y. eq k y ≡ false) ks
+  apart_equal : (ks : List K) → AllByRecursion (λ y. eq old y ≡ false) ks
+      → AllByRecursion (λ y. eq k y ≡ false) ks
   apart_equal [] apart = tt
   apart_equal (y ∷ ks) apart = (laws.congr k old y same ∙ apart.0, apart_equal ks apart.1)
 
-  apart_set : (x : K) (ks : List K) (i : ℕ) → get_or ks i old ≡ old → AllByRecursion (λ y. eq x y ≡ false) ks → AllByRecursion (λ y. eq x y ≡ false) (set ks i k)
+  apart_set : (x : K) (ks : List K) (i : ℕ) → get_or ks i old ≡ old
+      → AllByRecursion (λ y. eq x y ≡ false) ks → AllByRecursion (λ y. eq x y ≡ false) (set ks i k)
   apart_set x [] i read apart = tt
-  apart_set x (y ∷ ks) zero read apart = (laws.symm x k ∙ laws.congr k old x same ∙ laws.symm old x ∙ ap (eq x) (sym read) ∙ apart.0, apart.1)
+  apart_set x (y ∷ ks) zero read apart =
+      (laws.symm x k ∙ laws.congr k old x same ∙ laws.symm old x ∙ ap (eq x) (sym read)
+        ∙ apart.0, apart.1)
   apart_set x (y ∷ ks) (suc i) read apart = (apart.0, apart_set x ks i read apart.1)
 
   -- an equal key at the index of a key
-  IsDistinct-set_equal : (ks : List K) (i : ℕ) → get_or ks i old ≡ old → IsDistinct eq ks → IsDistinct eq (set ks i k)
+  IsDistinct-set_equal : (ks : List K) (i : ℕ) → get_or ks i old ≡ old → IsDistinct eq ks
+      → IsDistinct eq (set ks i k)
   unfolding IsDistinct
   IsDistinct-set_equal [] i read distinct = tt
-  IsDistinct-set_equal (x ∷ ks) zero read distinct = (apart_equal ks (subst (λ y. AllByRecursion (λ z. eq y z ≡ false) ks) read distinct.0), distinct.1)
-  IsDistinct-set_equal (x ∷ ks) (suc i) read distinct = (apart_set x ks i read distinct.0, IsDistinct-set_equal ks i read distinct.1)
+  IsDistinct-set_equal (x ∷ ks) zero read distinct =
+      (apart_equal ks (subst (λ y. AllByRecursion (λ z. eq y z ≡ false) ks) read distinct.0),
+        distinct.1)
+  IsDistinct-set_equal (x ∷ ks) (suc i) read distinct =
+      (apart_set x ks i read distinct.0, IsDistinct-set_equal ks i read distinct.1)
 
-module _ {K V : Type 0} (eq : K → K → Bool) (laws : IsEquivalence eq) (pairs : List (K × V)) (unique : IsUnique eq pairs) where
+module _ {K V : Type 0} (eq : K → K → Bool) (laws : IsEquivalence eq) (pairs : List (K × V))
+    (unique : IsUnique eq pairs) where
   -- another value at the index of a pair
-  pub IsUnique-set : (i : ℕ) (p : K × V) (v : V) → slice_get pairs i ≡ Some p → IsUnique eq (set pairs i (p.0, v))
+  pub IsUnique-set : (i : ℕ) (p : K × V) (v : V) → slice_get pairs i ≡ Some p
+      → IsUnique eq (set pairs i (p.0, v))
   IsUnique-set i p v here = subst (IsDistinct eq) (sym (keys_of-set pairs i p v here)) unique
 
   pub IsUnique-with_value_at : (i : ℕ) (v : V) → IsUnique eq (with_value_at pairs i v)
   IsUnique-with_value_at i v =
-      elim (slice_get pairs i) as (λ o. slice_get pairs i ≡ o → IsUnique eq (option_map_or (λ p. set pairs i (p.0, v)) o pairs)) [
+      elim (slice_get pairs i) as (λ o. slice_get pairs i ≡ o
+            → IsUnique eq (option_map_or (λ p. set pairs i (p.0, v)) o pairs)) [
         | None ↦ λ e. unique
         | Some p ↦ λ e. IsUnique-set i p v e
       ] refl
 
   -- an equal key at the index of a pair
-  pub IsUnique-set_key : (i : ℕ) (p : K × V) (k : K) (v : V) → slice_get pairs i ≡ Some p → eq k p.0 ≡ true → IsUnique eq (set pairs i (k, v))
+  pub IsUnique-set_key : (i : ℕ) (p : K × V) (k : K) (v : V) → slice_get pairs i ≡ Some p
+      → eq k p.0 ≡ true → IsUnique eq (set pairs i (k, v))
   IsUnique-set_key i p k v here same =
       let key : K × V → K = λ e. e.0 in
-      let read = get_or-map key pairs i p p.0 (slice_get_within pairs i p here) ∙ ap key (get_or_from_slice_get pairs i p p here) in
-      subst (IsDistinct eq) (sym (map-set key pairs i (k, v))) (IsDistinct-set_equal eq laws k p.0 same (keys_of pairs) i read unique)
+      let read = get_or-map key pairs i p p.0 (slice_get_within pairs i p here)
+          ∙ ap key (get_or_from_slice_get pairs i p p here) in
+      subst (IsDistinct eq) (sym (map-set key pairs i (k, v)))
+          (IsDistinct-set_equal eq laws k p.0 same (keys_of pairs) i read unique)
 
   -- a pair whose key is new
   pub IsUnique-push : (k : K) (v : V) → NotFound (eq k) pairs → IsUnique eq (pairs ++ (k, v) ∷ [])
-  IsUnique-push k v missing = rw (map_push (λ (e : K × V). e.0) pairs (k, v)) (IsDistinct-push laws (keys_of pairs) k unique missing.none)
+  IsUnique-push k v missing =
+      rw (map_push (λ (e : K × V). e.0) pairs (k, v))
+      (IsDistinct-push laws (keys_of pairs) k unique missing.none)
 
   -- without the pair at an index
-  pub IsUnique-remove : (i : ℕ) (p : K × V) → slice_get pairs i ≡ Some p → IsUnique eq (remove pairs i)
+  pub IsUnique-remove : (i : ℕ) (p : K × V) → slice_get pairs i ≡ Some p
+      → IsUnique eq (remove pairs i)
   IsUnique-remove i p here =
-      let moved = IsPermutation-map (λ (e : K × V). e.0) _ _ (IsPermutation-remove pairs i p (slice_get_within pairs i p here) (sym (get_or_from_slice_get pairs i p p here))) in
+      let moved = IsPermutation-map (λ (e : K × V). e.0) _ _
+          (IsPermutation-remove pairs i p (slice_get_within pairs i p here)
+            (sym (get_or_from_slice_get pairs i p p here))) in
       IsDistinct-tail eq p.0 _ (IsDistinct-IsPermutation eq laws.symm _ _ moved unique)
 
 module _ {K V : Type 0} (pairs : List (K × V)) (i : ℕ) (v : V) where
   length-with_value_at : length (with_value_at pairs i v) ≡ length pairs
   length-with_value_at =
-      elim (slice_get pairs i) as (λ o. length (option_map_or (λ p. set pairs i (p.0, v)) o pairs) ≡ length pairs) [
+      elim (slice_get pairs i) as (λ o. length (option_map_or (λ p. set pairs i (p.0, v)) o pairs)
+            ≡ length pairs) [
         | None ↦ refl
         | Some p ↦ length-set pairs i (p.0, v)
       ]
 
   -- what a map may hold it may hold with another value at the index of a pair
-  pub IsContent-with_value_at : (eq : K → K → Bool) (N : ℕ) → IsContent eq N pairs → IsContent eq N (with_value_at pairs i v)
+  pub IsContent-with_value_at : (eq : K → K → Bool) (N : ℕ) → IsContent eq N pairs
+      → IsContent eq N (with_value_at pairs i v)
   IsContent-with_value_at eq N content = record {
     unique = IsUnique-with_value_at eq (of_lawful eq content.lawful) pairs content.unique i v;
     bounded = subst (λ n. n ≤ N) (sym length-with_value_at) content.bounded;
@@ -227,79 +270,111 @@ module _ {K V : Type 0} (eq : K → K → Bool) (pairs : List (K × V)) (k : K) 
   -- a put of a stored key keeps the keys, and of a new one adds it at the end
   pub keys_of-put_stored : has eq pairs k ≡ true → keys_of (put eq pairs k v) ≡ keys_of pairs
   unfolding put
-  keys_of-put_stored stored = ap (λ b. keys_of (if b then set_value (eq k) pairs v else pairs ++ (k, v) ∷ [])) stored ∙ keys-set_value (eq k) pairs v
+  keys_of-put_stored stored =
+      ap (λ b. keys_of (if b then set_value (eq k) pairs v else pairs ++ (k, v) ∷ [])) stored
+      ∙ keys-set_value (eq k) pairs v
 
-  pub keys_of-put_new : has eq pairs k ≡ false → keys_of (put eq pairs k v) ≡ keys_of pairs ++ k ∷ []
+  pub keys_of-put_new : has eq pairs k ≡ false
+      → keys_of (put eq pairs k v) ≡ keys_of pairs ++ k ∷ []
   unfolding put
-  keys_of-put_new missing = ap (λ b. keys_of (if b then set_value (eq k) pairs v else pairs ++ (k, v) ∷ [])) missing ∙ map_push (λ (e : K × V). e.0) pairs (k, v)
+  keys_of-put_new missing =
+      ap (λ b. keys_of (if b then set_value (eq k) pairs v else pairs ++ (k, v) ∷ [])) missing
+      ∙ map_push (λ (e : K × V). e.0) pairs (k, v)
 
 -- where all keys are apart from one that passes, none of them passes
-others : {K : Type 0} (eq : K → K → Bool) (test : K → Bool) (p : IsProbe eq test) (x : K) → test x ≡ true → (ks : List K) → AllByRecursion (λ y. eq x y ≡ false) ks → filter (λ q. not (test q)) ks ≡ ks
+others : {K : Type 0} (eq : K → K → Bool) (test : K → Bool) (p : IsProbe eq test) (x : K)
+    → test x ≡ true → (ks : List K) → AllByRecursion (λ y. eq x y ≡ false) ks
+    → filter (λ q. not (test q)) ks ≡ ks
 others eq test p x passes [] apart = refl
-others eq test p x passes (y ∷ ks) apart = let a = apart.0 in grind (arith, others eq test p x passes ks apart.1, p.equal_keys x y)
+others eq test p x passes (y ∷ ks) apart = let a = apart.0 in
+    grind (arith, others eq test p x passes ks apart.1, p.equal_keys x y)
 
 module _ {K V : Type 0} (eq : K → K → Bool) (test : K → Bool) (p : IsProbe eq test) where
   module _ (k : K) (v : V) where
     -- a put at a stored key, and at a new one
-    pub entry_set : (pairs : List (K × V)) → has eq pairs k ≡ true → lookup_entry test (set_value (eq k) pairs v) ≡ (if test k then Some (option_map_or (λ e. e.0) (pair eq pairs k) k, v) else lookup_entry test pairs)
+    pub entry_set : (pairs : List (K × V)) → has eq pairs k ≡ true
+        → lookup_entry test (set_value (eq k) pairs v)
+        ≡ (if test k then Some (option_map_or (λ e. e.0) (pair eq pairs k) k,
+            v) else lookup_entry test pairs)
     entry_set [] stored = absurd (false≢true stored)
     entry_set (e ∷ es) stored = grind (arith, entry_set es, p.alike_keys k e.0, p.equal_keys k e.0)
 
-    pub entry_push : (pairs : List (K × V)) → has eq pairs k ≡ false → lookup_entry test (pairs ++ (k, v) ∷ []) ≡ (if test k then Some (option_map_or (λ e. e.0) (pair eq pairs k) k, v) else lookup_entry test pairs)
+    pub entry_push : (pairs : List (K × V)) → has eq pairs k ≡ false
+        → lookup_entry test (pairs ++ (k, v) ∷ [])
+        ≡ (if test k then Some (option_map_or (λ e. e.0) (pair eq pairs k) k,
+            v) else lookup_entry test pairs)
     entry_push [] missing = refl
     entry_push (e ∷ es) missing = grind (arith, entry_push es, p.equal_keys k e.0)
 
     -- a put that replaces the key
-    pub entry_set_key : (pairs : List (K × V)) → has eq pairs k ≡ true → lookup_entry test (set_key (eq k) (set_value (eq k) pairs v) k) ≡ (if test k then Some (k, v) else lookup_entry test pairs)
+    pub entry_set_key : (pairs : List (K × V)) → has eq pairs k ≡ true
+        → lookup_entry test (set_key (eq k) (set_value (eq k) pairs v) k)
+        ≡ (if test k then Some (k, v) else lookup_entry test pairs)
     entry_set_key [] stored = absurd (false≢true stored)
-    entry_set_key (e ∷ es) stored = grind (arith, entry_set_key es, p.alike_keys k e.0, p.equal_keys k e.0)
+    entry_set_key (e ∷ es) stored =
+        grind (arith, entry_set_key es, p.alike_keys k e.0, p.equal_keys k e.0)
 
   -- where all keys are apart from one that passes, none passes
-  pub none_apart : (x : K) (es : List (K × V)) → test x ≡ true → AllByRecursion (λ y. eq x y ≡ false) (keys_of es) → lookup_entry test es ≡ None
+  pub none_apart : (x : K) (es : List (K × V)) → test x ≡ true
+      → AllByRecursion (λ y. eq x y ≡ false) (keys_of es) → lookup_entry test es ≡ None
   none_apart x [] passes apart = refl
-  none_apart x (e ∷ es) passes apart = let a = apart.0 in grind (arith, none_apart x es passes apart.1, p.equal_keys x e.0)
+  none_apart x (e ∷ es) passes apart = let a = apart.0 in
+      grind (arith, none_apart x es passes apart.1, p.equal_keys x e.0)
 
   -- the keys that a removal leaves stand in the order that they had
-  pub keys_removed : (pairs : List (K × V)) → IsUnique eq pairs → keys_of (remove_entry test pairs) ≡ filter (λ q. not (test q)) (keys_of pairs)
+  pub keys_removed : (pairs : List (K × V)) → IsUnique eq pairs
+      → keys_of (remove_entry test pairs) ≡ filter (λ q. not (test q)) (keys_of pairs)
   unfolding IsDistinct
   keys_removed [] unique = refl
   keys_removed (e ∷ es) unique = grind (arith, keys_removed es unique.1, others eq test p e.0)
 
-pub lookup-append : {K V : Type 0} (test : K → Bool) (first second : List (K × V)) → lookup test (first ++ second) ≡ option_or (lookup test first) (lookup test second)
+pub lookup-append : {K V : Type 0} (test : K → Bool) (first second : List (K × V))
+    → lookup test (first ++ second) ≡ option_or (lookup test first) (lookup test second)
 lookup-append test [] second = refl
 lookup-append test (e ∷ es) second = grind (arith, lookup-append test es second)
 
 -- of pairs with unequal keys the last that passes is the first
-pub lookup-reverse : {K V : Type 0} (eq : K → K → Bool) (test : K → Bool) → IsProbe eq test → (pairs : List (K × V)) → IsUnique eq pairs → lookup test (reverse pairs) ≡ lookup test pairs
+pub lookup-reverse : {K V : Type 0} (eq : K → K → Bool) (test : K → Bool) → IsProbe eq test
+    → (pairs : List (K × V)) → IsUnique eq pairs → lookup test (reverse pairs) ≡ lookup test pairs
 unfolding IsDistinct
 lookup-reverse eq test p [] unique = refl
 lookup-reverse eq test p (e ∷ es) unique =
     let apart = unique.0 in
-    grind (arith, lookup-reverse eq test p es unique.1, reverse-append (e ∷ []) es, lookup-append test (reverse es) (e ∷ []), none_apart eq test p e.0 es, lookup-entry test es)
+    grind (arith, lookup-reverse eq test p es unique.1, reverse-append (e ∷ []) es,
+          lookup-append test (reverse es) (e ∷ []), none_apart eq test p e.0 es,
+          lookup-entry test es)
 
 -- the key of a pair that a put adds
-pub entry_new : {K V : Type 0} (eq : K → K → Bool) (k : K) (pairs : List (K × V)) → has eq pairs k ≡ false → option_map_or (λ e. e.0) (pair eq pairs k) k ≡ k
+pub entry_new : {K V : Type 0} (eq : K → K → Bool) (k : K) (pairs : List (K × V))
+    → has eq pairs k ≡ false → option_map_or (λ e. e.0) (pair eq pairs k) k ≡ k
 entry_new eq k [] missing = refl
 entry_new eq k (e ∷ es) missing = grind (arith, entry_new eq k es)
 
-pub length-remove_entry : {K V : Type 0} (test : K → Bool) (pairs : List (K × V)) → length (remove_entry test pairs) + (if is_some (lookup test pairs) then 1 else 0) ≡ length pairs
+pub length-remove_entry : {K V : Type 0} (test : K → Bool) (pairs : List (K × V))
+    → length (remove_entry test pairs) + (if is_some (lookup test pairs) then 1 else 0)
+    ≡ length pairs
 length-remove_entry test [] = refl
 length-remove_entry test (e ∷ es) = grind (arith, length-remove_entry test es)
 
-pub length-set_key : {K V : Type 0} (test : K → Bool) (pairs : List (K × V)) (k : K) → length (set_key test pairs k) ≡ length pairs
+pub length-set_key : {K V : Type 0} (test : K → Bool) (pairs : List (K × V)) (k : K)
+    → length (set_key test pairs k) ≡ length pairs
 length-set_key test [] k = refl
 length-set_key test (e ∷ es) k = grind (arith, length-set_key test es k)
 
-set_twice : {K V : Type 0} (test : K → Bool) (pairs : List (K × V)) (v w : V) → set_value test (set_value test pairs v) w ≡ set_value test pairs w
+set_twice : {K V : Type 0} (test : K → Bool) (pairs : List (K × V)) (v w : V)
+    → set_value test (set_value test pairs v) w ≡ set_value test pairs w
 set_twice test [] v w = refl
 set_twice test (e ∷ es) v w = grind (arith, set_twice test es v w)
 
-set_last : {K V : Type 0} (test : K → Bool) (pairs : List (K × V)) (k : K) (v w : V) → test k ≡ true → is_some (lookup test pairs) ≡ false → set_value test (pairs ++ (k, v) ∷ []) w ≡ pairs ++ (k, w) ∷ []
+set_last : {K V : Type 0} (test : K → Bool) (pairs : List (K × V)) (k : K) (v w : V) → test k ≡ true
+    → is_some (lookup test pairs) ≡ false
+    → set_value test (pairs ++ (k, v) ∷ []) w ≡ pairs ++ (k, w) ∷ []
 set_last test [] k v w passes missing = grind (arith, passes)
 set_last test (e ∷ es) k v w passes missing = grind (arith, set_last test es k v w passes)
 
 -- a test finds nothing, or it finds a key at an index
-pub by_test : {K V : Type 0} (test : K → Bool) (pairs : List (K × V)) (P : Type 0) → (NotFound test pairs → P) → ((i : ℕ) → FoundAt test pairs i → P) → P
+pub by_test : {K V : Type 0} (test : K → Bool) (pairs : List (K × V)) (P : Type 0)
+    → (NotFound test pairs → P) → ((i : ℕ) → FoundAt test pairs i → P) → P
 by_test test pairs P missing stored = by (first_index test pairs) refl
   where
     by : (o : Option ℕ) → first_index test pairs ≡ o → P
@@ -307,14 +382,19 @@ by_test test pairs P missing stored = by (first_index test pairs) refl
     by (Some i) found = stored i (found_at test pairs i found)
 
 -- where a test finds no value
-pub no_value : {K V : Type 0} (test : K → Bool) (pairs : List (K × V)) → lookup test pairs ≡ None → NotFound test pairs
-no_value test pairs none = by_test test pairs (NotFound test pairs) (λ n. n) (λ i f. absurd (cc (f.value, none)))
+pub no_value : {K V : Type 0} (test : K → Bool) (pairs : List (K × V)) → lookup test pairs ≡ None
+    → NotFound test pairs
+no_value test pairs none =
+    by_test test pairs (NotFound test pairs) (λ n. n) (λ i f. absurd (cc (f.value, none)))
 
-pub lookup-set : {K V : Type 0} (test : K → Bool) (pairs : List (K × V)) (v : V) → lookup test (set_value test pairs v) ≡ (if is_some (lookup test pairs) then Some v else None)
+pub lookup-set : {K V : Type 0} (test : K → Bool) (pairs : List (K × V)) (v : V)
+    → lookup test (set_value test pairs v) ≡ (if is_some (lookup test pairs) then Some v else None)
 lookup-set test [] v = refl
 lookup-set test (e ∷ es) v = grind (arith, lookup-set test es v)
 
 -- a value written where one was put
-pub set_put : {K V : Type 0} (eq : K → K → Bool) (k : K) (v w : V) → eq k k ≡ true → (pairs : List (K × V)) → set_value (eq k) (put eq pairs k v) w ≡ put eq pairs k w
+pub set_put : {K V : Type 0} (eq : K → K → Bool) (k : K) (v w : V) → eq k k ≡ true
+    → (pairs : List (K × V)) → set_value (eq k) (put eq pairs k v) w ≡ put eq pairs k w
 unfolding put
-set_put eq k v w same pairs = grind (arith, set_twice (eq k) pairs v w, set_last (eq k) pairs k v w same)
+set_put eq k v w same pairs =
+    grind (arith, set_twice (eq k) pairs v w, set_last (eq k) pairs k v w same)

@@ -1,5 +1,6 @@
 -- The items of a list are put into a container one after the other, until one doesn't fit or none is left.
-use Rattle.std.proofs.Common.{◌≡◌, ℕ, ◌+◌, Bool, true, false, not, List, [], ◌∷◌, ◌++◌, length, take, if◌then◌else◌, IsTrue, refl, ap, sym, ◌∙◌, append_assoc, append-nil, length-append, arith, fold}
+use Rattle.std.proofs.Common.{◌≡◌, ℕ, ◌+◌, Bool, true, false, not, List, [], ◌∷◌, ◌++◌, length, take, if◌then◌else◌}
+use Rattle.std.proofs.Common.{IsTrue, refl, ap, sym, ◌∙◌, append_assoc, append-nil, length-append, arith, fold}
 use Rattle.std.proofs.lemmas.List.{length_push, take_at}
 use Rattle.micromap_core.specs.Build.{each_fits, StopsAt}
 use Rattle.micromap_core.proofs.BuildLemmas.{HasPut, each_fits-push, has_put_more}
@@ -12,16 +13,20 @@ module _ {C X : Type 0} (fits : C → X → Bool) (put : C → X → C) where
     pub has : HasPut fits put old before position now
 
   pub put_starts : (old : C) (items : List X) → PutSoFar old items items 0 old
-  put_starts old items = record { before = []; split = refl; has = record { fit = refl; made = refl; position_is = refl } }
+  put_starts old items = record { before = []; split = refl; has =
+        record { fit = refl; made = refl; position_is = refl } }
 
-  module _ {old : C} {items left : List X} {position : ℕ} {now : C} (so_far : PutSoFar old items left position now) where
+  module _ {old : C} {items left : List X} {position : ℕ} {now : C}
+      (so_far : PutSoFar old items left position now) where
     pub put_counted : position + length left ≡ length items
-    put_counted = omega (arith, so_far.has.position_is, ap length so_far.split, length-append so_far.before left)
+    put_counted = omega (arith, so_far.has.position_is, ap length so_far.split,
+          length-append so_far.before left)
 
     -- none is left
     pub put_ends : left ≡ [] → now ≡ fold put old items
     put_ends none =
-        let before : so_far.before ≡ items = sym (append-nil so_far.before) ∙ ap (λ l. so_far.before ++ l) (sym none) ∙ so_far.split in
+        let before : so_far.before ≡ items = sym (append-nil so_far.before)
+            ∙ ap (λ l. so_far.before ++ l) (sym none) ∙ so_far.split in
         so_far.has.made ∙ ap (fold put old) before
 
     module _ (x : X) (rest : List X) (parts : left ≡ x ∷ rest) where
@@ -29,10 +34,12 @@ module _ {C X : Type 0} (fits : C → X → Bool) (put : C → X → C) where
       through = so_far.before ++ x ∷ []
 
       split_behind : through ++ rest ≡ items
-      split_behind = append_assoc so_far.before (x ∷ []) rest ∙ ap (λ l. so_far.before ++ l) (sym parts) ∙ so_far.split
+      split_behind = append_assoc so_far.before (x ∷ []) rest
+          ∙ ap (λ l. so_far.before ++ l) (sym parts) ∙ so_far.split
 
       -- one more that fits
-      pub put_goes_on : (new : C) → new ≡ (if fits now x then put now x else now) → fits now x ≡ true
+      pub put_goes_on : (new : C) → new ≡ (if fits now x then put now x else now)
+          → fits now x ≡ true
           → PutSoFar old items rest (position + 1) new
       put_goes_on new next fit = record {
         before = through;
@@ -45,9 +52,15 @@ module _ {C X : Type 0} (fits : C → X → Bool) (put : C → X → C) where
       put_stops misfit =
           let before = so_far.before in
           let counted = so_far.has.position_is in
-          let front : take position items ≡ before = ap (take position) (sym so_far.split) ∙ take_at before left position (sym counted) in
+          let front : take position items ≡ before = ap (take position) (sym so_far.split)
+              ∙ take_at before left position (sym counted) in
           let long : length through ≡ position + 1 = omega (arith, length_push before x, counted) in
-          let whole : take (position + 1) items ≡ through = ap (take (position + 1)) (sym split_behind) ∙ take_at through rest (position + 1) long in
-          let last : fits (fold put old before) x ≡ false = ap (λ c. fits c x) (sym so_far.has.made) ∙ misfit in
-          let stops : IsTrue (not (each_fits fits put old through)) = grind (arith, each_fits-push fits put old before x, last) in
-          (ap (each_fits fits put old) front ∙ so_far.has.fit, ap (λ l. not (each_fits fits put old l)) whole ∙ stops)
+          let whole : take (position + 1) items ≡ through =
+              ap (take (position + 1)) (sym split_behind)
+              ∙ take_at through rest (position + 1) long in
+          let last : fits (fold put old before) x ≡ false = ap (λ c. fits c x) (sym so_far.has.made)
+              ∙ misfit in
+          let stops : IsTrue (not (each_fits fits put old through)) =
+              grind (arith, each_fits-push fits put old before x, last) in
+          (ap (each_fits fits put old) front
+                ∙ so_far.has.fit, ap (λ l. not (each_fits fits put old l)) whole ∙ stops)

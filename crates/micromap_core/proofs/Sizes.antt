@@ -8,5 +8,7 @@ use denote.Param.{number, param}
 
 module _ (K V : RattleType) (N : ℕ) where
   -- the columns of a map
-  pub columns_fit : (eq : K.Denot → K.Denot → Bool) → FitsInMemory (map.the_row (param 0 K) (param 1 V) (param 2 (number N)) (record { eq = eq })) → FitsInMemory (columns.the_row (param 0 K) (param 1 V) (param 2 (number N)))
+  pub columns_fit : (eq : K.Denot → K.Denot → Bool)
+      → FitsInMemory (map.the_row (param 0 K) (param 1 V) (param 2 (number N)) (record { eq = eq }))
+      → FitsInMemory (columns.the_row (param 0 K) (param 1 V) (param 2 (number N)))
   columns_fit eq fits = omega arith

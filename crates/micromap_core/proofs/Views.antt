@@ -1,5 +1,6 @@
 -- What the words of lists make of a list of which each element is seen by a function.
-use Rattle.std.proofs.Common.{◌≡◌, ℕ, Bool, false, ◌&&◌, ◌||◌, inl, inr, IsTrue, List, [], ◌∷◌, Option, Some, filter, map, slice_get, refl, ap, ◌∙◌, arith, option_map}
+use Rattle.std.proofs.Common.{◌≡◌, ℕ, Bool, false, ◌&&◌, ◌||◌, inl, inr, IsTrue, List, [], ◌∷◌, Option, Some, filter}
+use Rattle.std.proofs.Common.{map, slice_get, refl, ap, ◌∙◌, arith, option_map}
 use Rattle.std.specs.Fmt.{◌++?◌, comma_space, debug_items}
 use Rattle.std.specs.List.{AllByRecursion, AllZip, IsDistinct, find, list_all, list_any}
 use Rattle.std.specs.Ordering.{on}
@@ -24,11 +25,13 @@ module _ {X Y : Type 0} (f : X → Y) where
     filter-map [] = refl
     filter-map (x ∷ xs) = grind (arith, common_steps, filter-map xs)
 
-    pub remove_key-map : (xs : List X) → map f (remove_key (λ x. test (f x)) xs) ≡ remove_key test (map f xs)
+    pub remove_key-map : (xs : List X)
+        → map f (remove_key (λ x. test (f x)) xs) ≡ remove_key test (map f xs)
     remove_key-map [] = refl
     remove_key-map (x ∷ xs) = grind (arith, remove_key-map xs)
 
-    pub swap_key-map : (xs : List X) (y : X) → map f (swap_key (λ x. test (f x)) xs y) ≡ swap_key test (map f xs) (f y)
+    pub swap_key-map : (xs : List X) (y : X)
+        → map f (swap_key (λ x. test (f x)) xs y) ≡ swap_key test (map f xs) (f y)
     swap_key-map [] y = refl
     swap_key-map (x ∷ xs) y = grind (arith, swap_key-map xs y)
 
@@ -38,7 +41,8 @@ module _ {X Y : Type 0} (f : X → Y) where
 
   -- by an equality of what is seen
   module _ (eq : Y → Y → Bool) where
-    apart-map : (x : X) (xs : List X) → AllByRecursion (λ y. on f eq x y ≡ false) xs → AllByRecursion (λ y. eq (f x) y ≡ false) (map f xs)
+    apart-map : (x : X) (xs : List X) → AllByRecursion (λ y. on f eq x y ≡ false) xs
+        → AllByRecursion (λ y. eq (f x) y ≡ false) (map f xs)
     apart-map x [] apart = tt
     apart-map x (y ∷ xs) apart = (apart.0, apart-map x xs apart.1)
 
@@ -47,25 +51,34 @@ module _ {X Y : Type 0} (f : X → Y) where
     distinct-map [] distinct = tt
     distinct-map (x ∷ xs) distinct = (apart-map x xs distinct.0, distinct-map xs distinct.1)
 
-    within-map : (a b : List X) → list_all (λ x. list_any (eq x) (map f b)) (map f a) ≡ list_all (λ x. list_any (on f eq x) b) a
-    within-map a b = list_all-map _ f a ∙ ap (λ test. list_all test a) (λ i x. any-map (eq (f x)) b i)
+    within-map : (a b : List X)
+        → list_all (λ x. list_any (eq x) (map f b))
+        (map f a) ≡ list_all (λ x. list_any (on f eq x) b) a
+    within-map a b = list_all-map _ f a
+        ∙ ap (λ test. list_all test a) (λ i x. any-map (eq (f x)) b i)
 
-    pub equal_items-map : (a b : List X) → have_equal_items eq (map f a) (map f b) ≡ have_equal_items (on f eq) a b
+    pub equal_items-map : (a b : List X)
+        → have_equal_items eq (map f a) (map f b) ≡ have_equal_items (on f eq) a b
     equal_items-map a b = λ i. within-map a b i && within-map b a i
 
   -- of clones that are seen alike
-  pub clones-map : (C : X → X → Type 0) → ((x y : X) → C x y → f y ≡ f x) → (xs ys : List X) → AllZip C xs ys → map f ys ≡ map f xs
+  pub clones-map : (C : X → X → Type 0) → ((x y : X) → C x y → f y ≡ f x) → (xs ys : List X)
+      → AllZip C xs ys → map f ys ≡ map f xs
   clones-map C alike [] [] clones = refl
   clones-map C alike [] (y ∷ ys) clones = absurd clones
   clones-map C alike (x ∷ xs) [] clones = absurd clones
-  clones-map C alike (x ∷ xs) (y ∷ ys) clones = λ i. alike x y clones.0 i ∷ clones-map C alike xs ys clones.1 i
+  clones-map C alike (x ∷ xs) (y ∷ ys) clones =
+      λ i. alike x y clones.0 i ∷ clones-map C alike xs ys clones.1 i
 
-  pub printed-map : (text : Y → Option (List ℕ)) (lead : List ℕ) (xs : List X) → debug_items text lead (map f xs) ≡ debug_items (λ x. text (f x)) lead xs
+  pub printed-map : (text : Y → Option (List ℕ)) (lead : List ℕ) (xs : List X)
+      → debug_items text lead (map f xs) ≡ debug_items (λ x. text (f x)) lead xs
   printed-map text lead [] = refl
-  printed-map text lead (x ∷ xs) = ap (λ rest. Some lead ++? text (f x) ++? rest) (printed-map text comma_space xs)
+  printed-map text lead (x ∷ xs) =
+      ap (λ rest. Some lead ++? text (f x) ++? rest) (printed-map text comma_space xs)
 
 -- either no item passes a test, or one does
-pub by_items : {T : Type 0} (test : T → Bool) (items : List T) (P : Type 0) → (list_any test items ≡ false → P) → ((x : T) → IsTrue (test x) → P) → P
+pub by_items : {T : Type 0} (test : T → Bool) (items : List T) (P : Type 0)
+    → (list_any test items ≡ false → P) → ((x : T) → IsTrue (test x) → P) → P
 by_items test [] P none some = none refl
 by_items test (x ∷ items) P none some = elim (cases_Bool (test x)) [
   | inl passes ↦ some x passes

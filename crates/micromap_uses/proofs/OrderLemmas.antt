@@ -1,5 +1,7 @@
 -- What the order of a plan needs: a ready target may come next, and what no order can build is left.
-use Rattle.std.proofs.Common.{◌≡◌, ℕ, suc, zero, nat_eq, ◌<◌, ◌⊎◌, inl, inr, Bool, true, false, ◌&&◌, not, List, [], ◌∷◌, ◌++◌, filter, length, take, Option, Some, None, is_some, slice_get, subst, sym, ap, refl, ◌∙◌, append_assoc, arith}
+use Rattle.std.proofs.Common.{◌≡◌, ℕ, suc, zero, nat_eq, ◌<◌, ◌⊎◌, inl, inr, Bool, true, false, ◌&&◌, not, List, []}
+use Rattle.std.proofs.Common.{◌∷◌, ◌++◌, filter, length, take, Option, Some, None, is_some, slice_get, subst, sym, ap}
+use Rattle.std.proofs.Common.{refl, ◌∙◌, append_assoc, arith}
 use Rattle.std.proofs.Math.Seq.{take-append_seam}
 use Rattle.std.proofs.lemmas.Cmp.{nat_eq_equiv}
 use Rattle.std.proofs.lemmas.Grind.{common_steps}
@@ -24,17 +26,22 @@ pub found_place : {X : Type 0} (test : X → Bool) (xs : List X) (x : X) → fin
     → (i : ℕ) × (slice_get xs i ≡ Some x)
 found_place test [] x found = absurd (none-some x found)
 found_place test (y ∷ xs) x found =
-    either_way (test y) (λ passes. (0, grind (arith, found, passes))) (λ fails. let rest = found_place test xs x (grind (arith, found, fails)) in (suc rest.0, rest.1))
+    either_way (test y) (λ passes. (0, grind (arith, found, passes)))
+        (λ fails. let rest = found_place test xs x (grind (arith, found, fails)) in
+          (suc rest.0, rest.1))
 
-pub found_passes : {X : Type 0} (test : X → Bool) (xs : List X) (x : X) → find test xs ≡ Some x → test x ≡ true
+pub found_passes : {X : Type 0} (test : X → Bool) (xs : List X) (x : X) → find test xs ≡ Some x
+    → test x ≡ true
 found_passes test [] x found = absurd (none-some x found)
 found_passes test (y ∷ xs) x found = grind (arith, found, found_passes test xs x)
 
 -- the first pair that passes a test is what its key finds
-pub at_found : (test : ℕ × List ℕ → Bool) (plan : List (ℕ × List ℕ)) (p : ℕ × List ℕ) → IsUnique nat_eq plan
+pub at_found : (test : ℕ × List ℕ → Bool) (plan : List (ℕ × List ℕ)) (p : ℕ × List ℕ)
+    → IsUnique nat_eq plan
     → find test plan ≡ Some p → at nat_eq plan p.0 ≡ Some p.1
 at_found test plan p unique found =
-    let place = found_place test plan p found in lookup_from_place nat_eq_equiv plan place.0 p.0 p.1 unique place.1
+    let place = found_place test plan p found in
+        lookup_from_place nat_eq_equiv plan place.0 p.0 p.1 unique place.1
 
 -- where no pair passes a test, none that a key finds does
 pub none_found : (test : ℕ × List ℕ → Bool) (plan : List (ℕ × List ℕ)) (target : ℕ) (needs : List ℕ)
@@ -56,19 +63,25 @@ ordered_at : (plan : List (ℕ × List ℕ)) (order : List ℕ) (target i x : �
     → ((i < length order) × (slice_get order i ≡ Some x)) ⊎ ((i ≡ length order) × (target ≡ x))
     → is_ready plan (take i (order ++ target ∷ [])) x ≡ true
 ordered_at plan order target i x ordered ready (inl before) =
-    subst (λ built. is_ready plan built x ≡ true) (sym (take-append-le i order (target ∷ []) (omega (arith, before.0)))) (ordered i x before.1)
+    subst (λ built. is_ready plan built x ≡ true)
+        (sym (take-append-le i order (target ∷ []) (omega (arith, before.0))))
+        (ordered i x before.1)
 ordered_at plan order target i x ordered ready (inr last) =
-    let whole : take i (order ++ target ∷ []) ≡ order = ap (λ n. take n (order ++ target ∷ [])) last.0 ∙ take-append_seam order (target ∷ []) in
-    subst (λ t. is_ready plan (take i (order ++ target ∷ [])) t ≡ true) last.1 (subst (λ built. is_ready plan built target ≡ true) (sym whole) ready)
+    let whole : take i (order ++ target ∷ []) ≡ order =
+        ap (λ n. take n (order ++ target ∷ [])) last.0 ∙ take-append_seam order (target ∷ []) in
+    subst (λ t. is_ready plan (take i (order ++ target ∷ [])) t ≡ true) last.1
+        (subst (λ built. is_ready plan built target ≡ true) (sym whole) ready)
 
 -- a ready target may come next
-pub IsOrdered-append : (plan : List (ℕ × List ℕ)) (order : List ℕ) (target : ℕ) → IsOrdered plan order
+pub IsOrdered-append : (plan : List (ℕ × List ℕ)) (order : List ℕ) (target : ℕ)
+    → IsOrdered plan order
     → is_ready plan order target ≡ true → IsOrdered plan (order ++ target ∷ [])
 IsOrdered-append plan order target ordered ready i x here =
     ordered_at plan order target i x ordered ready (last_or_before order target i x here)
 
 -- what is among some items is among those that have them all
-within : (xs ys : List ℕ) (x : ℕ) → is_member nat_eq xs x ≡ true → list_all (is_member nat_eq ys) xs ≡ true
+within : (xs ys : List ℕ) (x : ℕ) → is_member nat_eq xs x ≡ true
+    → list_all (is_member nat_eq ys) xs ≡ true
     → is_member nat_eq ys x ≡ true
 within [] ys x there all = grind (arith, there)
 within (y ∷ xs) ys x there all = grind (arith, common_steps, there, all, within xs ys x)
@@ -76,7 +89,8 @@ within (y ∷ xs) ys x there all = grind (arith, common_steps, there, all, withi
 all_within : (needs xs ys : List ℕ) → list_all (is_member nat_eq xs) needs ≡ true
     → list_all (is_member nat_eq ys) xs ≡ true → list_all (is_member nat_eq ys) needs ≡ true
 all_within [] xs ys there all = refl
-all_within (x ∷ needs) xs ys there all = grind (arith, there, all, within xs ys x, all_within needs xs ys)
+all_within (x ∷ needs) xs ys there all =
+    grind (arith, there, all, within xs ys x, all_within needs xs ys)
 
 needs_within : (needs : Option (List ℕ)) (xs ys : List ℕ) → list_all (is_member nat_eq ys) xs ≡ true
     → option_map_or (list_all (is_member nat_eq xs)) needs false ≡ true
@@ -85,7 +99,8 @@ needs_within None xs ys all ready = ready
 needs_within (Some needs) xs ys all ready = all_within needs xs ys ready all
 
 -- what is ready once some are built is ready once more are
-is_ready-more : (plan : List (ℕ × List ℕ)) (xs ys : List ℕ) (target : ℕ) → list_all (is_member nat_eq ys) xs ≡ true
+is_ready-more : (plan : List (ℕ × List ℕ)) (xs ys : List ℕ) (target : ℕ)
+    → list_all (is_member nat_eq ys) xs ≡ true
     → is_ready plan xs target ≡ true → is_ready plan ys target ≡ true
 is_ready-more plan xs ys target all ready = needs_within (at nat_eq plan target) xs ys all ready
 
@@ -93,33 +108,44 @@ here_behind : (xs ys : List ℕ) (x : ℕ) → slice_get (xs ++ x ∷ ys) (lengt
 here_behind [] ys x = refl
 here_behind (y ∷ xs) ys x = here_behind xs ys x
 
-all_with_last : (xs ys : List ℕ) (x : ℕ) → list_all (is_member nat_eq ys) xs ≡ true → is_member nat_eq ys x ≡ true
+all_with_last : (xs ys : List ℕ) (x : ℕ) → list_all (is_member nat_eq ys) xs ≡ true
+    → is_member nat_eq ys x ≡ true
     → list_all (is_member nat_eq ys) (xs ++ x ∷ []) ≡ true
 all_with_last [] ys x all there = grind (arith, there)
 all_with_last (y ∷ xs) ys x all there = grind (arith, all, there, all_with_last xs ys x)
 
 -- if all that is ready is built, so is all that any order builds
 built_in_turn : (plan : List (ℕ × List ℕ)) (built before after : List ℕ)
-    → ((x : ℕ) → is_ready plan built x ≡ true → is_member nat_eq built x ≡ true) → IsOrdered plan (before ++ after)
-    → list_all (is_member nat_eq built) before ≡ true → list_all (is_member nat_eq built) after ≡ true
+    → ((x : ℕ) → is_ready plan built x ≡ true → is_member nat_eq built x ≡ true)
+        → IsOrdered plan (before ++ after)
+    → list_all (is_member nat_eq built) before ≡ true
+        → list_all (is_member nat_eq built) after ≡ true
 built_in_turn plan built before [] complete ordered all = refl
 built_in_turn plan built before (x ∷ after) complete ordered all =
-    let ready : is_ready plan before x ≡ true = subst (λ l. is_ready plan l x ≡ true) (take-append_seam before (x ∷ after)) (ordered (length before) x (here_behind before after x)) in
+    let ready : is_ready plan before x ≡ true =
+        subst (λ l. is_ready plan l x ≡ true) (take-append_seam before (x ∷ after))
+        (ordered (length before) x (here_behind before after x)) in
     let there = complete x (is_ready-more plan before built x all ready) in
-    let rest = built_in_turn plan built (before ++ x ∷ []) after complete (subst (IsOrdered plan) (sym (append_assoc before (x ∷ []) after)) ordered) (all_with_last before built x all there) in
+    let rest = built_in_turn plan built (before ++ x ∷ []) after complete
+        (subst (IsOrdered plan) (sym (append_assoc before (x ∷ []) after)) ordered)
+        (all_with_last before built x all there) in
     grind (arith, there, rest)
 
 pub all_built : (plan : List (ℕ × List ℕ)) (built other : List ℕ)
-    → ((x : ℕ) → is_ready plan built x ≡ true → is_member nat_eq built x ≡ true) → IsOrdered plan other
+    → ((x : ℕ) → is_ready plan built x ≡ true → is_member nat_eq built x ≡ true)
+        → IsOrdered plan other
     → list_all (is_member nat_eq built) other ≡ true
-all_built plan built other complete ordered = built_in_turn plan built [] other complete ordered refl
+all_built plan built other complete ordered =
+    built_in_turn plan built [] other complete ordered refl
 
 -- what is ready is in the plan
-pub is_ready-has : (plan : List (ℕ × List ℕ)) (built : List ℕ) (target : ℕ) → is_ready plan built target ≡ true
+pub is_ready-has : (plan : List (ℕ × List ℕ)) (built : List ℕ) (target : ℕ)
+    → is_ready plan built target ≡ true
     → has nat_eq plan target ≡ true
 is_ready-has plan built target ready = grind (arith, ready)
 
-found_at : (test : ℕ × List ℕ → Bool) (o : Option (ℕ × List ℕ)) (plan : List (ℕ × List ℕ)) (target : ℕ)
+found_at : (test : ℕ × List ℕ → Bool) (o : Option (ℕ × List ℕ)) (plan : List (ℕ × List ℕ))
+    (target : ℕ)
     → IsUnique nat_eq plan → find test plan ≡ o → option_map (λ p. p.0) o ≡ Some target
     → (needs : List ℕ) × (at nat_eq plan target ≡ Some needs) × (test (target, needs) ≡ true)
 found_at test None plan target unique found next = absurd (none-some target next)
@@ -129,20 +155,24 @@ found_at test (Some p) plan target unique found next =
     (p.1, grind (arith, here, next), grind (arith, passes, next))
 
 -- the key of the first pair that passes a test finds a value with which it passes
-pub key_found : (test : ℕ × List ℕ → Bool) (plan : List (ℕ × List ℕ)) (target : ℕ) → IsUnique nat_eq plan
+pub key_found : (test : ℕ × List ℕ → Bool) (plan : List (ℕ × List ℕ)) (target : ℕ)
+    → IsUnique nat_eq plan
     → Some target ≡ option_map (λ p. p.0) (find test plan)
     → (needs : List ℕ) × (at nat_eq plan target ≡ Some needs) × (test (target, needs) ≡ true)
-key_found test plan target unique next = found_at test (find test plan) plan target unique refl (sym next)
+key_found test plan target unique next =
+    found_at test (find test plan) plan target unique refl (sym next)
 
 none_mapped : (o : Option (ℕ × List ℕ)) → option_map (λ p. p.0) o ≡ None → o ≡ None
 none_mapped None none = refl
 none_mapped (Some p) none = absurd (none-some p.0 (sym none))
 
 -- and where no pair passes, none that a key finds does
-pub none_at_key : (test : ℕ × List ℕ → Bool) (plan : List (ℕ × List ℕ)) (target : ℕ) (needs : List ℕ)
+pub none_at_key : (test : ℕ × List ℕ → Bool) (plan : List (ℕ × List ℕ)) (target : ℕ)
+    (needs : List ℕ)
     → option_map (λ p. p.0) (find test plan) ≡ None → at nat_eq plan target ≡ Some needs
     → test (target, needs) ≡ false
-none_at_key test plan target needs none = none_found test plan target needs (none_mapped (find test plan) none)
+none_at_key test plan target needs none =
+    none_found test plan target needs (none_mapped (find test plan) none)
 
 -- the next target is ready, and isn't built
 pub next_is_ready : (plan : List (ℕ × List ℕ)) (built : List ℕ) (target : ℕ) → IsUnique nat_eq plan
@@ -159,27 +189,34 @@ ready_at : (o : Option (List ℕ)) (plan : List (ℕ × List ℕ)) (built : List
     → is_ready plan built target ≡ true → is_member nat_eq built target ≡ true
 ready_at None plan built target none here ready = grind (arith, here, ready)
 ready_at (Some needs) plan built target none here ready =
-    let fails = none_at_key (is_next built) plan target needs none here in grind (arith, here, ready, fails)
+    let fails = none_at_key (is_next built) plan target needs none here in
+        grind (arith, here, ready, fails)
 
 -- and if none is next, all that is ready is built
 pub none_is_next : (plan : List (ℕ × List ℕ)) (built : List ℕ) (target : ℕ)
     → option_map (λ p. p.0) (find (is_next built) plan) ≡ None → is_ready plan built target ≡ true
     → is_member nat_eq built target ≡ true
-none_is_next plan built target none ready = ready_at (at nat_eq plan target) plan built target none refl ready
+none_is_next plan built target none ready =
+    ready_at (at nat_eq plan target) plan built target none refl ready
 
 -- with a target of the plan put, all that is built is still in the plan
 pub targets_put : (plan : List (ℕ × List ℕ)) (built : List ℕ) (target : ℕ)
-    → ((x : ℕ) → is_member nat_eq built x ≡ true → has nat_eq plan x ≡ true) → has nat_eq plan target ≡ true
+    → ((x : ℕ) → is_member nat_eq built x ≡ true → has nat_eq plan x ≡ true)
+        → has nat_eq plan target ≡ true
     → (x : ℕ) → is_member nat_eq (put_item nat_eq built target) x ≡ true → has nat_eq plan x ≡ true
 targets_put plan built target targets here x there =
-    grind (arith, common_steps, sym (is_member_put_item nat_eq built target x lawful_nat) ∙ there, targets x, here)
+    grind (arith, common_steps, sym (is_member_put_item nat_eq built target x lawful_nat)
+          ∙ there, targets x, here)
 
 -- a target of the plan that isn't built yet: fewer are built than the plan has
 pub fewer : (plan : List (ℕ × List ℕ)) (built : List ℕ) (target n : ℕ) → IsItems nat_eq n built
-    → ((x : ℕ) → is_member nat_eq built x ≡ true → has nat_eq plan x ≡ true) → has nat_eq plan target ≡ true
+    → ((x : ℕ) → is_member nat_eq built x ≡ true → has nat_eq plan x ≡ true)
+        → has nat_eq plan target ≡ true
     → is_member nat_eq built target ≡ false → length built < length plan
 fewer plan built target n items targets here new =
-    let few = length-le_from_keys nat_eq_equiv (put_item nat_eq built target) plan (unique_put_item nat_eq built target lawful_nat items.unique) (targets_put plan built target targets here) in
+    let few = length-le_from_keys nat_eq_equiv (put_item nat_eq built target) plan
+        (unique_put_item nat_eq built target lawful_nat items.unique)
+        (targets_put plan built target targets here) in
     grind (arith, few, new, length_put_item nat_eq built target)
 
 -- so it fits
@@ -197,7 +234,8 @@ all_kept_pass test keep (x ∷ xs) each =
     let here : keep x ≡ true → test x ≡ true = each x (grind (arith, common_steps)) in
     grind (arith, here, rest)
 
-any_fails : (test : ℕ → Bool) (xs : List ℕ) → list_all test xs ≡ false → list_any (λ x. not (test x)) xs ≡ true
+any_fails : (test : ℕ → Bool) (xs : List ℕ) → list_all test xs ≡ false
+    → list_any (λ x. not (test x)) xs ≡ true
 any_fails test [] fails = sym fails
 any_fails test (x ∷ xs) fails = grind (arith, fails, any_fails test xs)
 
@@ -210,13 +248,19 @@ blocked_at (Some needs) built here fails = any_fails (is_member nat_eq built) ne
 -- if all that is ready is built, what isn't built is blocked
 pub left_blocked : (plan : List (ℕ × List ℕ)) (built : List ℕ)
     → ((x : ℕ) → is_ready plan built x ≡ true → is_member nat_eq built x ≡ true)
-    → list_all (is_blocked plan built) (filter (λ target. not (is_member nat_eq built target)) (keys_of plan)) ≡ true
+    → list_all (is_blocked plan built)
+        (filter (λ target. not (is_member nat_eq built target)) (keys_of plan)) ≡ true
 left_blocked plan built complete =
-    all_kept_pass (is_blocked plan built) (λ target. not (is_member nat_eq built target)) (keys_of plan) (λ x there new.
-    blocked_at (at nat_eq plan x) built (is_some-lookup (nat_eq x) plan ∙ there) (either_way (is_ready plan built x) (λ ready. grind (arith, complete x ready, new)) (λ fails. fails)))
+    all_kept_pass (is_blocked plan built) (λ target. not (is_member nat_eq built target))
+        (keys_of plan) (λ x there new.
+    blocked_at (at nat_eq plan x) built (is_some-lookup (nat_eq x) plan ∙ there)
+        (either_way (is_ready plan built x) (λ ready. grind (arith, complete x ready, new))
+          (λ fails. fails)))
 
 -- what isn't built is what the plan has and isn't built
 pub left_members : (plan : List (ℕ × List ℕ)) (built : List ℕ) (x : ℕ)
-    → is_member nat_eq (filter (λ target. not (is_member nat_eq built target)) (keys_of plan)) x ≡ (has nat_eq plan x && not (is_member nat_eq built x))
+    → is_member nat_eq (filter (λ target. not (is_member nat_eq built target)) (keys_of plan)) x
+        ≡ (has nat_eq plan x && not (is_member nat_eq built x))
 left_members plan built x =
-    (each_difference nat_eq (keys_of plan) built lawful_nat).1 x ∙ ap (λ b. b && not (is_member nat_eq built x)) (sym (is_some-lookup (nat_eq x) plan))
+    (each_difference nat_eq (keys_of plan) built lawful_nat).1 x
+        ∙ ap (λ b. b && not (is_member nat_eq built x)) (sym (is_some-lookup (nat_eq x) plan))

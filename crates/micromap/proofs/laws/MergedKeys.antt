@@ -9,11 +9,13 @@ use Rattle.micromap.specs.Extend.{put_all_items}
 use Rattle.micromap.proofs.ItemLemmas.{keys_put_item}
 
 module _ {K V W : Type 0} (eq : K → K → Bool) (step : Option V → W → V) where
-  pub keys_merged : (pairs : List (K × V)) (items : List (K × W)) → keys_of (merged eq step pairs items) ≡ put_all_items eq (keys_of pairs) (keys_of items)
+  pub keys_merged : (pairs : List (K × V)) (items : List (K × W))
+      → keys_of (merged eq step pairs items) ≡ put_all_items eq (keys_of pairs) (keys_of items)
   unfolding merged
   keys_merged pairs [] = refl
   keys_merged pairs (item ∷ items) =
       keys_merged (merge_pair eq step pairs item) items
-      ∙ ap (λ keys. put_all_items eq keys (keys_of items)) (keys_put_item eq item.0 (step (at eq pairs item.0) item.1) pairs)
+      ∙ ap (λ keys. put_all_items eq keys (keys_of items))
+          (keys_put_item eq item.0 (step (at eq pairs item.0) item.1) pairs)
 
 pub ruleset merged_keys = (keys_merged, merge_laws)

@@ -2,7 +2,9 @@
 -- a law has the reader first and then the change. The readers are a test of the items (`any`, whether an item passes,
 -- and `find`, the first that does), a given item (`is_member`, `find_item`, `fits`), the number of items (`length`),
 -- and that they are pairwise unequal (`unique`). The ruleset at the end has the laws that a search needs.
-use Rattle.std.proofs.Common.{◌≡◌, ℕ, ◌+◌, ◌≤◌, ◌||◌, ◌&&◌, not, Bool, true, false, List, [], ◌∷◌, ◌++◌, filter, length, Some, None, is_some, if◌then◌else◌, refl, ap, sym, subst, ◌∙◌, arith, option_map, unwrap_or}
+use Rattle.std.proofs.Common.{◌≡◌, ℕ, ◌+◌, ◌≤◌, ◌||◌, ◌&&◌, not, Bool, true, false, List, [], ◌∷◌, ◌++◌, filter, length}
+use Rattle.std.proofs.Common.{Some, None, is_some, if◌then◌else◌, refl, ap, sym, subst, ◌∙◌, arith, option_map}
+use Rattle.std.proofs.Common.{unwrap_or}
 use Rattle.std.specs.List.{IsDistinct, find, list_all, list_any}
 use Rattle.std.specs.Map.{keys_of, lookup, lookup_entry}
 use Rattle.std.specs.Set.{is_member, remove_key}
@@ -13,7 +15,10 @@ use Rattle.micromap_core.specs.Pairs.{put, put_key, take_out, IsUnique}
 use Rattle.micromap_core.proofs.laws.Equalities.{equalities, of_lawful, probes_key}
 use Rattle.micromap_core.proofs.laws.TextLemmas.{each_set_text}
 use Rattle.std.proofs.option.Match.{None-if_not_some}
-use Rattle.micromap_core.proofs.laws.MapLaws.{lookup_put, lookup_put_key, lookup_take_out, pair_put, pair_put_key, pair_take_out, length_put, length_put_key, length_take_out, unique_put, unique_put_key, unique_take_out, take_out_missing, keys_take_out, keys_remove_entry, has_behind}
+use Rattle.micromap_core.proofs.laws.MapLaws.{lookup_put, lookup_put_key, lookup_take_out, pair_put, pair_put_key}
+use Rattle.micromap_core.proofs.laws.MapLaws.{pair_take_out, length_put, length_put_key, length_take_out, unique_put}
+use Rattle.micromap_core.proofs.laws.MapLaws.{unique_put_key, unique_take_out, take_out_missing, keys_take_out}
+use Rattle.micromap_core.proofs.laws.MapLaws.{keys_remove_entry, has_behind}
 use Rattle.micromap.specs.ItemEntries.{entries_of}
 use Rattle.micromap.specs.Extend.{put_all_items}
 use Rattle.micromap.specs.Items.{put_item, replace_item, find_item, item_fits, take_item}
@@ -25,71 +30,123 @@ use Rattle.micromap.proofs.OperationLaws.{is_member-difference, is_member-inters
 length-entries : {T : Type 0} (items : List T) → length (entries_of items) ≡ length items
 length-entries items = sym (length-keys_of (entries_of items)) ∙ ap length (keys_of-entries items)
 
-any-entries : {T : Type 0} (test : T → Bool) (items : List T) → list_any test items ≡ is_some (lookup test (entries_of items))
-any-entries test items = ap (list_any test) (sym (keys_of-entries items)) ∙ any-keys test (entries_of items)
+any-entries : {T : Type 0} (test : T → Bool) (items : List T)
+    → list_any test items ≡ is_some (lookup test (entries_of items))
+any-entries test items = ap (list_any test) (sym (keys_of-entries items))
+    ∙ any-keys test (entries_of items)
 
-find-entries : {T : Type 0} (test : T → Bool) (items : List T) → find test items ≡ option_map (λ e. e.0) (lookup_entry test (entries_of items))
-find-entries test items = ap (find test) (sym (keys_of-entries items)) ∙ find-keys test (entries_of items)
+find-entries : {T : Type 0} (test : T → Bool) (items : List T)
+    → find test items ≡ option_map (λ e. e.0) (lookup_entry test (entries_of items))
+find-entries test items = ap (find test) (sym (keys_of-entries items))
+    ∙ find-keys test (entries_of items)
 
 -- what each word does to the pairs
 module _ {T : Type 0} (eq : T → T → Bool) (items : List T) (x : T) where
   entries-put_item : put_item eq items x ≡ keys_of (put eq (entries_of items) x tt)
-  entries-put_item = ap (λ l. put_item eq l x) (sym (keys_of-entries items)) ∙ sym (keys_put_item eq x tt (entries_of items))
+  entries-put_item = ap (λ l. put_item eq l x) (sym (keys_of-entries items))
+      ∙ sym (keys_put_item eq x tt (entries_of items))
 
   entries-replace_item : replace_item eq items x ≡ keys_of (put_key eq (entries_of items) x tt)
-  entries-replace_item = ap (λ l. replace_item eq l x) (sym (keys_of-entries items)) ∙ replace_item-keys eq x tt (entries_of items)
+  entries-replace_item = ap (λ l. replace_item eq l x) (sym (keys_of-entries items))
+      ∙ replace_item-keys eq x tt (entries_of items)
 
   entries-take_item : take_item eq items x ≡ keys_of (take_out eq (entries_of items) x)
-  entries-take_item = ap (λ l. take_item eq l x) (sym (keys_of-entries items)) ∙ take_item-keys eq (entries_of items) x
+  entries-take_item = ap (λ l. take_item eq l x) (sym (keys_of-entries items))
+      ∙ take_item-keys eq (entries_of items) x
 
-unique-entries : {T : Type 0} (eq : T → T → Bool) (items : List T) → IsDistinct eq items → IsUnique eq (entries_of items)
+unique-entries : {T : Type 0} (eq : T → T → Bool) (items : List T) → IsDistinct eq items
+    → IsUnique eq (entries_of items)
 unique-entries eq items distinct = subst (IsDistinct eq) (sym (keys_of-entries items)) distinct
 
 -- by a test: whether an item passes, and the first that does
 module _ {T : Type 0} (eq : T → T → Bool) (test : T → Bool) (items : List T) (x : T) where
-  pub any_put_item : Probes eq test → list_any test (put_item eq items x) ≡ (test x || list_any test items)
-  any_put_item probes = grind (arith, entries-put_item eq items x, any-keys test (put eq (entries_of items) x tt), lookup_put eq test (entries_of items) x tt probes, any-entries test items)
+  pub any_put_item : Probes eq test
+      → list_any test (put_item eq items x) ≡ (test x || list_any test items)
+  any_put_item probes = grind (arith, entries-put_item eq items x,
+        any-keys test (put eq (entries_of items) x tt),
+        lookup_put eq test (entries_of items) x tt probes, any-entries test items)
 
-  pub any_replace_item : Probes eq test → list_any test (replace_item eq items x) ≡ (test x || list_any test items)
-  any_replace_item probes = grind (arith, entries-replace_item eq items x, any-keys test (put_key eq (entries_of items) x tt), lookup_put_key eq test (entries_of items) x tt probes, any-entries test items)
+  pub any_replace_item : Probes eq test
+      → list_any test (replace_item eq items x) ≡ (test x || list_any test items)
+  any_replace_item probes =
+      grind (arith, entries-replace_item eq items x,
+        any-keys test (put_key eq (entries_of items) x tt),
+        lookup_put_key eq test (entries_of items) x tt probes, any-entries test items)
 
-  pub any_take_item : Probes eq test → IsDistinct eq items → list_any test (take_item eq items x) ≡ (not (test x) && list_any test items)
-  any_take_item probes distinct = grind (arith, entries-take_item eq items x, any-keys test (take_out eq (entries_of items) x), lookup_take_out eq test (entries_of items) x probes (unique-entries eq items distinct), any-entries test items)
+  pub any_take_item : Probes eq test → IsDistinct eq items
+      → list_any test (take_item eq items x) ≡ (not (test x) && list_any test items)
+  any_take_item probes distinct =
+      grind (arith, entries-take_item eq items x, any-keys test (take_out eq (entries_of items) x),
+        lookup_take_out eq test (entries_of items) x probes (unique-entries eq items distinct),
+        any-entries test items)
 
-  pub find_put_item : Probes eq test → find test (put_item eq items x) ≡ (if test x then Some (unwrap_or (find_item eq items x) x) else find test items)
-  find_put_item probes = grind (arith, entries-put_item eq items x, find-keys test (put eq (entries_of items) x tt), pair_put eq test (entries_of items) x tt probes, find-entries (eq x) items, find-entries test items)
+  pub find_put_item : Probes eq test
+      → find test (put_item eq items x)
+      ≡ (if test x then Some (unwrap_or (find_item eq items x) x) else find test items)
+  find_put_item probes = grind (arith, entries-put_item eq items x,
+        find-keys test (put eq (entries_of items) x tt),
+        pair_put eq test (entries_of items) x tt probes, find-entries (eq x) items,
+        find-entries test items)
 
-  pub find_replace_item : Probes eq test → find test (replace_item eq items x) ≡ (if test x then Some x else find test items)
-  find_replace_item probes = grind (arith, entries-replace_item eq items x, find-keys test (put_key eq (entries_of items) x tt), pair_put_key eq test (entries_of items) x tt probes, find-entries test items)
+  pub find_replace_item : Probes eq test
+      → find test (replace_item eq items x) ≡ (if test x then Some x else find test items)
+  find_replace_item probes =
+      grind (arith, entries-replace_item eq items x,
+        find-keys test (put_key eq (entries_of items) x tt),
+        pair_put_key eq test (entries_of items) x tt probes, find-entries test items)
 
-  pub find_take_item : Probes eq test → IsDistinct eq items → find test (take_item eq items x) ≡ (if test x then None else find test items)
-  find_take_item probes distinct = grind (arith, entries-take_item eq items x, find-keys test (take_out eq (entries_of items) x), pair_take_out eq test (entries_of items) x probes (unique-entries eq items distinct), find-entries test items)
+  pub find_take_item : Probes eq test → IsDistinct eq items
+      → find test (take_item eq items x) ≡ (if test x then None else find test items)
+  find_take_item probes distinct =
+      grind (arith, entries-take_item eq items x, find-keys test (take_out eq (entries_of items) x),
+        pair_take_out eq test (entries_of items) x probes (unique-entries eq items distinct),
+        find-entries test items)
 
 module _ {T : Type 0} (eq : T → T → Bool) (items : List T) (x : T) where
   -- how many items there are
-  pub length_put_item : length (put_item eq items x) ≡ (if is_member eq items x then length items else length items + 1)
-  length_put_item = grind (arith, entries-put_item eq items x, length-keys_of (put eq (entries_of items) x tt), length_put eq (entries_of items) x tt, any-entries (eq x) items, length-entries items)
+  pub length_put_item : length (put_item eq items x)
+      ≡ (if is_member eq items x then length items else length items + 1)
+  length_put_item = grind (arith, entries-put_item eq items x,
+        length-keys_of (put eq (entries_of items) x tt), length_put eq (entries_of items) x tt,
+        any-entries (eq x) items, length-entries items)
 
-  pub length_replace_item : length (replace_item eq items x) ≡ (if is_member eq items x then length items else length items + 1)
-  length_replace_item = grind (arith, entries-replace_item eq items x, length-keys_of (put_key eq (entries_of items) x tt), length_put_key eq (entries_of items) x tt, any-entries (eq x) items, length-entries items)
+  pub length_replace_item :
+      length (replace_item eq items x)
+      ≡ (if is_member eq items x then length items else length items + 1)
+  length_replace_item = grind (arith, entries-replace_item eq items x,
+        length-keys_of (put_key eq (entries_of items) x tt),
+        length_put_key eq (entries_of items) x tt, any-entries (eq x) items, length-entries items)
 
-  pub length_take_item : length (take_item eq items x) + (if is_member eq items x then 1 else 0) ≡ length items
-  length_take_item = grind (arith, entries-take_item eq items x, length-keys_of (take_out eq (entries_of items) x), length_take_out eq (entries_of items) x, any-entries (eq x) items, length-entries items)
+  pub length_take_item : length (take_item eq items x) + (if is_member eq items x then 1 else 0)
+      ≡ length items
+  length_take_item = grind (arith, entries-take_item eq items x,
+        length-keys_of (take_out eq (entries_of items) x), length_take_out eq (entries_of items) x,
+        any-entries (eq x) items, length-entries items)
 
   -- that they are pairwise unequal
   pub unique_put_item : Lawful eq → IsDistinct eq items → IsDistinct eq (put_item eq items x)
-  unique_put_item laws distinct = subst (IsDistinct eq) (sym (entries-put_item eq items x)) (unique_put eq (entries_of items) x tt laws (unique-entries eq items distinct))
+  unique_put_item laws distinct =
+      subst (IsDistinct eq) (sym (entries-put_item eq items x))
+      (unique_put eq (entries_of items) x tt laws (unique-entries eq items distinct))
 
-  pub unique_replace_item : Lawful eq → IsDistinct eq items → IsDistinct eq (replace_item eq items x)
-  unique_replace_item laws distinct = subst (IsDistinct eq) (sym (entries-replace_item eq items x)) (unique_put_key eq (entries_of items) x tt laws (unique-entries eq items distinct))
+  pub unique_replace_item : Lawful eq → IsDistinct eq items
+      → IsDistinct eq (replace_item eq items x)
+  unique_replace_item laws distinct =
+      subst (IsDistinct eq) (sym (entries-replace_item eq items x))
+      (unique_put_key eq (entries_of items) x tt laws (unique-entries eq items distinct))
 
   -- the items that a removal leaves stand in the order that they had
-  pub items_take_item : Lawful eq → IsDistinct eq items → take_item eq items x ≡ filter (λ y. not (eq x y)) items
+  pub items_take_item : Lawful eq → IsDistinct eq items
+      → take_item eq items x ≡ filter (λ y. not (eq x y)) items
   items_take_item laws distinct =
-      entries-take_item eq items x ∙ keys_take_out eq (entries_of items) x laws (unique-entries eq items distinct) ∙ ap (filter (λ y. not (eq x y))) (keys_of-entries items)
+      entries-take_item eq items x
+          ∙ keys_take_out eq (entries_of items) x laws (unique-entries eq items distinct)
+          ∙ ap (filter (λ y. not (eq x y))) (keys_of-entries items)
 
   pub unique_take_item : Lawful eq → IsDistinct eq items → IsDistinct eq (take_item eq items x)
-  unique_take_item laws distinct = subst (IsDistinct eq) (sym (entries-take_item eq items x)) (unique_take_out eq (entries_of items) x laws (unique-entries eq items distinct))
+  unique_take_item laws distinct =
+      subst (IsDistinct eq) (sym (entries-take_item eq items x))
+      (unique_take_out eq (entries_of items) x laws (unique-entries eq items distinct))
 
   -- what changes nothing: an item that is there is added, or one that isn't is taken out
   pub put_item_back : is_member eq items x ≡ true → put_item eq items x ≡ items
@@ -102,26 +159,38 @@ module _ {T : Type 0} (eq : T → T → Bool) (items : List T) (x : T) where
   put_item_new missing = ap (λ b. if b then items else items ++ x ∷ []) missing
 
   -- an item that doesn't fit is missing, and there is no room
-  pub not_fits : (N : ℕ) → item_fits eq N items x ≡ false → (is_member eq items x ≡ false) × (N ≤ length items)
+  pub not_fits : (N : ℕ) → item_fits eq N items x ≡ false
+      → (is_member eq items x ≡ false) × (N ≤ length items)
   not_fits N refused = (grind (arith, refused), grind (arith, nat_tests, refused))
 
   pub take_item_missing : is_member eq items x ≡ false → take_item eq items x ≡ items
   take_item_missing missing =
-      entries-take_item eq items x ∙ ap keys_of (take_out_missing eq (entries_of items) x (None-if_not_some _ (sym (any-entries (eq x) items) ∙ missing))) ∙ keys_of-entries items
+      entries-take_item eq items x
+          ∙ ap keys_of (take_out_missing eq (entries_of items) x
+            (None-if_not_some _ (sym (any-entries (eq x) items) ∙ missing))) ∙ keys_of-entries items
 
 -- at an item of one's own
 module _ {T : Type 0} (eq : T → T → Bool) (items : List T) (x y : T) where
-  pub is_member_put_item : Lawful eq → is_member eq (put_item eq items x) y ≡ (eq x y || is_member eq items y)
-  is_member_put_item laws = any_put_item eq (eq y) items x (probes_key eq y laws) ∙ ap (λ b. b || is_member eq items y) ((of_lawful eq laws).symm y x)
+  pub is_member_put_item : Lawful eq
+      → is_member eq (put_item eq items x) y ≡ (eq x y || is_member eq items y)
+  is_member_put_item laws = any_put_item eq (eq y) items x (probes_key eq y laws)
+      ∙ ap (λ b. b || is_member eq items y) ((of_lawful eq laws).symm y x)
 
-  pub is_member_replace_item : Lawful eq → is_member eq (replace_item eq items x) y ≡ (eq x y || is_member eq items y)
-  is_member_replace_item laws = any_replace_item eq (eq y) items x (probes_key eq y laws) ∙ ap (λ b. b || is_member eq items y) ((of_lawful eq laws).symm y x)
+  pub is_member_replace_item : Lawful eq
+      → is_member eq (replace_item eq items x) y ≡ (eq x y || is_member eq items y)
+  is_member_replace_item laws = any_replace_item eq (eq y) items x (probes_key eq y laws)
+      ∙ ap (λ b. b || is_member eq items y) ((of_lawful eq laws).symm y x)
 
-  pub is_member_take_item : Lawful eq → IsDistinct eq items → is_member eq (take_item eq items x) y ≡ (not (eq x y) && is_member eq items y)
-  is_member_take_item laws distinct = any_take_item eq (eq y) items x (probes_key eq y laws) distinct ∙ ap (λ b. not b && is_member eq items y) ((of_lawful eq laws).symm y x)
+  pub is_member_take_item : Lawful eq → IsDistinct eq items
+      → is_member eq (take_item eq items x) y ≡ (not (eq x y) && is_member eq items y)
+  is_member_take_item laws distinct =
+      any_take_item eq (eq y) items x (probes_key eq y laws) distinct
+      ∙ ap (λ b. not b && is_member eq items y) ((of_lawful eq laws).symm y x)
 
-  pub find_item_replace_item : Lawful eq → find_item eq (replace_item eq items x) y ≡ (if eq x y then Some x else find_item eq items y)
-  find_item_replace_item laws = find_replace_item eq (eq y) items x (probes_key eq y laws) ∙ ap (λ b. if b then Some x else find_item eq items y) ((of_lawful eq laws).symm y x)
+  pub find_item_replace_item : Lawful eq
+      → find_item eq (replace_item eq items x) y ≡ (if eq x y then Some x else find_item eq items y)
+  find_item_replace_item laws = find_replace_item eq (eq y) items x (probes_key eq y laws)
+      ∙ ap (λ b. if b then Some x else find_item eq items y) ((of_lawful eq laws).symm y x)
 
 -- the first item: it is there, none behind it is equal, and a removal of it leaves what is behind
 module _ {T : Type 0} (eq : T → T → Bool) (x : T) (behind : List T) where
@@ -129,66 +198,113 @@ module _ {T : Type 0} (eq : T → T → Bool) (x : T) (behind : List T) where
   is_member_first laws = ap (λ b. b || is_member eq behind x) ((of_lawful eq laws).refl x)
 
   pub is_member_behind : Lawful eq → IsDistinct eq (x ∷ behind) → is_member eq behind x ≡ false
-  is_member_behind laws distinct = any-entries (eq x) behind ∙ has_behind eq (x, tt) (entries_of behind) laws (unique-entries eq (x ∷ behind) distinct)
+  is_member_behind laws distinct = any-entries (eq x) behind
+      ∙ has_behind eq (x, tt) (entries_of behind) laws (unique-entries eq (x ∷ behind) distinct)
 
   pub take_item_first : Lawful eq → take_item eq (x ∷ behind) x ≡ behind
   unfolding take_item
-  take_item_first laws = ap (λ b. if b then behind else x ∷ remove_key (eq x) behind) ((of_lawful eq laws).refl x)
+  take_item_first laws = ap (λ b. if b then behind else x ∷ remove_key (eq x) behind)
+      ((of_lawful eq laws).refl x)
 
 -- after a list of items
 module _ {T : Type 0} (eq : T → T → Bool) where
-  pub any_put_all_items : (test : T → Bool) (items xs : List T) → Probes eq test → list_any test (put_all_items eq items xs) ≡ (list_any test xs || list_any test items)
+  pub any_put_all_items : (test : T → Bool) (items xs : List T) → Probes eq test
+      → list_any test (put_all_items eq items xs) ≡ (list_any test xs || list_any test items)
   any_put_all_items test items [] probes = refl
-  any_put_all_items test items (x ∷ xs) probes = grind (arith, any_put_all_items test (put_item eq items x) xs probes, any_put_item eq test items x probes)
+  any_put_all_items test items (x ∷ xs) probes =
+      grind (arith, any_put_all_items test (put_item eq items x) xs probes,
+        any_put_item eq test items x probes)
 
-  pub is_member_put_all_items : (items xs : List T) (y : T) → Lawful eq → is_member eq (put_all_items eq items xs) y ≡ (is_member eq xs y || is_member eq items y)
+  pub is_member_put_all_items : (items xs : List T) (y : T) → Lawful eq
+      → is_member eq (put_all_items eq items xs) y ≡ (is_member eq xs y || is_member eq items y)
   is_member_put_all_items items xs y laws = any_put_all_items (eq y) items xs (probes_key eq y laws)
 
 -- the calls by probe, said by its test
 module _ {T : Type 0} (test : T → Bool) where
-  pub remove_key_missing : (items : List T) → list_any test items ≡ false → remove_key test items ≡ items
+  pub remove_key_missing : (items : List T) → list_any test items ≡ false
+      → remove_key test items ≡ items
   remove_key_missing [] none = refl
   remove_key_missing (y ∷ items) none = grind (arith, none, remove_key_missing items)
 
-  pub length_remove_key : (items : List T) → length (remove_key test items) + (if list_any test items then 1 else 0) ≡ length items
+  pub length_remove_key : (items : List T)
+      → length (remove_key test items) + (if list_any test items then 1 else 0) ≡ length items
   length_remove_key [] = refl
   length_remove_key (y ∷ items) = grind (arith, length_remove_key items)
 
-  pub items_remove_key : (eq : T → T → Bool) (items : List T) → Probes eq test → IsDistinct eq items → remove_key test items ≡ filter (λ y. not (test y)) items
+  pub items_remove_key : (eq : T → T → Bool) (items : List T) → Probes eq test → IsDistinct eq items
+      → remove_key test items ≡ filter (λ y. not (test y)) items
   items_remove_key eq items probes distinct =
-      ap (remove_key test) (sym (keys_of-entries items)) ∙ take-keys test (entries_of items) ∙ keys_remove_entry test (entries_of items) eq probes (unique-entries eq items distinct)
+      ap (remove_key test) (sym (keys_of-entries items)) ∙ take-keys test (entries_of items)
+          ∙ keys_remove_entry test (entries_of items) eq probes (unique-entries eq items distinct)
       ∙ ap (filter (λ y. not (test y))) (keys_of-entries items)
 
 -- each item that a loop over a set comes to is in the set: so of what is left at the start, which is all
-pub is_member_walked : {T : Type 0} (eq : T → T → Bool) (items left : List T) → left ≡ items → Lawful eq → list_all (is_member eq items) left ≡ true
-is_member_walked eq items left all laws = ap (list_all (is_member eq items)) all ∙ within_is_member (of_lawful eq laws) items items (λ q there. there)
+pub is_member_walked : {T : Type 0} (eq : T → T → Bool) (items left : List T) → left ≡ items
+    → Lawful eq → list_all (is_member eq items) left ≡ true
+is_member_walked eq items left all laws = ap (list_all (is_member eq items)) all
+    ∙ within_is_member (of_lawful eq laws) items items (λ q there. there)
 
 -- what each item finds, by the word alone: for a search that doesn't see the equality in what it computes to, nor that an
 -- item of one's own equals itself
 module _ {T : Type 0} (eq : T → T → Bool) (items : List T) (x : T) where
-  pub each_put_item : Lawful eq → (put_item eq items x ≡ put_item eq items x) × (is_member eq (put_item eq items x) x ≡ true) × ((y : T) → is_member eq (put_item eq items x) y ≡ (eq x y || is_member eq items y))
-  each_put_item laws = (refl, is_member_put_item eq items x x laws ∙ ap (λ b. b || is_member eq items x) ((of_lawful eq laws).refl x), λ y. is_member_put_item eq items x y laws)
+  pub each_put_item : Lawful eq
+      → (put_item eq items x ≡ put_item eq items x) × (is_member eq (put_item eq items x) x ≡ true)
+      × ((y : T) → is_member eq (put_item eq items x) y ≡ (eq x y || is_member eq items y))
+  each_put_item laws = (refl, is_member_put_item eq items x x laws
+        ∙ ap (λ b. b || is_member eq items x) ((of_lawful eq laws).refl x),
+        λ y. is_member_put_item eq items x y laws)
 
-  pub each_replace_item : Lawful eq → (replace_item eq items x ≡ replace_item eq items x) × (find_item eq (replace_item eq items x) x ≡ Some x) × ((y : T) → is_member eq (replace_item eq items x) y ≡ (eq x y || is_member eq items y))
-  each_replace_item laws = (refl, find_item_replace_item eq items x x laws ∙ ap (λ b. if b then Some x else find_item eq items x) ((of_lawful eq laws).refl x), λ y. is_member_replace_item eq items x y laws)
+  pub each_replace_item : Lawful eq
+      → (replace_item eq items x ≡ replace_item eq items x)
+      × (find_item eq (replace_item eq items x) x ≡ Some x)
+      × ((y : T) → is_member eq (replace_item eq items x) y ≡ (eq x y || is_member eq items y))
+  each_replace_item laws = (refl, find_item_replace_item eq items x x laws
+        ∙ ap (λ b. if b then Some x else find_item eq items x) ((of_lawful eq laws).refl x),
+        λ y. is_member_replace_item eq items x y laws)
 
-  pub each_take_item : Lawful eq → IsDistinct eq items → (take_item eq items x ≡ take_item eq items x) × (is_member eq (take_item eq items x) x ≡ false) × ((y : T) → is_member eq (take_item eq items x) y ≡ (not (eq x y) && is_member eq items y))
-  each_take_item laws distinct = (refl, is_member_take_item eq items x x laws distinct ∙ ap (λ b. not b && is_member eq items x) ((of_lawful eq laws).refl x), λ y. is_member_take_item eq items x y laws distinct)
+  pub each_take_item : Lawful eq → IsDistinct eq items
+      → (take_item eq items x ≡ take_item eq items x)
+      × (is_member eq (take_item eq items x) x ≡ false)
+      × ((y : T) → is_member eq (take_item eq items x) y ≡ (not (eq x y) && is_member eq items y))
+  each_take_item laws distinct =
+      (refl, is_member_take_item eq items x x laws distinct
+        ∙ ap (λ b. not b && is_member eq items x) ((of_lawful eq laws).refl x),
+        λ y. is_member_take_item eq items x y laws distinct)
 
 module _ {T : Type 0} (eq : T → T → Bool) (xs ys : List T) where
-  pub each_put_all_items : Lawful eq → (put_all_items eq xs ys ≡ put_all_items eq xs ys) × ((y : T) → is_member eq (put_all_items eq xs ys) y ≡ (is_member eq ys y || is_member eq xs y))
+  pub each_put_all_items : Lawful eq
+      → (put_all_items eq xs ys ≡ put_all_items eq xs ys)
+      × ((y : T) → is_member eq (put_all_items eq xs ys) y
+        ≡ (is_member eq ys y || is_member eq xs y))
   each_put_all_items laws = (refl, λ y. is_member_put_all_items eq xs ys y laws)
 
-  pub each_union : Lawful eq → (union eq xs ys ≡ union eq xs ys) × ((y : T) → is_member eq (union eq xs ys) y ≡ (is_member eq xs y || is_member eq ys y))
+  pub each_union : Lawful eq
+      → (union eq xs ys ≡ union eq xs ys)
+      × ((y : T) → is_member eq (union eq xs ys) y ≡ (is_member eq xs y || is_member eq ys y))
   each_union laws = (refl, is_member-union (of_lawful eq laws) xs ys)
 
-  pub each_symmetric_difference : Lawful eq → (symmetric_difference eq xs ys ≡ symmetric_difference eq xs ys) × ((y : T) → is_member eq (symmetric_difference eq xs ys) y ≡ (if is_member eq xs y then not (is_member eq ys y) else is_member eq ys y))
+  pub each_symmetric_difference : Lawful eq
+      → (symmetric_difference eq xs ys ≡ symmetric_difference eq xs ys)
+      × ((y : T) → is_member eq (symmetric_difference eq xs ys) y
+        ≡ (if is_member eq xs y then not (is_member eq ys y) else is_member eq ys y))
   each_symmetric_difference laws = (refl, is_member-symmetric_difference (of_lawful eq laws) xs ys)
 
-  pub each_difference : Lawful eq → (difference eq xs ys ≡ difference eq xs ys) × ((y : T) → is_member eq (difference eq xs ys) y ≡ (is_member eq xs y && not (is_member eq ys y)))
+  pub each_difference : Lawful eq
+      → (difference eq xs ys ≡ difference eq xs ys)
+      × ((y : T) → is_member eq (difference eq xs ys) y
+        ≡ (is_member eq xs y && not (is_member eq ys y)))
   each_difference laws = (refl, is_member-difference (of_lawful eq laws) xs ys)
 
-  pub each_intersection : Lawful eq → (intersection eq xs ys ≡ intersection eq xs ys) × ((y : T) → is_member eq (intersection eq xs ys) y ≡ (is_member eq xs y && is_member eq ys y))
+  pub each_intersection : Lawful eq
+      → (intersection eq xs ys ≡ intersection eq xs ys)
+      × ((y : T) → is_member eq (intersection eq xs ys) y
+        ≡ (is_member eq xs y && is_member eq ys y))
   each_intersection laws = (refl, is_member-intersection (of_lawful eq laws) xs ys)
 
-pub ruleset set_laws = (put_item_new, not_fits, is_member_first, is_member_behind, take_item_first, any_put_all_items, any_put_item, any_replace_item, any_take_item, find_put_item, find_replace_item, find_take_item, length_put_item, length_replace_item, length_take_item, items_take_item, unique_put_item, unique_replace_item, unique_take_item, put_item_back, take_item_missing, remove_key_missing, length_remove_key, items_remove_key, each_put_item, each_replace_item, each_take_item, each_put_all_items, each_union, each_symmetric_difference, each_difference, each_intersection, is_member_walked, each_set_text, equalities)
+pub ruleset set_laws = (put_item_new, not_fits, is_member_first, is_member_behind, take_item_first,
+      any_put_all_items, any_put_item, any_replace_item, any_take_item, find_put_item,
+      find_replace_item, find_take_item, length_put_item, length_replace_item, length_take_item,
+      items_take_item, unique_put_item, unique_replace_item, unique_take_item, put_item_back,
+      take_item_missing, remove_key_missing, length_remove_key, items_remove_key, each_put_item,
+      each_replace_item, each_take_item, each_put_all_items, each_union, each_symmetric_difference,
+      each_difference, each_intersection, is_member_walked, each_set_text, equalities)

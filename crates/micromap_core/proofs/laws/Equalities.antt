@@ -12,7 +12,10 @@ use Rattle.micromap_core.specs.Probe.{alike, equal, is_str, is_text}
 use Rattle.micromap_core.specs.Texts.{str_eq}
 
 -- a lawful probe tests the keys as the one that it matches does
-pub same_test : {K : Type 0} (eq : K → K → Bool) (test : K → Bool) (alike : (x y : K) → eq x y ≡ true → test x ≡ test y) (single : (x y : K) → test x ≡ true → test y ≡ true → eq x y ≡ true) (k : K) → test k ≡ true → test ≡ eq k
+pub same_test : {K : Type 0} (eq : K → K → Bool) (test : K → Bool)
+    (alike : (x y : K) → eq x y ≡ true → test x ≡ test y)
+    (single : (x y : K) → test x ≡ true → test y ≡ true → eq x y ≡ true) (k : K) → test k ≡ true
+    → test ≡ eq k
 same_test eq test alike single k passes =
     λ i y. both_ways (test y) (eq k y) (single k y passes) (λ e. sym (alike k y e) ∙ passes) i
 
@@ -60,7 +63,8 @@ pub probes_string : (Z : Type 0) (k : String Z) → Probes (string_eq {Z = Z}) (
 probes_string Z k = probes_key string_eq k (lawful_string Z)
 
 -- a key that is seen by its bytes
-pub probes_by : {K : Type 0} (see : K → List ℕ) (bytes : List ℕ) → Probes (on see (pointwise nat_eq)) (λ k. pointwise nat_eq bytes (see k))
+pub probes_by : {K : Type 0} (see : K → List ℕ) (bytes : List ℕ)
+    → Probes (on see (pointwise nat_eq)) (λ k. pointwise nat_eq bytes (see k))
 probes_by see bytes =
     probes _ _ (record {
       laws = on_equiv see nat_list_eq_equiv;
@@ -91,4 +95,6 @@ probes_str bytes = probes_by (λ s. s.now) bytes
 pub lawful_on : {K J : Type 0} (f : K → J) (eq : J → J → Bool) → Lawful eq → Lawful (on f eq)
 lawful_on f eq laws = lawful (on f eq) (on_equiv f (of_lawful eq laws))
 
-pub ruleset equalities = (probes_key, lawful_nat, lawful_int, lawful_bool, lawful_string, probes_string, probes_text, lawful_bytes, probes_bytes, bytes_turned, lawful_str, probes_str, lawful_on)
+pub ruleset equalities = (probes_key, lawful_nat, lawful_int, lawful_bool, lawful_string,
+      probes_string, probes_text, lawful_bytes, probes_bytes, bytes_turned, lawful_str, probes_str,
+      lawful_on)

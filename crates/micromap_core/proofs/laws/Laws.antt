@@ -18,7 +18,9 @@ use Rattle.micromap_core.proofs.laws.Equalities.{lawful, of_lawful}
 use Rattle.micromap_core.proofs.SameLemmas.{long_from_same, same_from_long, filters_empty, same_from_filters, values_within}
 
 -- where not all items pass a test, one fails it
-some_fails : {T : Type 0} {eq : T → T → Bool} (laws : IsEquivalence eq) (test : T → Bool) (xs : List T) → list_all test xs ≡ false → (x : T) × (is_member eq xs x ≡ true) × (test x ≡ false)
+some_fails : {T : Type 0} {eq : T → T → Bool} (laws : IsEquivalence eq) (test : T → Bool)
+    (xs : List T) → list_all test xs ≡ false
+    → (x : T) × (is_member eq xs x ≡ true) × (test x ≡ false)
 some_fails laws test [] fails = absurd (true≢false fails)
 some_fails {eq = eq} laws test (x ∷ xs) fails = elim (cases_Bool (test x)) [
   | inl passes ↦
@@ -38,44 +40,66 @@ module _ {T : Type 0} (eq : T → T → Bool) (equality : Lawful eq) where
     few_have_equals = length-filter_members (of_lawful eq equality) xs ys distinct
 
     -- the longer list has an item that the other lacks
-    pub longer_has_item : length ys < length xs → (x : T) × (is_member eq xs x ≡ true) × (is_member eq ys x ≡ false)
-    longer_has_item longer = some_fails (of_lawful eq equality) (is_member eq ys) xs (missing_in_shorter (of_lawful eq equality) xs ys distinct longer)
+    pub longer_has_item : length ys < length xs
+        → (x : T) × (is_member eq xs x ≡ true) × (is_member eq ys x ≡ false)
+    longer_has_item longer =
+        some_fails (of_lawful eq equality)
+        (is_member eq ys) xs (missing_in_shorter (of_lawful eq equality) xs ys distinct longer)
 
     -- of equally long lists, one side tells of both
-    pub equal_items_from_one_side : length xs ≡ length ys → IsTrue (list_all (is_member eq ys) xs) → HaveEqualItems eq xs ys
-    equal_items_from_one_side long all = both_true all (members_turned (of_lawful eq equality) xs ys distinct all (omega (arith, long)))
+    pub equal_items_from_one_side : length xs ≡ length ys → IsTrue (list_all (is_member eq ys) xs)
+        → HaveEqualItems eq xs ys
+    equal_items_from_one_side long all =
+        both_true all (members_turned (of_lawful eq equality) xs ys distinct all
+          (omega (arith, long)))
 
 -- of pairs
 module _ {K V : Type 0} (eq : K → K → Bool) (equality : Lawful eq) where
   -- the longer list has a key that the other lacks
-  pub longer_has_key : (first second : List (K × V)) → IsUnique eq first → length second < length first → (k : K) × (has eq first k ≡ true) × (has eq second k ≡ false)
+  pub longer_has_key : (first second : List (K × V)) → IsUnique eq first
+      → length second < length first → (k : K) × (has eq first k ≡ true) × (has eq second k ≡ false)
   longer_has_key first second unique longer =
-      let key = longer_has_item eq equality (keys_of first) (keys_of second) unique (omega (arith, longer, length-keys_of first, length-keys_of second)) in
+      let key = longer_has_item eq equality (keys_of first)
+          (keys_of second) unique
+          (omega (arith, longer, length-keys_of first, length-keys_of second)) in
       (key.0, is_some-lookup (eq key.0) first ∙ key.1, is_some-lookup (eq key.0) second ∙ key.2)
 
   module _ (same : V → V → Bool) (values : Lawful same) where
     -- reflexive and symmetric, and a third list is the same as the one exactly where it is the same as the other: of any
     -- lists, also with repeated keys
     pub sameness : Lawful (is_same eq same)
-    sameness = lawful (is_same eq same) (is_same_equiv (of_lawful eq equality) (of_lawful same values))
+    sameness = lawful (is_same eq same)
+        (is_same_equiv (of_lawful eq equality) (of_lawful same values))
 
-    module _ (first second : List (K × V)) (unique_first : IsUnique eq first) (unique_second : IsUnique eq second) where
+    module _ (first second : List (K × V)) (unique_first : IsUnique eq first)
+        (unique_second : IsUnique eq second) where
       -- of equally long lists, one side tells of both
-      pub same_from_one_side : length first ≡ length second → IsTrue (list_all (has_value eq same second) first) → Same eq same first second
-      same_from_one_side = same_from_long eq same (of_lawful eq equality) (of_lawful same values) first second unique_first unique_second
+      pub same_from_one_side : length first ≡ length second
+          → IsTrue (list_all (has_value eq same second) first) → Same eq same first second
+      same_from_one_side = same_from_long eq same (of_lawful eq equality)
+          (of_lawful same values) first second unique_first unique_second
 
       -- and lists that are the same are equally long
       pub length-same : Same eq same first second → length first ≡ length second
-      length-same = long_from_same eq same (of_lawful eq equality) (of_lawful same values) first second unique_first unique_second
+      length-same = long_from_same eq same (of_lawful eq equality)
+          (of_lawful same values) first second unique_first unique_second
 
       -- they are the same exactly where no key is in one alone, and none has unequal values
-      pub same_iff_filters : Same eq same first second ↔ ((filter (λ p. not (has eq second p.0)) first ≡ []) × (filter (λ p. not (has eq first p.0)) second ≡ []) × (filter (λ p. has eq second p.0 && not (has_value eq same second p)) first ≡ []))
+      pub same_iff_filters : Same eq same first second
+          ↔ ((filter (λ p. not (has eq second p.0)) first ≡ [])
+            × (filter (λ p. not (has eq first p.0)) second ≡ [])
+            × (filter (λ p. has eq second p.0 && not (has_value eq same second p)) first ≡ []))
       same_iff_filters =
           let keys = of_lawful eq equality in
           let equal = of_lawful same values in (
             λ are.
-                let one = filters_empty eq same keys equal first second unique_first unique_second first (values_within eq same keys equal first second unique_second (first_so _ _ are)) in
-                let other = filters_empty eq same keys equal second first unique_second unique_first second (values_within eq same keys equal second first unique_first (second_so _ _ are)) in
+                let one = filters_empty eq same keys equal first second unique_first unique_second
+                    first (values_within eq same keys equal first second unique_second
+                      (first_so _ _ are)) in
+                let other = filters_empty eq same keys equal second first unique_second unique_first
+                    second (values_within eq same keys equal second first unique_first
+                      (second_so _ _ are)) in
                 (one.0, other.0, one.1),
-            λ none. same_from_filters eq same keys equal first second unique_first unique_second none.0 none.1 none.2,
+            λ none. same_from_filters eq same keys equal first second unique_first unique_second
+                none.0 none.1 none.2,
           )

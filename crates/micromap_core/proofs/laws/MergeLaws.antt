@@ -1,6 +1,8 @@
 -- For callers: what a map has into which a loop merges values (`merged`): after one item more, at each key, and how many
 -- keys there are. The ruleset `merge_laws` is for such a loop.
-use Rattle.std.proofs.Common.{◌≡◌, ℕ, ◌+◌, ◌<◌, ◌≤◌, ◌&&◌, ◌||◌, not, Bool, true, false, List, [], ◌∷◌, ◌++◌, filter, length, map, get_or, take, drop, Option, Some, None, IsTrue, refl, ap, sym, subst, ◌∙◌, append_assoc, arith, unwrap_or, fold}
+use Rattle.std.proofs.Common.{◌≡◌, ℕ, ◌+◌, ◌<◌, ◌≤◌, ◌&&◌, ◌||◌, not, Bool, true, false, List, [], ◌∷◌, ◌++◌, filter}
+use Rattle.std.proofs.Common.{length, map, get_or, take, drop, Option, Some, None, IsTrue, refl, ap, sym, subst, ◌∙◌}
+use Rattle.std.proofs.Common.{append_assoc, arith, unwrap_or, fold}
 use Rattle.std.specs.Iterator.{Yields}
 use Rattle.std.specs.Iterator.Runs.{SomeRun, WholeRun}
 use Rattle.std.specs.Map.{keys_of, values_of}
@@ -27,74 +29,110 @@ module _ {K V W : Type 0} (eq : K → K → Bool) (step : Option V → W → V) 
   unfolding merged
   merged_none pairs = refl
 
-  pub merged_first : (pairs : List (K × V)) (item : K × W) (items : List (K × W)) → merged eq step pairs (item ∷ items) ≡ merged eq step (merge_pair eq step pairs item) items
+  pub merged_first : (pairs : List (K × V)) (item : K × W) (items : List (K × W))
+      → merged eq step pairs (item ∷ items) ≡ merged eq step (merge_pair eq step pairs item) items
   unfolding merged
   merged_first pairs item items = refl
 
-  pub merged_append : (pairs : List (K × V)) (items others : List (K × W)) → merged eq step pairs (items ++ others) ≡ merged eq step (merged eq step pairs items) others
+  pub merged_append : (pairs : List (K × V)) (items others : List (K × W))
+      → merged eq step pairs (items ++ others) ≡ merged eq step (merged eq step pairs items) others
   unfolding merged
   merged_append pairs items others = fold-append (merge_pair eq step) pairs items others
 
-  pub merged_push : (pairs : List (K × V)) (items : List (K × W)) (item : K × W) → merged eq step pairs (items ++ item ∷ []) ≡ merge_pair eq step (merged eq step pairs items) item
+  pub merged_push : (pairs : List (K × V)) (items : List (K × W)) (item : K × W)
+      → merged eq step pairs (items ++ item ∷ [])
+      ≡ merge_pair eq step (merged eq step pairs items) item
   unfolding merged
   merged_push pairs items item = fold_push (merge_pair eq step) pairs items item
 
-  pub merged_take : (pairs : List (K × V)) (items : List (K × W)) (i : ℕ) (d : K × W) → i < length items → merged eq step pairs (take (i + 1) items) ≡ merge_pair eq step (merged eq step pairs (take i items)) (get_or items i d)
+  pub merged_take : (pairs : List (K × V)) (items : List (K × W)) (i : ℕ) (d : K × W)
+      → i < length items → merged eq step pairs (take (i + 1) items)
+      ≡ merge_pair eq step (merged eq step pairs (take i items)) (get_or items i d)
   unfolding merged
   merged_take pairs items i d within = fold_more (merge_pair eq step) pairs items i d within
 
   -- what a key finds: its value, with the items of equal keys
-  pub at_merged : (pairs : List (K × V)) (items : List (K × W)) (q : K) → Lawful eq → at eq (merged eq step pairs items) q ≡ fold (λ o w. Some (step o w)) (at eq pairs q) (values_of (filter (λ item. eq item.0 q) items))
+  pub at_merged : (pairs : List (K × V)) (items : List (K × W)) (q : K) → Lawful eq
+      → at eq (merged eq step pairs items) q ≡ fold (λ o w. Some (step o w)) (at eq pairs q)
+      (values_of (filter (λ item. eq item.0 q) items))
   unfolding merged
   at_merged pairs [] q laws = refl
   at_merged pairs (item ∷ items) q laws =
-      let alike : eq item.0 q ≡ true → at eq pairs item.0 ≡ at eq pairs q = at_alike eq item.0 q pairs laws in
-      grind (arith, at_merged (merge_pair eq step pairs item) items q laws, at_put eq pairs item.0 (step (at eq pairs item.0) item.1) q laws, alike)
+      let alike : eq item.0 q ≡ true
+          → at eq pairs item.0 ≡ at eq pairs q = at_alike eq item.0 q pairs laws in
+      grind (arith, at_merged (merge_pair eq step pairs item) items q laws,
+            at_put eq pairs item.0 (step (at eq pairs item.0) item.1) q laws, alike)
 
-  pub has_merged : (pairs : List (K × V)) (items : List (K × W)) (q : K) → Lawful eq → has eq (merged eq step pairs items) q ≡ (has eq items q || has eq pairs q)
+  pub has_merged : (pairs : List (K × V)) (items : List (K × W)) (q : K) → Lawful eq
+      → has eq (merged eq step pairs items) q ≡ (has eq items q || has eq pairs q)
   unfolding merged
   has_merged pairs [] q laws = refl
-  has_merged pairs (item ∷ items) q laws = grind (arith, has_merged (merge_pair eq step pairs item) items q laws, has_put eq pairs item.0 (step (at eq pairs item.0) item.1) q laws, (of_lawful eq laws).symm q item.0)
+  has_merged pairs (item ∷ items) q laws =
+      grind (arith, has_merged (merge_pair eq step pairs item) items q laws,
+        has_put eq pairs item.0 (step (at eq pairs item.0) item.1) q laws,
+        (of_lawful eq laws).symm q item.0)
 
-  pub unique_merged : (pairs : List (K × V)) (items : List (K × W)) → Lawful eq → IsUnique eq pairs → IsUnique eq (merged eq step pairs items)
+  pub unique_merged : (pairs : List (K × V)) (items : List (K × W)) → Lawful eq → IsUnique eq pairs
+      → IsUnique eq (merged eq step pairs items)
   unfolding merged
   unique_merged pairs [] laws unique = unique
-  unique_merged pairs (item ∷ items) laws unique = unique_merged (merge_pair eq step pairs item) items laws (unique_put eq pairs item.0 (step (at eq pairs item.0) item.1) laws unique)
+  unique_merged pairs (item ∷ items) laws unique =
+      unique_merged (merge_pair eq step pairs item) items laws
+      (unique_put eq pairs item.0 (step (at eq pairs item.0) item.1) laws unique)
 
   -- how many keys there are
-  merges_keyed : (N : ℕ) → IsKeyed eq N (λ pairs item. fits eq N pairs item.0) (merge_pair eq step) keys_of (λ item. item.0) [] (λ items. distinct_count eq (keys_of items))
+  merges_keyed : (N : ℕ) → IsKeyed eq N (λ pairs item. fits eq N pairs item.0)
+      (merge_pair eq step) keys_of (λ item. item.0) [] (λ items. distinct_count eq (keys_of items))
   merges_keyed N = record {
     cases = λ pairs item. (pairs_keyed eq N).cases pairs (item.0, step (at eq pairs item.0) item.1);
     none = refl;
     counts = λ items. refl;
   }
 
-  pub length_merged : (pairs : List (K × V)) (items : List (K × W)) → Lawful eq → IsUnique eq pairs → length (merged eq step pairs items) ≡ distinct_count eq (keys_of pairs ++ keys_of items)
+  pub length_merged : (pairs : List (K × V)) (items : List (K × W)) → Lawful eq → IsUnique eq pairs
+      → length (merged eq step pairs items) ≡ distinct_count eq (keys_of pairs ++ keys_of items)
   unfolding merged
   length_merged pairs items laws unique =
       let keys = keys-fold (of_lawful eq laws) (merges_keyed 0) pairs items unique in
       sym (length-keys_of (merged eq step pairs items))
-      ∙ length-from_keys (of_lawful eq laws) _ (keys_of pairs ++ keys_of items) keys.0 (λ q. keys.1 q ∙ sym (list_any-append (eq q) (keys_of pairs) (keys_of items)))
+      ∙ length-from_keys (of_lawful eq laws) _ (keys_of pairs ++ keys_of items) keys.0
+          (λ q. keys.1 q ∙ sym (list_any-append (eq q) (keys_of pairs) (keys_of items)))
 
   -- with more items there are no fewer
-  pub merged_grows : (pairs : List (K × V)) (items : List (K × W)) (i : ℕ) → Lawful eq → IsUnique eq pairs → length (merged eq step pairs (take i items)) ≤ length (merged eq step pairs items)
+  pub merged_grows : (pairs : List (K × V)) (items : List (K × W)) (i : ℕ) → Lawful eq
+      → IsUnique eq pairs → length (merged eq step pairs (take i items)) ≤ length
+      (merged eq step pairs items)
   merged_grows pairs items i laws unique =
-      let all : keys_of (take i items) ++ keys_of (drop i items) ≡ keys_of items = sym (map-append (λ (e : K × W). e.0) (take i items) (drop i items)) ∙ ap keys_of (take-append-drop i items) in
-      omega (arith, length_merged pairs (take i items) laws unique, length_merged pairs items laws unique, distinct_grows eq (keys_of pairs ++ keys_of (take i items)) (keys_of (drop i items)) laws, ap (distinct_count eq) (append_assoc (keys_of pairs) (keys_of (take i items)) (keys_of (drop i items)) ∙ ap (λ l. keys_of pairs ++ l) all))
+      let all : keys_of (take i items) ++ keys_of (drop i items) ≡ keys_of items =
+          sym (map-append (λ (e : K × W). e.0) (take i items) (drop i items))
+          ∙ ap keys_of (take-append-drop i items) in
+      omega (arith, length_merged pairs (take i items) laws unique,
+            length_merged pairs items laws unique,
+            distinct_grows eq (keys_of pairs ++ keys_of (take i items))
+            (keys_of (drop i items)) laws, ap (distinct_count eq)
+            (append_assoc (keys_of pairs) (keys_of (take i items)) (keys_of (drop i items))
+              ∙ ap (λ l. keys_of pairs ++ l) all))
 
   -- an item that is merged when its key is new is one more
-  pub merged_beyond : (pairs : List (K × V)) (items : List (K × W)) (i : ℕ) (d : K × W) → i < length items → Lawful eq → IsUnique eq pairs → has eq (merged eq step pairs (take i items)) (get_or items i d).0 ≡ false → length (merged eq step pairs (take i items)) < length (merged eq step pairs items)
+  pub merged_beyond : (pairs : List (K × V)) (items : List (K × W)) (i : ℕ) (d : K × W)
+      → i < length items → Lawful eq → IsUnique eq pairs
+      → has eq (merged eq step pairs (take i items)) (get_or items i d).0 ≡ false
+      → length (merged eq step pairs (take i items)) < length (merged eq step pairs items)
   merged_beyond pairs items i d within laws unique new =
       let now = merged eq step pairs (take i items) in
       let item = get_or items i d in
-      let more = ap length (merged_take pairs items i d within) ∙ length_put eq now item.0 (step (at eq now item.0) item.1) in
+      let more = ap length (merged_take pairs items i d within)
+          ∙ length_put eq now item.0 (step (at eq now item.0) item.1) in
       let grown = merged_grows pairs items (i + 1) laws unique in
       grind (arith, new, more, grown)
 
   -- items that a function reads
   module _ {X : Type 0} (read : X → K × W) (pairs : List (K × V)) (items : List X) where
-    pub merged_push_map : (x : X) → merged eq step pairs (map read (items ++ x ∷ [])) ≡ merge_pair eq step (merged eq step pairs (map read items)) (read x)
-    merged_push_map x = ap (merged eq step pairs) (map-append read items (x ∷ [])) ∙ merged_push pairs (map read items) (read x)
+    pub merged_push_map : (x : X)
+        → merged eq step pairs (map read (items ++ x ∷ []))
+        ≡ merge_pair eq step (merged eq step pairs (map read items)) (read x)
+    merged_push_map x = ap (merged eq step pairs) (map-append read items (x ∷ []))
+        ∙ merged_push pairs (map read items) (read x)
 
   -- whether each item passes a test when it is merged
   module _ (test : List (K × V) → K × W → Bool) (pairs : List (K × V)) where
@@ -102,24 +140,38 @@ module _ {K V W : Type 0} (eq : K → K → Bool) (step : Option V → W → V) 
     unfolding all_merge
     all_merge_none = refl
 
-    pub all_merge_first : (item : K × W) (items : List (K × W)) → all_merge eq step test pairs (item ∷ items) ≡ (test pairs item && all_merge eq step test (merge_pair eq step pairs item) items)
+    pub all_merge_first : (item : K × W) (items : List (K × W))
+        → all_merge eq step test pairs (item ∷ items)
+        ≡ (test pairs item && all_merge eq step test (merge_pair eq step pairs item) items)
     unfolding all_merge
     all_merge_first item items = refl
 
-    pub all_merge_push : (items : List (K × W)) (item : K × W) → all_merge eq step test pairs (items ++ item ∷ []) ≡ (all_merge eq step test pairs items && test (merged eq step pairs items) item)
+    pub all_merge_push : (items : List (K × W)) (item : K × W)
+        → all_merge eq step test pairs (items ++ item ∷ [])
+        ≡ (all_merge eq step test pairs items && test (merged eq step pairs items) item)
     unfolding all_merge merged
     all_merge_push items item = each_fits-push test (merge_pair eq step) pairs items item
 
-    all_merge_take : (items : List (K × W)) (i : ℕ) (d : K × W) → i < length items → all_merge eq step test pairs (take (i + 1) items) ≡ (all_merge eq step test pairs (take i items) && test (merged eq step pairs (take i items)) (get_or items i d))
-    all_merge_take items i d within = ap (all_merge eq step test pairs) (take_more items i d within) ∙ all_merge_push (take i items) (get_or items i d)
+    all_merge_take : (items : List (K × W)) (i : ℕ) (d : K × W) → i < length items
+        → all_merge eq step test pairs (take (i + 1) items)
+        ≡ (all_merge eq step test pairs (take i items)
+          && test (merged eq step pairs (take i items)) (get_or items i d))
+    all_merge_take items i d within = ap (all_merge eq step test pairs) (take_more items i d within)
+        ∙ all_merge_push (take i items) (get_or items i d)
 
   -- the items of an iterator: all, those before the one at which a loop stops, and that one. `start` is the iterator of the
   -- loop, which is `it`, and t what is left of it
-  module _ {S : Type 0} (steps : S → Option (K × W) → S → Type 0) (it start t u : S) (pairs now : List (K × V)) (items : List (K × W)) (begins : start ≡ it) (gave : Yields steps start items t) where
-    pub merged_run : steps t None u → now ≡ merged eq step pairs items → WholeRun steps it (λ p. now ≡ merged eq step pairs p.items)
-    merged_run ends made = subst (λ s. WholeRun steps s (λ p. now ≡ merged eq step pairs p.items)) begins (total_runs steps _ _ (λ items. now ≡ merged eq step pairs items) (items, λ _. (u, (t, gave, ends)), made) (tt {0}))
+  module _ {S : Type 0} (steps : S → Option (K × W) → S → Type 0) (it start t u : S)
+      (pairs now : List (K × V)) (items : List (K × W)) (begins : start ≡ it)
+      (gave : Yields steps start items t) where
+    pub merged_run : steps t None u → now ≡ merged eq step pairs items
+        → WholeRun steps it (λ p. now ≡ merged eq step pairs p.items)
+    merged_run ends made = subst (λ s. WholeRun steps s (λ p. now ≡ merged eq step pairs p.items))
+        begins (total_runs steps _ _ (λ items. now ≡ merged eq step pairs items) (items,
+            λ _. (u, (t, gave, ends)), made) (tt {0}))
 
-    module _ (x : K × W) (position : ℕ) (turns : steps t (Some x) u) (counted : position ≡ length items) where
+    module _ (x : K × W) (position : ℕ) (turns : steps t (Some x) u)
+        (counted : position ≡ length items) where
       -- the run up to and including x
       ran : SomeRun steps it (λ p. (p.len ≡ position + 1) × (p.items ≡ items ++ x ∷ []))
       ran =
@@ -129,21 +181,40 @@ module _ {K V W : Type 0} (eq : K → K → Bool) (step : Option V → W → V) 
       before : (xs : List (K × W)) → xs ≡ items ++ x ∷ [] → take position xs ≡ items
       before xs is = ap (take position) is ∙ take_at items (x ∷ []) position (sym counted)
 
-      pub merged_run_before : now ≡ merged eq step pairs items → SomeRun steps it (λ p. (p.len ≡ position + 1) × (now ≡ merged eq step pairs (take position p.items)))
+      pub merged_run_before : now ≡ merged eq step pairs items
+          → SomeRun steps it (λ p. (p.len ≡ position + 1)
+            × (now ≡ merged eq step pairs (take position p.items)))
       merged_run_before made =
           let r = ran in
           (r.0, r.1, (r.2.0, made ∙ sym (ap (merged eq step pairs) (before r.0.items r.2.1))))
 
-      pub merged_run_stops : (test : List (K × V) → K × W → Bool) → now ≡ merged eq step pairs items → IsTrue (all_merge eq step test pairs items) → test now x ≡ false → SomeRun steps it (λ p. (p.len ≡ position + 1) × MergeStopsAt eq step test pairs p.items position)
+      pub merged_run_stops : (test : List (K × V) → K × W → Bool) → now ≡ merged eq step pairs items
+          → IsTrue (all_merge eq step test pairs items) → test now x ≡ false
+          → SomeRun steps it (λ p. (p.len ≡ position + 1)
+            × MergeStopsAt eq step test pairs p.items position)
       merged_run_stops test made passed fails =
           let r = ran in
-          let whole : take (position + 1) r.0.items ≡ items ++ x ∷ [] = ap (take (position + 1)) r.2.1 ∙ take_all (position + 1) (items ++ x ∷ []) (omega (arith, length_push items x, counted)) in
-          let last : test (merged eq step pairs items) x ≡ false = ap (λ l. test l x) (sym made) ∙ fails in
-          let stops : IsTrue (not (all_merge eq step test pairs (items ++ x ∷ []))) = grind (arith, all_merge_push test pairs items x, last) in
-          (r.0, r.1, (r.2.0, (ap (all_merge eq step test pairs) (before r.0.items r.2.1) ∙ passed, ap (λ l. not (all_merge eq step test pairs l)) whole ∙ stops)))
+          let whole : take (position + 1) r.0.items ≡ items ++ x ∷ [] =
+              ap (take (position + 1)) r.2.1
+              ∙ take_all (position + 1) (items ++ x ∷ [])
+              (omega (arith, length_push items x, counted)) in
+          let last : test (merged eq step pairs items) x ≡ false = ap (λ l. test l x) (sym made)
+              ∙ fails in
+          let stops : IsTrue (not (all_merge eq step test pairs (items ++ x ∷ []))) =
+              grind (arith, all_merge_push test pairs items x, last) in
+          (r.0, r.1, (r.2.0, (ap (all_merge eq step test pairs) (before r.0.items r.2.1)
+                    ∙ passed, ap (λ l. not (all_merge eq step test pairs l)) whole ∙ stops)))
 
   -- what a search needs, at once: of all items, and of the first so many, also where a function reads them
-  pub each_merged : (pairs : List (K × V)) (items : List (K × W)) → Lawful eq → (merged eq step pairs items ≡ merged eq step pairs items) × ((q : K) → at eq (merged eq step pairs items) q ≡ fold (λ o w. Some (step o w)) (at eq pairs q) (values_of (filter (λ item. eq item.0 q) items))) × ((q : K) → has eq (merged eq step pairs items) q ≡ (has eq items q || has eq pairs q)) × (IsUnique eq pairs → IsUnique eq (merged eq step pairs items)) × (IsUnique eq pairs → length (merged eq step pairs items) ≡ distinct_count eq (keys_of pairs ++ keys_of items))
+  pub each_merged : (pairs : List (K × V)) (items : List (K × W)) → Lawful eq
+      → (merged eq step pairs items ≡ merged eq step pairs items)
+      × ((q : K) → at eq (merged eq step pairs items) q
+        ≡ fold (λ o w. Some (step o w)) (at eq pairs q)
+        (values_of (filter (λ item. eq item.0 q) items)))
+      × ((q : K) → has eq (merged eq step pairs items) q ≡ (has eq items q || has eq pairs q))
+      × (IsUnique eq pairs → IsUnique eq (merged eq step pairs items))
+      × (IsUnique eq pairs → length (merged eq step pairs items)
+        ≡ distinct_count eq (keys_of pairs ++ keys_of items))
   each_merged pairs items laws = (
     refl,
     λ q. at_merged pairs items q laws,
@@ -153,10 +224,21 @@ module _ {K V W : Type 0} (eq : K → K → Bool) (step : Option V → W → V) 
   )
 
   -- what a loop ends with where its iterator has no items left
-  pub each_merged_end : (pairs : List (K × V)) (items : List (K × W)) → (merged eq step pairs items ≡ merged eq step pairs items) × (length items ≡ 0 → merged eq step pairs items ≡ pairs)
-  each_merged_end pairs items = (refl, λ none. ap (merged eq step pairs) (nil_from_length items none) ∙ merged_none pairs)
+  pub each_merged_end : (pairs : List (K × V)) (items : List (K × W))
+      → (merged eq step pairs items ≡ merged eq step pairs items)
+      × (length items ≡ 0 → merged eq step pairs items ≡ pairs)
+  each_merged_end pairs items =
+      (refl, λ none. ap (merged eq step pairs) (nil_from_length items none) ∙ merged_none pairs)
 
-  pub each_merged_take : (pairs : List (K × V)) (items : List (K × W)) (i : ℕ) → (merged eq step pairs (take i items) ≡ merged eq step pairs (take i items)) × (length items ≤ i → merged eq step pairs (take i items) ≡ merged eq step pairs items) × ((d : K × W) → i < length items → merged eq step pairs (take (i + 1) items) ≡ merge_pair eq step (merged eq step pairs (take i items)) (get_or items i d)) × (Lawful eq → IsUnique eq pairs → (d : K × W) → i < length items → has eq (merged eq step pairs (take i items)) (get_or items i d).0 ≡ false → length (merged eq step pairs (take i items)) < length (merged eq step pairs items))
+  pub each_merged_take : (pairs : List (K × V)) (items : List (K × W)) (i : ℕ)
+      → (merged eq step pairs (take i items) ≡ merged eq step pairs (take i items))
+      × (length items ≤ i → merged eq step pairs (take i items) ≡ merged eq step pairs items)
+      × ((d : K × W) → i < length items
+        → merged eq step pairs (take (i + 1) items)
+        ≡ merge_pair eq step (merged eq step pairs (take i items)) (get_or items i d))
+      × (Lawful eq → IsUnique eq pairs → (d : K × W) → i < length items
+        → has eq (merged eq step pairs (take i items)) (get_or items i d).0 ≡ false
+        → length (merged eq step pairs (take i items)) < length (merged eq step pairs items))
   each_merged_take pairs items i = (
     refl,
     λ over. ap (merged eq step pairs) (take_all i items over),
@@ -164,38 +246,77 @@ module _ {K V W : Type 0} (eq : K → K → Bool) (step : Option V → W → V) 
     λ laws unique d within new. merged_beyond pairs items i d within laws unique new,
   )
 
-  pub each_merged_take_map : {X : Type 0} (read : X → K × W) (pairs : List (K × V)) (items : List X) (i : ℕ) → (merged eq step pairs (map read (take i items)) ≡ merged eq step pairs (map read (take i items))) × (length items ≤ i → merged eq step pairs (map read (take i items)) ≡ merged eq step pairs (map read items)) × ((d : X) → i < length items → merged eq step pairs (map read (take (i + 1) items)) ≡ merge_pair eq step (merged eq step pairs (map read (take i items))) (read (get_or items i d))) × (Lawful eq → IsUnique eq pairs → (d : X) → i < length items → has eq (merged eq step pairs (map read (take i items))) (read (get_or items i d)).0 ≡ false → length (merged eq step pairs (map read (take i items))) < length (merged eq step pairs (map read items)))
+  pub each_merged_take_map :
+      {X : Type 0} (read : X → K × W) (pairs : List (K × V)) (items : List X) (i : ℕ)
+      → (merged eq step pairs (map read (take i items))
+        ≡ merged eq step pairs (map read (take i items)))
+      × (length items ≤ i → merged eq step pairs (map read (take i items))
+        ≡ merged eq step pairs (map read items))
+      × ((d : X) → i < length items
+        → merged eq step pairs (map read (take (i + 1) items))
+        ≡ merge_pair eq step (merged eq step pairs (map read (take i items)))
+        (read (get_or items i d)))
+      × (Lawful eq → IsUnique eq pairs → (d : X) → i < length items
+        → has eq (merged eq step pairs (map read (take i items)))
+        (read (get_or items i d)).0 ≡ false
+        → length (merged eq step pairs (map read (take i items))) < length
+        (merged eq step pairs (map read items)))
   each_merged_take_map read pairs items i =
       let all = each_merged_take pairs (map read items) i in
       let first = take-map read i items in
       let long = length-map items read in (
         refl,
         λ over. grind (arith, common_steps, all.1, first, long, over),
-        λ d within. grind (arith, common_steps, all.2 (read d), first, take-map read (i + 1) items, long, within),
-        λ laws unique d within new. grind (arith, common_steps, all.3 laws unique (read d), first, long, within, new),
+        λ d within. grind (arith, common_steps, all.2 (read d), first, take-map read (i + 1) items,
+              long, within),
+        λ laws unique d within new. grind (arith, common_steps, all.3 laws unique (read d), first,
+              long, within, new),
       )
 
-  pub each_all_merge_take : (test : List (K × V) → K × W → Bool) (pairs : List (K × V)) (items : List (K × W)) (i : ℕ) → (all_merge eq step test pairs (take i items) ≡ all_merge eq step test pairs (take i items)) × (length items ≤ i → all_merge eq step test pairs (take i items) ≡ all_merge eq step test pairs items) × ((d : K × W) → i < length items → all_merge eq step test pairs (take (i + 1) items) ≡ (all_merge eq step test pairs (take i items) && test (merged eq step pairs (take i items)) (get_or items i d)))
+  pub each_all_merge_take :
+      (test : List (K × V) → K × W → Bool) (pairs : List (K × V)) (items : List (K × W)) (i : ℕ)
+      → (all_merge eq step test pairs (take i items) ≡ all_merge eq step test pairs (take i items))
+      × (length items ≤ i → all_merge eq step test pairs (take i items)
+        ≡ all_merge eq step test pairs items)
+      × ((d : K × W) → i < length items
+        → all_merge eq step test pairs (take (i + 1) items)
+        ≡ (all_merge eq step test pairs (take i items)
+          && test (merged eq step pairs (take i items)) (get_or items i d)))
   each_all_merge_take test pairs items i = (
     refl,
     λ over. ap (all_merge eq step test pairs) (take_all i items over),
     λ d within. all_merge_take test pairs items i d within,
   )
 
-  pub each_all_merge_take_map : {X : Type 0} (read : X → K × W) (test : List (K × V) → K × W → Bool) (pairs : List (K × V)) (items : List X) (i : ℕ) → (all_merge eq step test pairs (map read (take i items)) ≡ all_merge eq step test pairs (map read (take i items))) × (length items ≤ i → all_merge eq step test pairs (map read (take i items)) ≡ all_merge eq step test pairs (map read items)) × ((d : X) → i < length items → all_merge eq step test pairs (map read (take (i + 1) items)) ≡ (all_merge eq step test pairs (map read (take i items)) && test (merged eq step pairs (map read (take i items))) (read (get_or items i d))))
+  pub each_all_merge_take_map :
+      {X : Type 0} (read : X → K × W) (test : List (K × V) → K × W → Bool) (pairs : List (K × V))
+      (items : List X) (i : ℕ)
+      → (all_merge eq step test pairs (map read (take i items))
+        ≡ all_merge eq step test pairs (map read (take i items)))
+      × (length items ≤ i → all_merge eq step test pairs (map read (take i items))
+        ≡ all_merge eq step test pairs (map read items))
+      × ((d : X) → i < length items
+        → all_merge eq step test pairs (map read (take (i + 1) items))
+        ≡ (all_merge eq step test pairs (map read (take i items))
+          && test (merged eq step pairs (map read (take i items))) (read (get_or items i d))))
   each_all_merge_take_map read test pairs items i =
       let all = each_all_merge_take test pairs (map read items) i in
       let first = take-map read i items in
       let long = length-map items read in (
         refl,
         λ over. grind (arith, common_steps, all.1, first, long, over),
-        λ d within. grind (arith, common_steps, all.2 (read d), first, take-map read (i + 1) items, long, within),
+        λ d within. grind (arith, common_steps, all.2 (read d), first, take-map read (i + 1) items,
+              long, within),
       )
 
 -- a counter
 module _ {K : Type 0} (eq : K → K → Bool) where
-  pub merged_counts : {W : Type 0} (items : List (K × W)) → merged eq (λ o w. unwrap_or o 0 + 1) [] items ≡ counts eq (keys_of items)
+  pub merged_counts : {W : Type 0} (items : List (K × W))
+      → merged eq (λ o w. unwrap_or o 0 + 1) [] items ≡ counts eq (keys_of items)
   unfolding merged counts
   merged_counts items = sym (fold-map (count_one eq) (λ item. item.0) [] items)
 
-pub ruleset merge_laws = (merged_none, merged_first, merged_append, merged_push, merged_push_map, all_merge_none, all_merge_first, all_merge_push, each_merged, each_merged_end, each_merged_take, each_merged_take_map, each_all_merge_take, each_all_merge_take_map, unique_empty)
+pub ruleset merge_laws = (merged_none, merged_first, merged_append, merged_push, merged_push_map,
+      all_merge_none, all_merge_first, all_merge_push, each_merged, each_merged_end,
+      each_merged_take, each_merged_take_map, each_all_merge_take, each_all_merge_take_map,
+      unique_empty)

@@ -1,7 +1,9 @@
 -- For callers: what each change of a map with texts as keys does to the list that has the keys' bytes. The laws hold for
 -- `String` and for `&str`, and for any way `read` of seeing a value: `key_texts` and `key_strs` see values as they are,
 -- `texts` and `strs` by their bytes.
-use Rattle.std.proofs.Common.{◌≡◌, ℕ, Bool, true, IsTrue, List, [], ◌∷◌, ◌++◌, Bor, codes, drop, length, slice_get, String, Option, Some, is_some, refl, ap, sym, subst, ◌∙◌, string_bytes, arith, bytes_eq, string_eq}
+use Rattle.std.proofs.Common.{◌≡◌, ℕ, Bool, true, IsTrue, List, [], ◌∷◌, ◌++◌, Bor, codes, drop, length, slice_get}
+use Rattle.std.proofs.Common.{String, Option, Some, is_some, refl, ap, sym, subst, ◌∙◌, string_bytes, arith, bytes_eq}
+use Rattle.std.proofs.Common.{string_eq}
 use Rattle.std.specs.List.{AllZip, IsDistinct}
 use Rattle.std.specs.Map.{keys_of, lookup, lookup_entry, remove_entry, set_value, values_of}
 use Rattle.std.specs.Option.{option_eq, option_map}
@@ -25,63 +27,100 @@ use Rattle.micromap_core.proofs.Views.{clones-map, distinct-map, equal_items-map
 abbrev pub ComparesBy : {K : Type 0} → (K → List ℕ) → (K → K → Bool) → Type 0
 ComparesBy {K} see eq = (x y : K) → eq x y ≡ bytes_eq (see x) (see y)
 
-pub compares_by : {K : Type 0} (see : K → List ℕ) (eq : K → K → Bool) → ComparesBy see eq → eq ≡ on see bytes_eq
+pub compares_by : {K : Type 0} (see : K → List ℕ) (eq : K → K → Bool) → ComparesBy see eq
+    → eq ≡ on see bytes_eq
 compares_by see eq compares = λ i x y. compares x y i
 
 module _ {K V W : Type 0} (see : K → List ℕ) (read : V → W) where
   module _ (bs : List ℕ) where
     -- what a text finds
-    pub at_texts : (pairs : List (K × V)) → at bytes_eq (texts_by see read pairs) bs ≡ option_map read (lookup (λ k. bytes_eq bs (see k)) pairs)
+    pub at_texts : (pairs : List (K × V))
+        → at bytes_eq (texts_by see read pairs) bs
+        ≡ option_map read (lookup (λ k. bytes_eq bs (see k)) pairs)
     unfolding texts_by
     at_texts [] = refl
     at_texts (e ∷ es) = grind (arith, at_texts es)
 
-    pub pair_texts : (pairs : List (K × V)) → pair bytes_eq (texts_by see read pairs) bs ≡ option_map (λ (p : K × V). (see p.0, read p.1)) (lookup_entry (λ k. bytes_eq bs (see k)) pairs)
+    pub pair_texts : (pairs : List (K × V))
+        → pair bytes_eq (texts_by see read pairs) bs
+        ≡ option_map (λ (p : K × V). (see p.0, read p.1))
+        (lookup_entry (λ k. bytes_eq bs (see k)) pairs)
     unfolding texts_by
     pair_texts [] = refl
     pair_texts (e ∷ es) = grind (arith, pair_texts es)
 
-    found : (pairs : List (K × V)) → has bytes_eq (texts_by see read pairs) bs ≡ is_some (lookup (λ k. bytes_eq bs (see k)) pairs)
+    found : (pairs : List (K × V))
+        → has bytes_eq (texts_by see read pairs) bs
+        ≡ is_some (lookup (λ k. bytes_eq bs (see k)) pairs)
     found pairs = grind (arith, at_texts pairs)
 
     -- a value written at the text that is there
-    written : (pairs : List (K × V)) (w : V) → texts_by see read (set_value (λ k. bytes_eq bs (see k)) pairs w) ≡ set_value (bytes_eq bs) (texts_by see read pairs) (read w)
+    written : (pairs : List (K × V)) (w : V)
+        → texts_by see read (set_value (λ k. bytes_eq bs (see k)) pairs w) ≡ set_value (bytes_eq bs)
+        (texts_by see read pairs) (read w)
     unfolding texts_by
     written [] w = refl
     written (e ∷ es) w = grind (arith, written es w)
 
-    put_matched : (pairs : List (K × V)) (w : V) → is_some (lookup (λ k. bytes_eq bs (see k)) pairs) ≡ true → texts_by see read (set_value (λ k. bytes_eq bs (see k)) pairs w) ≡ put bytes_eq (texts_by see read pairs) bs (read w)
+    put_matched : (pairs : List (K × V)) (w : V)
+        → is_some (lookup (λ k. bytes_eq bs (see k)) pairs) ≡ true
+        → texts_by see read (set_value (λ k. bytes_eq bs (see k)) pairs w)
+        ≡ put bytes_eq (texts_by see read pairs) bs (read w)
     unfolding put
     put_matched pairs w there = grind (arith, written pairs w, found pairs, there)
 
     -- whether a probe finds a key is whether its text is there, and a value written where it does is put
-    pub matched_texts : (pairs : List (K × V)) → (at bytes_eq (texts_by see read pairs) bs ≡ at bytes_eq (texts_by see read pairs) bs) × (is_some (lookup (λ k. bytes_eq bs (see k)) pairs) ≡ has bytes_eq (texts_by see read pairs) bs) × ((w : V) → is_some (lookup (λ k. bytes_eq bs (see k)) pairs) ≡ true → texts_by see read (set_value (λ k. bytes_eq bs (see k)) pairs w) ≡ put bytes_eq (texts_by see read pairs) bs (read w))
+    pub matched_texts : (pairs : List (K × V))
+        → (at bytes_eq (texts_by see read pairs) bs ≡ at bytes_eq (texts_by see read pairs) bs)
+        × (is_some (lookup (λ k. bytes_eq bs (see k)) pairs)
+          ≡ has bytes_eq (texts_by see read pairs) bs)
+        × ((w : V) → is_some (lookup (λ k. bytes_eq bs (see k)) pairs) ≡ true
+          → texts_by see read (set_value (λ k. bytes_eq bs (see k)) pairs w)
+          ≡ put bytes_eq (texts_by see read pairs) bs (read w))
     matched_texts pairs = (refl, sym (found pairs), put_matched pairs)
 
-    pub texts_take_out_matched : (pairs : List (K × V)) → take_out bytes_eq (texts_by see read pairs) bs ≡ texts_by see read (remove_entry (λ k. bytes_eq bs (see k)) pairs)
+    pub texts_take_out_matched : (pairs : List (K × V))
+        → take_out bytes_eq (texts_by see read pairs) bs
+        ≡ texts_by see read (remove_entry (λ k. bytes_eq bs (see k)) pairs)
     unfolding texts_by take_out
     texts_take_out_matched [] = refl
     texts_take_out_matched (e ∷ es) = grind (arith, texts_take_out_matched es)
 
   module _ (k : K) where
-    pushed : (pairs : List (K × V)) (v : V) → texts_by see read (pairs ++ (k, v) ∷ []) ≡ texts_by see read pairs ++ (see k, read v) ∷ []
+    pushed : (pairs : List (K × V)) (v : V)
+        → texts_by see read (pairs ++ (k, v) ∷ []) ≡ texts_by see read pairs ++ (see k, read v) ∷ []
     unfolding texts_by
     pushed pairs v = map-append (λ (p : K × V). (see p.0, read p.1)) pairs ((k, v) ∷ [])
 
-    pub texts_put : (eq : K → K → Bool) (pairs : List (K × V)) (v : V) → ComparesBy see eq → texts_by see read (put eq pairs k v) ≡ put bytes_eq (texts_by see read pairs) (see k) (read v)
+    pub texts_put : (eq : K → K → Bool) (pairs : List (K × V)) (v : V) → ComparesBy see eq
+        → texts_by see read (put eq pairs k v) ≡ put bytes_eq (texts_by see read pairs) (see k)
+        (read v)
     unfolding put
-    texts_put eq pairs v compares = ap (λ e. texts_by see read (put e pairs k v)) (compares_by see eq compares) ∙ grind (arith, written (see k) pairs v, pushed pairs v, found (see k) pairs)
+    texts_put eq pairs v compares =
+        ap (λ e. texts_by see read (put e pairs k v)) (compares_by see eq compares)
+        ∙ grind (arith, written (see k) pairs v, pushed pairs v, found (see k) pairs)
 
-    pub texts_take_out : (eq : K → K → Bool) (pairs : List (K × V)) → ComparesBy see eq → texts_by see read (take_out eq pairs k) ≡ take_out bytes_eq (texts_by see read pairs) (see k)
+    pub texts_take_out : (eq : K → K → Bool) (pairs : List (K × V)) → ComparesBy see eq
+        → texts_by see read (take_out eq pairs k) ≡ take_out bytes_eq (texts_by see read pairs)
+        (see k)
     unfolding take_out
-    texts_take_out eq pairs compares = ap (λ e. texts_by see read (take_out e pairs k)) (compares_by see eq compares) ∙ sym (texts_take_out_matched (see k) pairs)
+    texts_take_out eq pairs compares =
+        ap (λ e. texts_by see read (take_out e pairs k)) (compares_by see eq compares)
+        ∙ sym (texts_take_out_matched (see k) pairs)
 
     -- a key that is made of a text is known by its bytes alone, and so is what it finds
-    pub has_texts : (pairs : List (K × V)) (bs : List ℕ) → see k ≡ bs → (at bytes_eq (texts_by see read pairs) bs ≡ at bytes_eq (texts_by see read pairs) bs) × (has (on see bytes_eq) pairs k ≡ has bytes_eq (texts_by see read pairs) bs)
-    has_texts pairs bs is = (refl, sym (found (see k) pairs) ∙ ap (has bytes_eq (texts_by see read pairs)) is)
+    pub has_texts : (pairs : List (K × V)) (bs : List ℕ) → see k ≡ bs
+        → (at bytes_eq (texts_by see read pairs) bs ≡ at bytes_eq (texts_by see read pairs) bs)
+        × (has (on see bytes_eq) pairs k ≡ has bytes_eq (texts_by see read pairs) bs)
+    has_texts pairs bs is = (refl, sym (found (see k) pairs)
+          ∙ ap (has bytes_eq (texts_by see read pairs)) is)
 
-    pub at_made : (pairs : List (K × V)) (bs : List ℕ) → see k ≡ bs → (at bytes_eq (texts_by see read pairs) bs ≡ at bytes_eq (texts_by see read pairs) bs) × (option_map read (at (on see bytes_eq) pairs k) ≡ at bytes_eq (texts_by see read pairs) bs)
-    at_made pairs bs is = (refl, sym (at_texts (see k) pairs) ∙ ap (at bytes_eq (texts_by see read pairs)) is)
+    pub at_made : (pairs : List (K × V)) (bs : List ℕ) → see k ≡ bs
+        → (at bytes_eq (texts_by see read pairs) bs ≡ at bytes_eq (texts_by see read pairs) bs)
+        × (option_map read (at (on see bytes_eq) pairs k)
+          ≡ at bytes_eq (texts_by see read pairs) bs)
+    at_made pairs bs is = (refl, sym (at_texts (see k) pairs)
+          ∙ ap (at bytes_eq (texts_by see read pairs)) is)
 
   module _ (pairs : List (K × V)) where
     -- the keys
@@ -89,12 +128,15 @@ module _ {K V W : Type 0} (see : K → List ℕ) (read : V → W) where
     unfolding texts_by items_by
     keys_texts = map-map _ _ pairs ∙ sym (map-map _ _ pairs)
 
-    pub unique_texts : IsUnique (on see bytes_eq) pairs → IsUnique bytes_eq (texts_by see read pairs)
+    pub unique_texts : IsUnique (on see bytes_eq) pairs
+        → IsUnique bytes_eq (texts_by see read pairs)
     unfolding items_by
-    unique_texts unique = subst (IsDistinct bytes_eq) (sym keys_texts) (distinct-map see bytes_eq (keys_of pairs) unique)
+    unique_texts unique = subst (IsDistinct bytes_eq) (sym keys_texts)
+        (distinct-map see bytes_eq (keys_of pairs) unique)
 
     -- the first pair, and those behind it
-    pub texts_front : slice_get (texts_by see read pairs) 0 ≡ option_map (λ (p : K × V). (see p.0, read p.1)) (slice_get pairs 0)
+    pub texts_front : slice_get (texts_by see read pairs) 0
+        ≡ option_map (λ (p : K × V). (see p.0, read p.1)) (slice_get pairs 0)
     unfolding texts_by
     texts_front = front-map _ pairs
 
@@ -108,9 +150,12 @@ module _ {K V W : Type 0} (see : K → List ℕ) (read : V → W) where
 
     -- clones of pairs have the same texts: a `String`'s clone has its bytes, and so has a value's if `read` sees bytes. A
     -- search that has this law tries it at each two lists of texts, so it is named beside the ruleset
-    pub texts_clone : (copy : List (K × V)) → AllZip (λ (p q : K × V). (see q.0 ≡ see p.0) × (read q.1 ≡ read p.1)) pairs copy → texts_by see read copy ≡ texts_by see read pairs
+    pub texts_clone : (copy : List (K × V))
+        → AllZip (λ (p q : K × V). (see q.0 ≡ see p.0) × (read q.1 ≡ read p.1)) pairs copy
+        → texts_by see read copy ≡ texts_by see read pairs
     unfolding texts_by
-    texts_clone copy clones = clones-map _ _ (λ p q alike i. (alike.0 i, alike.1 i)) pairs copy clones
+    texts_clone copy clones =
+        clones-map _ _ (λ p q alike i. (alike.0 i, alike.1 i)) pairs copy clones
 
   -- no text at all
   pub texts_empty : texts_by see read [] ≡ []
@@ -119,7 +164,8 @@ module _ {K V W : Type 0} (see : K → List ℕ) (read : V → W) where
 
 -- values as they are
 module _ {K V : Type 0} (see : K → List ℕ) (pairs : List (K × V)) where
-  pub at_key_texts : (bs : List ℕ) → at bytes_eq (texts_by see (λ v. v) pairs) bs ≡ lookup (λ k. bytes_eq bs (see k)) pairs
+  pub at_key_texts : (bs : List ℕ)
+      → at bytes_eq (texts_by see (λ v. v) pairs) bs ≡ lookup (λ k. bytes_eq bs (see k)) pairs
   at_key_texts bs = grind (arith, at_texts see (λ v. v) bs pairs)
 
   pub values_texts : values_of (texts_by see (λ v. v) pairs) ≡ values_of pairs
@@ -127,88 +173,140 @@ module _ {K V : Type 0} (see : K → List ℕ) (pairs : List (K × V)) where
   values_texts = map-map _ _ pairs
 
   -- the pair that a text finds has that text as its key, and the value that the text finds
-  matched : (bs : List ℕ) → (lookup_entry (λ k. bytes_eq bs (see k)) pairs ≡ lookup_entry (λ k. bytes_eq bs (see k)) pairs) × ((p : K × V) → lookup_entry (λ k. bytes_eq bs (see k)) pairs ≡ Some p → see p.0 ≡ bs) × (lookup (λ k. bytes_eq bs (see k)) pairs ≡ option_map (λ (e : K × V). e.1) (lookup_entry (λ k. bytes_eq bs (see k)) pairs))
+  matched : (bs : List ℕ) → (lookup_entry (λ k. bytes_eq bs (see k)) pairs
+        ≡ lookup_entry (λ k. bytes_eq bs (see k)) pairs)
+      × ((p : K × V) → lookup_entry (λ k. bytes_eq bs (see k)) pairs ≡ Some p → see p.0 ≡ bs)
+      × (lookup (λ k. bytes_eq bs (see k)) pairs
+        ≡ option_map (λ (e : K × V). e.1) (lookup_entry (λ k. bytes_eq bs (see k)) pairs))
   matched bs = (
     refl,
-    λ p found. sym ((bytes_eq-Decides bs (see p.0)).0 (pair_key (λ k key. bytes_eq bs (see key)) pairs p.0 p found)),
+    λ p found. sym ((bytes_eq-Decides bs (see p.0)).0
+          (pair_key (λ k key. bytes_eq bs (see key)) pairs p.0 p found)),
     lookup-entry (λ k. bytes_eq bs (see k)) pairs,
   )
 
-pub pair_matched : {Z V : Type 0} (bs : List ℕ) (pairs : List (String Z × V)) → (lookup_entry (is_text bs) pairs ≡ lookup_entry (is_text bs) pairs) × ((p : String Z × V) → lookup_entry (is_text bs) pairs ≡ Some p → string_bytes p.0 ≡ bs) × (lookup (is_text bs) pairs ≡ option_map (λ (e : String Z × V). e.1) (lookup_entry (is_text bs) pairs))
+pub pair_matched : {Z V : Type 0} (bs : List ℕ) (pairs : List (String Z × V))
+    → (lookup_entry (is_text bs) pairs ≡ lookup_entry (is_text bs) pairs)
+    × ((p : String Z × V) → lookup_entry (is_text bs) pairs ≡ Some p → string_bytes p.0 ≡ bs)
+    × (lookup (is_text bs) pairs
+      ≡ option_map (λ (e : String Z × V). e.1) (lookup_entry (is_text bs) pairs))
 pair_matched bs pairs = matched string_bytes pairs bs
 
-pub pair_matched_str : {V : Type 0} (bs : List ℕ) (pairs : List (Bor (List ℕ) × V)) → (lookup_entry (is_str bs) pairs ≡ lookup_entry (is_str bs) pairs) × ((p : Bor (List ℕ) × V) → lookup_entry (is_str bs) pairs ≡ Some p → p.0.now ≡ bs) × (lookup (is_str bs) pairs ≡ option_map (λ (e : Bor (List ℕ) × V). e.1) (lookup_entry (is_str bs) pairs))
+pub pair_matched_str : {V : Type 0} (bs : List ℕ) (pairs : List (Bor (List ℕ) × V))
+    → (lookup_entry (is_str bs) pairs ≡ lookup_entry (is_str bs) pairs)
+    × ((p : Bor (List ℕ) × V) → lookup_entry (is_str bs) pairs ≡ Some p → p.0.now ≡ bs)
+    × (lookup (is_str bs) pairs
+      ≡ option_map (λ (e : Bor (List ℕ) × V). e.1) (lookup_entry (is_str bs) pairs))
 pair_matched_str bs pairs = matched (λ s. s.now) pairs bs
 
 -- two maps are the same exactly if their texts are, where the values are compared as `read` sees them
-module _ {K V W : Type 0} (see : K → List ℕ) (read : V → W) (same : W → W → Bool) (a b : List (K × V)) where
-  pub same_texts : is_same bytes_eq same (texts_by see read a) (texts_by see read b) ≡ is_same (on see bytes_eq) (λ v w. same (read v) (read w)) a b
+module _ {K V W : Type 0} (see : K → List ℕ) (read : V → W) (same : W → W → Bool)
+    (a b : List (K × V)) where
+  pub same_texts : is_same bytes_eq same (texts_by see read a)
+      (texts_by see read b) ≡ is_same (on see bytes_eq) (λ v w. same (read v) (read w)) a b
   unfolding texts_by
   same_texts = equal_items-map (λ (p : K × V). (see p.0, read p.1)) _ a b
 
   -- what the two have at a text is what they have at a key that has the text
-  found_both : (bs : List ℕ) → same_at bytes_eq same (texts_by see read a) (texts_by see read b) bs ≡ option_eq (λ v w. same (read v) (read w)) (lookup (λ k. bytes_eq bs (see k)) a) (lookup (λ k. bytes_eq bs (see k)) b)
+  found_both : (bs : List ℕ)
+      → same_at bytes_eq same (texts_by see read a)
+      (texts_by see read b) bs ≡ option_eq (λ v w. same (read v) (read w))
+      (lookup (λ k. bytes_eq bs (see k)) a) (lookup (λ k. bytes_eq bs (see k)) b)
   found_both bs = grind (arith, at_texts see read bs a, at_texts see read bs b)
 
-  found_at_key : (bs : List ℕ) (k : K) → bytes_eq bs (see k) ≡ true → same_at (on see bytes_eq) (λ v w. same (read v) (read w)) a b k ≡ true → option_eq (λ v w. same (read v) (read w)) (lookup (λ k. bytes_eq bs (see k)) a) (lookup (λ k. bytes_eq bs (see k)) b) ≡ true
+  found_at_key : (bs : List ℕ) (k : K) → bytes_eq bs (see k) ≡ true
+      → same_at (on see bytes_eq) (λ v w. same (read v) (read w)) a b k ≡ true
+      → option_eq (λ v w. same (read v) (read w)) (lookup (λ k. bytes_eq bs (see k)) a)
+      (lookup (λ k. bytes_eq bs (see k)) b) ≡ true
   found_at_key bs k matches are =
-      subst (λ test. option_eq (λ v w. same (read v) (read w)) (lookup test a) (lookup test b) ≡ true) (sym (matched_test (λ k. bytes_eq bs (see k)) a (on see bytes_eq) k (probes_by see bs) matches)) are
+      subst (λ test. option_eq (λ v w. same (read v) (read w)) (lookup test a) (lookup test b)
+            ≡ true) (sym (matched_test (λ k. bytes_eq bs (see k)) a (on see bytes_eq) k
+              (probes_by see bs) matches)) are
 
-  at_each_text : ((k : K) → IsTrue (same_at (on see bytes_eq) (λ v w. same (read v) (read w)) a b k)) → (bs : List ℕ) → IsTrue (same_at bytes_eq same (texts_by see read a) (texts_by see read b) bs)
+  at_each_text : ((k : K) → IsTrue
+        (same_at (on see bytes_eq) (λ v w. same (read v) (read w)) a b k)) → (bs : List ℕ)
+      → IsTrue (same_at bytes_eq same (texts_by see read a) (texts_by see read b) bs)
   at_each_text each bs =
       let test = λ (k : K). bytes_eq bs (see k) in
       found_both bs ∙ by_test test a _
-      (λ n. by_test test b _ (λ m. grind (arith, n.value, m.value)) (λ i f. found_at_key bs f.pair.0 f.passes (each f.pair.0)))
+      (λ n. by_test test b _ (λ m. grind (arith, n.value, m.value))
+            (λ i f. found_at_key bs f.pair.0 f.passes (each f.pair.0)))
       (λ i f. found_at_key bs f.pair.0 f.passes (each f.pair.0))
 
-  at_each_key : ((bs : List ℕ) → IsTrue (same_at bytes_eq same (texts_by see read a) (texts_by see read b) bs)) → (k : K) → IsTrue (same_at (on see bytes_eq) (λ v w. same (read v) (read w)) a b k)
+  at_each_key : ((bs : List ℕ)
+        → IsTrue (same_at bytes_eq same (texts_by see read a) (texts_by see read b) bs)) → (k : K)
+      → IsTrue (same_at (on see bytes_eq) (λ v w. same (read v) (read w)) a b k)
   at_each_key each k = sym (found_both (see k)) ∙ each (see k)
 
 -- which a search finds for `String` and `&str` as keys, with values as they are, and for `String` as both
 module _ {V : Type 0} (same : V → V → Bool) where
   module _ {Z : Type 0} (a b : List (String Z × V)) where
-    pub each_text : ((k : String Z) → IsTrue (same_at string_eq same a b k)) → (bs : List ℕ) → IsTrue (same_at bytes_eq same (key_texts a) (key_texts b) bs)
+    pub each_text : ((k : String Z) → IsTrue (same_at string_eq same a b k)) → (bs : List ℕ)
+        → IsTrue (same_at bytes_eq same (key_texts a) (key_texts b) bs)
     each_text each = at_each_text string_bytes (λ v. v) same a b each
 
-    pub each_key : ((bs : List ℕ) → IsTrue (same_at bytes_eq same (key_texts a) (key_texts b) bs)) → (k : String Z) → IsTrue (same_at string_eq same a b k)
+    pub each_key : ((bs : List ℕ) → IsTrue (same_at bytes_eq same (key_texts a) (key_texts b) bs))
+        → (k : String Z) → IsTrue (same_at string_eq same a b k)
     each_key each = at_each_key string_bytes (λ v. v) same a b each
 
   module _ (a b : List (Bor (List ℕ) × V)) where
-    pub each_str_text : ((k : Bor (List ℕ)) → IsTrue (same_at str_eq same a b k)) → (bs : List ℕ) → IsTrue (same_at bytes_eq same (key_strs a) (key_strs b) bs)
+    pub each_str_text : ((k : Bor (List ℕ)) → IsTrue (same_at str_eq same a b k)) → (bs : List ℕ)
+        → IsTrue (same_at bytes_eq same (key_strs a) (key_strs b) bs)
     each_str_text each = at_each_text (λ s. s.now) (λ v. v) same a b each
 
-    pub each_str : ((bs : List ℕ) → IsTrue (same_at bytes_eq same (key_strs a) (key_strs b) bs)) → (k : Bor (List ℕ)) → IsTrue (same_at str_eq same a b k)
+    pub each_str : ((bs : List ℕ) → IsTrue (same_at bytes_eq same (key_strs a) (key_strs b) bs))
+        → (k : Bor (List ℕ)) → IsTrue (same_at str_eq same a b k)
     each_str each = at_each_key (λ s. s.now) (λ v. v) same a b each
 
 module _ {Y Z : Type 0} (a b : List (String Y × String Z)) where
-  pub each_both_text : ((k : String Y) → IsTrue (same_at string_eq string_eq a b k)) → (bs : List ℕ) → IsTrue (same_at bytes_eq bytes_eq (texts a) (texts b) bs)
+  pub each_both_text : ((k : String Y) → IsTrue (same_at string_eq string_eq a b k)) → (bs : List ℕ)
+      → IsTrue (same_at bytes_eq bytes_eq (texts a) (texts b) bs)
   each_both_text each = at_each_text string_bytes string_bytes bytes_eq a b each
 
-  pub each_both_key : ((bs : List ℕ) → IsTrue (same_at bytes_eq bytes_eq (texts a) (texts b) bs)) → (k : String Y) → IsTrue (same_at string_eq string_eq a b k)
+  pub each_both_key : ((bs : List ℕ) → IsTrue (same_at bytes_eq bytes_eq (texts a) (texts b) bs))
+      → (k : String Y) → IsTrue (same_at string_eq string_eq a b k)
   each_both_key each = at_each_key string_bytes string_bytes bytes_eq a b each
 
 -- the key at which two maps differ first, by its text
 module _ {K V W : Type 0} (see : K → List ℕ) (read : V → W) (same : W → W → Bool) where
-  unequal_texts : (a b : List (K × V)) → first_unequal bytes_eq same (texts_by see read a) (texts_by see read b) ≡ option_map see (first_unequal (on see bytes_eq) (λ v w. same (read v) (read w)) a b)
+  unequal_texts : (a b : List (K × V))
+      → first_unequal bytes_eq same (texts_by see read a)
+      (texts_by see read b) ≡ option_map see
+      (first_unequal (on see bytes_eq) (λ v w. same (read v) (read w)) a b)
   unfolding texts_by
   unequal_texts [] b = refl
   unequal_texts (p ∷ a) b = grind (arith, unequal_texts a b, at_texts see read (see p.0) b)
 
-  missing_texts : (a b : List (K × V)) → first_missing bytes_eq same (texts_by see read b) (texts_by see read a) ≡ option_map see (first_missing (on see bytes_eq) (λ v w. same (read v) (read w)) b a)
+  missing_texts : (a b : List (K × V))
+      → first_missing bytes_eq same (texts_by see read b)
+      (texts_by see read a) ≡ option_map see
+      (first_missing (on see bytes_eq) (λ v w. same (read v) (read w)) b a)
   unfolding texts_by
   missing_texts a [] = refl
   missing_texts a (p ∷ b) = grind (arith, missing_texts a b, at_texts see read (see p.0) a)
 
-  pub differs_texts : (a b : List (K × V)) → first_difference bytes_eq same (texts_by see read a) (texts_by see read b) ≡ option_map see (first_difference (on see bytes_eq) (λ v w. same (read v) (read w)) a b)
+  pub differs_texts : (a b : List (K × V))
+      → first_difference bytes_eq same (texts_by see read a)
+      (texts_by see read b) ≡ option_map see
+      (first_difference (on see bytes_eq) (λ v w. same (read v) (read w)) a b)
   differs_texts a b = grind (arith, unequal_texts a b, missing_texts a b)
 
 -- what is printed of texts: the text that a map prints is that of its texts, and is known if its values' texts are
-module _ {K V W : Type 0} (see : K → List ℕ) (read : V → W) (value_text : W → Option (List ℕ)) (pairs : List (K × V)) where
-  pub text_of_texts : (map_text (λ name. Some name) value_text (texts_by see read pairs) ≡ map_text (λ k. Some (see k)) (λ v. value_text (read v)) pairs) × (((v : V) → is_some (value_text (read v)) ≡ true) → is_some (map_text (λ k. Some (see k)) (λ v. value_text (read v)) pairs) ≡ true)
+module _ {K V W : Type 0} (see : K → List ℕ) (read : V → W) (value_text : W → Option (List ℕ))
+    (pairs : List (K × V)) where
+  pub text_of_texts : (map_text (λ name. Some name) value_text (texts_by see read pairs)
+        ≡ map_text (λ k. Some (see k)) (λ v. value_text (read v)) pairs)
+      × (((v : V) → is_some (value_text (read v)) ≡ true)
+        → is_some (map_text (λ k. Some (see k)) (λ v. value_text (read v)) pairs) ≡ true)
   unfolding texts_by
   text_of_texts = (
-    ap (λ items. Some (codes "{") ++? items ++? Some (codes "}")) (printed-map _ (pair_text (λ name. Some name) value_text) [] pairs),
+    ap (λ items. Some (codes "{") ++? items ++? Some (codes "}"))
+        (printed-map _ (pair_text (λ name. Some name) value_text) [] pairs),
     λ known. map_text_known (λ k. Some (see k)) (λ v. value_text (read v)) (λ k. refl) known pairs,
   )
 
-pub ruleset text_views = (texts_empty, at_key_texts, at_texts, pair_texts, pair_matched, pair_matched_str, matched_texts, texts_take_out_matched, texts_put, texts_take_out, has_texts, at_made, unique_texts, texts_front, texts_drop, length_texts, same_texts, differs_texts, each_text, each_key, each_str_text, each_str, each_both_text, each_both_key, text_of_texts, values_texts)
+pub ruleset text_views = (texts_empty, at_key_texts, at_texts, pair_texts, pair_matched,
+      pair_matched_str, matched_texts, texts_take_out_matched, texts_put, texts_take_out, has_texts,
+      at_made, unique_texts, texts_front, texts_drop, length_texts, same_texts, differs_texts,
+      each_text, each_key, each_str_text, each_str, each_both_text, each_both_key, text_of_texts,
+      values_texts)

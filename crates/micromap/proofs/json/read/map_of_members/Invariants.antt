@@ -7,4 +7,6 @@ use Rattle.micromap.proofs.JsonReading.{HasRead}
 use Rattle.micromap.proofs.json.read.map_of_members.Given as goal
 
 abbrev pub invariant-loop-name : goal.invariant-loop-name
-invariant-loop-name g l = HasRead (put_pair bytes_eq) g.row.N (whole_members (members_view l.fn.members.entries)) (whole_members (members_view l.name-iterator)) (key_texts l.map) l.all_fit
+invariant-loop-name g l =
+    HasRead (put_pair bytes_eq) g.row.N (whole_members (members_view l.fn.members.entries))
+    (whole_members (members_view l.name-iterator)) (key_texts l.map) l.all_fit

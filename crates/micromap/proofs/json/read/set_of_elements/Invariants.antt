@@ -7,4 +7,6 @@ use Rattle.micromap.proofs.JsonReading.{HasRead}
 use Rattle.micromap.proofs.json.read.set_of_elements.Given as goal
 
 abbrev pub invariant-loop-element : goal.invariant-loop-element
-invariant-loop-element g l = HasRead (put_item bytes_eq) g.row.N (all_texts (items_view l.fn.elements.items)) (all_texts (items_view l.element-iterator.rest.items)) (item_texts l.set) l.all_fit
+invariant-loop-element g l =
+    HasRead (put_item bytes_eq) g.row.N (all_texts (items_view l.fn.elements.items))
+    (all_texts (items_view l.element-iterator.rest.items)) (item_texts l.set) l.all_fit

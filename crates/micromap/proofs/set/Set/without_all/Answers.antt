@@ -10,6 +10,9 @@ loop-x-preserved g c =
     record {
       can = goes.0;
       finite = goes.1;
-      removed = c.remove.ensures.items ∙ ap (λ kept. take_item g.T.PartialEq.eq kept c.in-Some.x.now) l.invariant.removed ∙ sym (fold_push (λ kept x. take_item g.T.PartialEq.eq kept x.now) c.args.set l.yielded c.in-Some.x);
+      removed = c.remove.ensures.items
+          ∙ ap (λ kept. take_item g.T.PartialEq.eq kept c.in-Some.x.now) l.invariant.removed
+          ∙ sym (fold_push (λ kept x. take_item g.T.PartialEq.eq kept x.now) c.args.set l.yielded
+            c.in-Some.x);
       content = c.remove.ensures.content.1;
     }

@@ -5,4 +5,5 @@ use Rattle.micromap_core.proofs.map.Map.clone.Given as goal
 
 -- the map's pairs are the clones of the first ones
 abbrev pub invariant-loop-index : goal.invariant-loop-index
-invariant-loop-index g l = AllZip (IsPairClone g.K.Clone.is_clone g.V.Clone.is_clone) (take l.index l.self) l.map
+invariant-loop-index g l =
+    AllZip (IsPairClone g.K.Clone.is_clone g.V.Clone.is_clone) (take l.index l.self) l.map

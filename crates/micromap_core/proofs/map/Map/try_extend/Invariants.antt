@@ -9,6 +9,7 @@ invariant-loop-key g l = record {
   can : (goal.iterator-loop-key g).can_next l.key-iterator;
   finite : (goal.iterator-loop-key g).is_finite l.key-iterator;
   counted : l.at + (goal.iterator-loop-key g).remaining l.key-iterator ≤ most_items;
-  put : HasPut (pair_fits g.K.PartialEq.eq g.row.N) (put_pair g.K.PartialEq.eq) l.initial.self l.yielded l.at l.self;
+  put : HasPut (pair_fits g.K.PartialEq.eq g.row.N)
+      (put_pair g.K.PartialEq.eq) l.initial.self l.yielded l.at l.self;
   content : IsContent g.K.PartialEq.eq g.row.N l.self;
 }

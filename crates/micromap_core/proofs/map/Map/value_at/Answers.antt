@@ -4,13 +4,19 @@ use Rattle.micromap_core.proofs.MapLemmas.{IsContent-with_value_at, IsUnique-wit
 use Rattle.micromap_core.proofs.map.Map.value_at.Goals as goal
 
 pub invariant_of-self-lent : goal.invariant_of-self-lent
-invariant_of-self-lent g c w = IsUnique-with_value_at g.K.PartialEq.eq g.met.K.Eq.laws c.self.inside.pairs c.self.invariant c.args.index w
+invariant_of-self-lent g c w =
+    IsUnique-with_value_at g.K.PartialEq.eq g.met.K.Eq.laws c.self.inside.pairs c.self.invariant
+    c.args.index w
 
 pub value_at-requires : goal.value_at-requires
-value_at-requires g c = (columns_fit g.row.K g.row.V g.row.N g.K.PartialEq.eq assumption, rw c.self.view_is c.requires)
+value_at-requires g c = (columns_fit g.row.K g.row.V g.row.N g.K.PartialEq.eq assumption,
+      rw c.self.view_is c.requires)
 
 pub returns : goal.returns
 returns g c = (
   (refl, λ w. rw (← c.self.view_is) refl),
-  record { writes_back = tt; value = rw (← c.self.view_is) c.value_at.ensures.value; content = λ v. rw (← c.self.view_is) (IsContent-with_value_at c.self.inside.pairs c.args.index v g.K.PartialEq.eq g.row.N c.len-content.ensures.content) },
+  record { writes_back = tt; value = rw (← c.self.view_is) c.value_at.ensures.value; content =
+        λ v. rw (← c.self.view_is)
+        (IsContent-with_value_at c.self.inside.pairs c.args.index v g.K.PartialEq.eq g.row.N
+          c.len-content.ensures.content) },
 )

@@ -10,7 +10,10 @@ loop-key-preserved-in-Some g c =
     record {
       can = goes.0;
       finite = goes.1;
-      removed = c.remove.ensures.pairs ∙ ap (λ pairs. take_out g.K.PartialEq.eq pairs c.in-Some.key.now) l.invariant.removed ∙ sym (fold_push (λ pairs x. take_out g.K.PartialEq.eq pairs x.now) c.args.map l.yielded c.in-Some.key);
+      removed = c.remove.ensures.pairs
+          ∙ ap (λ pairs. take_out g.K.PartialEq.eq pairs c.in-Some.key.now) l.invariant.removed
+          ∙ sym (fold_push (λ pairs x. take_out g.K.PartialEq.eq pairs x.now) c.args.map l.yielded
+            c.in-Some.key);
       content = c.remove.ensures.content.1;
     }
 
@@ -21,6 +24,9 @@ loop-key-preserved g c =
     record {
       can = goes.0;
       finite = goes.1;
-      removed = c.remove.ensures.pairs ∙ ap (λ pairs. take_out g.K.PartialEq.eq pairs c.in-Some.key.now) l.invariant.removed ∙ sym (fold_push (λ pairs x. take_out g.K.PartialEq.eq pairs x.now) c.args.map l.yielded c.in-Some.key);
+      removed = c.remove.ensures.pairs
+          ∙ ap (λ pairs. take_out g.K.PartialEq.eq pairs c.in-Some.key.now) l.invariant.removed
+          ∙ sym (fold_push (λ pairs x. take_out g.K.PartialEq.eq pairs x.now) c.args.map l.yielded
+            c.in-Some.key);
       content = c.remove.ensures.content.1;
     }

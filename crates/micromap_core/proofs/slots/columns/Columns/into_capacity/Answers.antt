@@ -8,4 +8,5 @@ into_capacity-requires g c =
 
 pub into_capacity-requires-2 : goal.into_capacity-requires-2
 into_capacity-requires-2 g c =
-    (search rules, omega (arith, as_long _ _ _ c.self.invariant c.self.view_is, c.requires, c.self.invariant))
+    (search rules, omega (arith, as_long _ _ _ c.self.invariant c.self.view_is, c.requires,
+            c.self.invariant))
