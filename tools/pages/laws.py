@@ -11,18 +11,24 @@ SECTIONS = {
     "The laws of a set": ("micromap", "micromap_core"),
     "The laws of comparison": ("micromap_core", "micromap"),
 }
-EXPORTS = "crates/micromap/proofs/Lib.antt"
+EXPORTS = ("crates/micromap/proofs/Lib.antt", "crates/micromap/proofs/laws.antt")
 NAME = r"(?<!clause )(?<!\[)`([\w.'-]+)`"
 WIDTH = 110
 
 
+def files(crate):
+    """The files of a crate's proofs that aren't one function's, and of its laws for callers."""
+    return sorted(it for folder in ("", "laws/") for it in glob.glob(f"crates/{crate}/proofs/{folder}*.antt"))
+
+
 def laws_of(crate):
     """The modules and the statements of a crate's public laws, by their names."""
-    found, exported = {}, read(EXPORTS)
-    for path in sorted(glob.glob(f"crates/{crate}/proofs/*.antt")):
+    found, exported = {}, "".join(map(read, EXPORTS))
+    for path in files(crate):
         module = os.path.basename(path).removesuffix(".antt")
-        is_ours = re.search(rf"^pub (?:mod |use Rattle\.\w+\.proofs\.){module}$", exported, re.M)
-        home = f"Rattle.{'micromap' if is_ours else crate}.proofs.{module}"
+        is_ours = re.search(rf"^pub (?:mod |use Rattle\.\w+\.proofs\.(?:laws\.)?){module}$", exported, re.M)
+        within = "laws." if "/laws/" in path or is_ours and is_ours[0].startswith("pub use") else ""
+        home = f"Rattle.{'micromap' if is_ours else crate}.proofs.{within}{module}"
         for _, name, text in re.findall(r"^( *)pub ([\w'-]+) :(.*(?:\n\1 +\S.*)*)", read(path), re.M):
             found[name] = home, " ".join(text.split())
     return found
@@ -69,13 +75,13 @@ def places(section):
 
 def wrong_of(section, known, title):
     """The names in those places that are no law, no module and no lemma of the standard library."""
-    proofs = "".join(read(it) for it in glob.glob("crates/micromap*/proofs/*.antt"))
+    proofs = "".join(read(it) for it in files("micromap*"))
     imported = re.findall(r"^use Rattle\.std\.[\w.]+\.\{(.*)\}", proofs, re.M)
     standard = {it for names in imported for it in names.split(", ")}
     for it in (it for place in places(section) for it in re.findall(NAME, place)):
         module, dot, name = it.rpartition(".")
         is_law = name in standard or name in known and known[name][0].endswith(dot + module)
-        if not is_law and not glob.glob(f"crates/micromap*/proofs/{it}.antt"):
+        if not is_law and not any(path.endswith(f"/{it}.antt") for path in files("micromap*")):
             yield f"crates/micromap/PROVING.md: {title} names {it}, which is no law"
 
 

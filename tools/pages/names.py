@@ -40,7 +40,7 @@ def are_promised(text):
 
 def names_of(path):
     """The names of a file of specs/ or proofs/ that callers rest on, with what each says."""
-    text, (_, crate, folder, file) = read(path), path.split("/")
+    text, (_, crate, folder, *_, file) = read(path), path.split("/")
     module, is_promised = f"{crate}.{file.removesuffix('.antt')}", are_promised(text)
     for kind, name, says in stated(text):
         if kind == "ruleset":
@@ -69,7 +69,8 @@ def names(sources):
     checksum of what it says."""
     found = [*calls_of(sources)]
     for folder in (f"crates/{crate}/{it}" for it in ("specs", "proofs") for crate in LIBRARY):
-        paths = sorted(it for it in glob.glob(f"{folder}/*.antt") if not it.endswith("/Lib.antt"))
+        paths = sorted([*glob.glob(f"{folder}/*.antt"), *glob.glob(f"{folder}/laws/*.antt")], key=os.path.basename)
+        paths = [it for it in paths if os.path.basename(it) not in ("Lib.antt", "laws.antt")]
         found += [one for path in paths for one in names_of(path)]
     for required, kind in ((False, "clause"), (True, "precondition")):
         found += [(f"{kind} {it.name}", it.text) for it in sources.clauses(required) if is_public(it.item)]

@@ -11,15 +11,11 @@ pub returns : goal.returns
 unfolding symmetric_difference symmetric_left
 returns g c =
     let eq = g.T.PartialEq.eq in
-    let unique = IsDistinct-symmetric_difference g.met.T.Eq.laws c.args.self.now c.args.other.now
-        c.difference.ensures.unique c.difference-2.ensures.unique in
+    let unique = IsDistinct-symmetric_difference g.met.T.Eq.laws c.args.self.now c.args.other.now c.difference.ensures.unique c.difference-2.ensures.unique in
     record {
-      walk = λ i. record { first = c.difference.ensures.walk i; second =
-            c.difference-2.ensures.walk i };
+      walk = λ i. record { first = c.difference.ensures.walk i; second = c.difference-2.ensures.walk i };
       items = λ i. c.difference.ensures.items i ++ c.difference-2.ensures.items i;
-      bounded = omega (arith, c.difference.ensures.bounded, c.difference-2.ensures.bounded,
-            length-append (difference_left eq c.difference.result)
-            (difference_left eq c.difference-2.result));
+      bounded = omega (arith, c.difference.ensures.bounded, c.difference-2.ensures.bounded, length-append (difference_left eq c.difference.result) (difference_left eq c.difference-2.result));
       unique = unique;
       builds = added_all g.met.T.Eq.laws _ unique;
       turned = symmetric_difference_turned g.met.T.Eq.laws _ _;

@@ -9,7 +9,6 @@ invariant-loop-x g l = record {
   can : (goal.iterator-loop-x g).can_next l.x-iterator;
   finite : (goal.iterator-loop-x g).is_finite l.x-iterator;
   counted : l.at + (goal.iterator-loop-x g).remaining l.x-iterator ≤ most_items;
-  put : HasPut (item_fits g.T.PartialEq.eq g.row.N)
-      (put_item g.T.PartialEq.eq) l.initial.self l.yielded l.at l.self;
+  put : HasPut (item_fits g.T.PartialEq.eq g.row.N) (put_item g.T.PartialEq.eq) l.initial.self l.yielded l.at l.self;
   content : IsItems g.T.PartialEq.eq g.row.N l.self;
 }

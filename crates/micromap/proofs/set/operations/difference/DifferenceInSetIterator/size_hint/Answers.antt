@@ -5,13 +5,8 @@ use Rattle.micromap.proofs.set.operations.difference.DifferenceInSetIterator.siz
 
 pub returns-clause-lower : goal.returns-clause-lower
 unfolding difference_left
-returns-clause-lower g c =
-    λ _. rw (← c.self.view_is)
-    (omega (arith, length-difference g.met.T.Eq.laws c.self.inside.rest c.self.inside.other.now
-        c.self.invariant))
+returns-clause-lower g c = λ _. rw (← c.self.view_is) (omega (arith, length-difference g.met.T.Eq.laws c.self.inside.rest c.self.inside.other.now c.self.invariant))
 
 pub returns-clause-upper : goal.returns-clause-upper
 unfolding difference_left
-returns-clause-upper g c =
-    (tt {0}, rw (← c.self.view_is)
-      (omega (arith, length-parts g.T.PartialEq.eq c.self.inside.rest c.self.inside.other.now)))
+returns-clause-upper g c = (tt {0}, rw (← c.self.view_is) (omega (arith, length-parts g.T.PartialEq.eq c.self.inside.rest c.self.inside.other.now)))

@@ -5,7 +5,4 @@ use Rattle.micromap.proofs.set.operations.intersection.IntersectionInSetIterator
 
 pub returns-clause-upper : goal.returns-clause-upper
 unfolding intersection_left
-returns-clause-upper g c =
-    (tt {0}, rw (← c.self.view_is)
-      (omega (arith, length-intersection g.met.T.Eq.laws c.self.inside.rest c.self.inside.other.now
-          c.self.invariant)))
+returns-clause-upper g c = (tt {0}, rw (← c.self.view_is) (omega (arith, length-intersection g.met.T.Eq.laws c.self.inside.rest c.self.inside.other.now c.self.invariant)))
