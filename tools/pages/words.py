@@ -118,8 +118,12 @@ IntoKeysFits K.row V.row N.row | an `IntoKeys<K, V, N>` has fewer than 2^63 byte
 IntoValuesFits K.row V.row N.row | an `IntoValues<K, V, N>` has fewer than 2^63 bytes
 is_occupied e |
 is_same eq same first second |
+item_strs items | a set's `&str` items, by their bytes
+item_texts items | a set's `String` items, by their bytes
 IsSound eq e |
 ItemMisfitIn eq N old items position | `position` is that of the first of the items that doesn't fit a set of capacity `N` with `old`
+key_strs pairs | the pairs with each `&str` key as its bytes
+key_texts pairs | the pairs with each `String` key as its bytes
 map_text key_text value_text pairs |
 MapFits K.row V.row N.row K.eq | a `Map<K, V, N>` has fewer than 2^63 bytes, so that it can be a local
 MapReads eq N old new read | `read` is what a reading of a map of capacity `N` may return from a source that is `old` before it and `new` after it
@@ -140,9 +144,12 @@ read_fault_text fault_text fault |
 Same eq same first second | each pair of either list has an equal key with an equal value in the other
 SetFits T.row N.row T.eq | a `Set<T, N>` has fewer than 2^63 bytes, so that it can be a local
 SetIntoIterFits T.row N.row | an `IntoIter<T, N>` of a set, which `drain` and a loop by value make, has fewer than 2^63 bytes
+str_eq s t | `==` of `&str`: the texts have the same bytes
+strs pairs | the pairs with each `&str` key and value as its bytes
 symmetric_hint w | a lower and an upper bound of how many members a symmetric difference has left at `w`
 symmetric_left eq w | the members that a symmetric difference has left at `w`
 symmetric_on eq w | where a call of `next` leads a symmetric difference from `w`: past the next member, or to the end if there is none
+texts pairs | the pairs with each `String` key and value as its bytes
 union_hint w | a lower and an upper bound of how many members a union has left at `w`
 union_left eq w | the members that a union has left at `w`
 union_on eq w | where a call of `next` leads a union from `w`: past the next member, or to the end if there is none

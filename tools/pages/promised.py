@@ -1,0 +1,101 @@
+"""crates/micromap/LAWS.md: each law that is promised to callers, with its statement, by the file that has it."""
+import glob
+import os
+import re
+
+from pages.sources import read
+
+LAWS = "crates/micromap/LAWS.md"
+FOLDERS = ("crates/micromap_core/proofs/laws", "crates/micromap/proofs/laws")
+WIDTH = 110
+COMMENT = r"(?:^ *--.*\n)+"
+MODULE = r"^ *module _ .*\n(?:^ +[({].*\n)*"
+LAW = r"^ *pub [\w'≢-]+ :.*\n(?:^ +(?:[({→×↔≡∷+|&]|\().*\n)*"
+INTRO = """# The laws of micromap
+
+Each law below is promised to callers: it is proved, and it keeps its name and its statement. The line above a block is the
+module that has its laws. The rulesets of `micromap::proofs::Rules` have those that a search needs, so most callers name
+none; [PROVING](PROVING.md) says when one is named. A line `module _` has what the laws below it, further in, share. What
+stands in braces is found by the checker. [API](API.md) explains the words. `rt lemma NAME` prints a law too.
+"""
+
+
+def title_of(path):
+    """The name of a file of laws, in words."""
+    return re.sub(r"(?<=[a-z])(?=[A-Z])", " ", os.path.basename(path).removesuffix(".antt")).capitalize()
+
+
+def first_comment(text):
+    """The comment that a file begins with, without its marks."""
+    lines = re.match(COMMENT, text, re.M)[0].rstrip("\n").split("\n")
+    words = " ".join(it.removeprefix("--").strip() for it in lines).removeprefix("For callers: ")
+    return words[0].upper() + words[1:]
+
+
+def parts_of(statement):
+    """The parts of a statement between its outer arrows."""
+    depth, parts = 0, [""]
+    for it in re.split(r"([(){}]| → )", statement):
+        depth += (it in ("(", "{")) - (it in (")", "}"))
+        if it == " → " and not depth:
+            parts.append("")
+        else:
+            parts[-1] += it
+    return parts
+
+
+def broken(indent, text):
+    """A statement in one line, or in several that begin with an arrow."""
+    lines = [indent]
+    for number, part in enumerate(parts_of(text)):
+        joined = f"{lines[-1]} → {part}" if number else indent + part
+        if len(joined) <= WIDTH or not number:
+            lines[-1] = joined
+        else:
+            lines.append(f"{indent}    → {part}")
+    return "\n".join(lines)
+
+
+def laws_in(text):
+    """The statements of a file's public laws, with the arguments that they share and the comments before them."""
+    lines, comment = [], ""
+    for block in re.findall(f"{COMMENT}|{MODULE}|{LAW}|^.+\n|^\n", text[re.match(COMMENT, text, re.M).end() :], re.M):
+        first = block.lstrip(" ")
+        indent, flat = block[: len(block) - len(first)], " ".join(block.split())
+        if first.startswith("--"):
+            comment = block.rstrip("\n")
+        elif first.startswith("module _") and not indent and lines:
+            lines += ["", *[comment] * bool(comment), broken(indent, flat)]
+            comment = ""
+        elif first.startswith(("module _", "pub ")) and not first.startswith(("pub ruleset", "pub record", "pub abbrev")):
+            lines += [comment] * bool(comment) + [broken(indent, flat.removeprefix("pub "))]
+            comment = ""
+        elif block.strip():
+            comment = ""
+    return "\n".join(lines)
+
+
+def shared_lines(text):
+    """The text without lines `module _` under which no law is left."""
+    lines = text.split("\n")
+    kept = []
+    for number, line in enumerate(lines):
+        depth = len(line) - len(line.lstrip(" "))
+        later = next((it for it in lines[number + 1 :] if it.strip() and not it.lstrip().startswith(("--", "→"))), "")
+        if line.lstrip().startswith("module _") and len(later) - len(later.lstrip(" ")) <= depth:
+            continue
+        kept.append(line)
+    return "\n".join(kept)
+
+
+def section(path):
+    """The section of a file."""
+    text, module = read(path), os.path.basename(path).removesuffix(".antt")
+    block = f"-- Rattle.micromap.proofs.laws.{module}\n{shared_lines(laws_in(text))}"
+    return f"## {title_of(path)}\n\n{first_comment(text)}\n\n```text\n{block}\n```"
+
+
+def promised():
+    """The page."""
+    paths = [it for folder in FOLDERS for it in sorted(glob.glob(f"{folder}/*.antt"))]
+    return "\n\n".join([INTRO.strip(), *map(section, paths)]) + "\n"
