@@ -48,6 +48,12 @@ pub trait Numbers: Drop {
         map.find(key).unwrap_or(0).wrapping_add(map.count())
     }
 
+    /// The same with a call that takes all items, or makes no map if they don't fit, where there is one.
+    #[inline]
+    fn all_and_find(&self, memory: Global, room: u64, first: u64, key: u64) -> u64 {
+        self.collect_and_find(memory, room, first, key)
+    }
+
     /// The same with a call that takes an array, where there is one.
     #[inline]
     fn from_array_and_find(&self, memory: Global, room: u64, first: u64, key: u64) -> u64 {
@@ -224,6 +230,16 @@ fn collect<M: Numbers, const N: usize>(memory: Global, salt: u64, rounds: u64) -
 }
 
 #[inline(never)]
+fn collect_all<M: Numbers, const N: usize>(memory: Global, salt: u64, rounds: u64) -> u64 {
+    let map: M = M::with_room(memory, 0);
+    let mut sum = 0u64;
+    for round in 0..rounds {
+        sum = sum.wrapping_add(map.all_and_find(memory, N as u64, odd(round, salt), sum));
+    }
+    sum
+}
+
+#[inline(never)]
 fn from_array<M: Numbers, const N: usize>(memory: Global, salt: u64, rounds: u64) -> u64 {
     let map: M = M::with_room(memory, 0);
     let mut sum = 0u64;
@@ -260,7 +276,7 @@ fn hand_on<M: Numbers, const N: usize>(memory: Global, salt: u64, rounds: u64) -
 }
 
 /// The names of the workloads, by their numbers.
-pub const NAMES: [&'static str; 13] = [
+pub const NAMES: [&'static str; 14] = [
     "get, hit",
     "get, miss",
     "overwrite",
@@ -272,6 +288,7 @@ pub const NAMES: [&'static str; 13] = [
     "clone",
     "copied",
     "from an iterator",
+    "of all items",
     "from an array",
     "put one, hand on",
 ];
@@ -295,8 +312,9 @@ pub fn run<M: Numbers, const N: usize>(
         8 => cloned::<M, N>(memory, salt, rounds),
         9 => copied::<M, N>(memory, salt, rounds),
         10 => collect::<M, N>(memory, salt, rounds),
-        11 => from_array::<M, N>(memory, salt, rounds),
-        12 => hand_on::<M, N>(memory, salt, rounds),
+        11 => collect_all::<M, N>(memory, salt, rounds),
+        12 => from_array::<M, N>(memory, salt, rounds),
+        13 => hand_on::<M, N>(memory, salt, rounds),
         _ => u64::MAX,
     }
 }
