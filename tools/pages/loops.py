@@ -57,7 +57,9 @@ make a map of pairs, of two lists, of a `Vec` | builds::map_of_list, builds::map
 make a set of items | builds::set_of_list | counts::distinct_items
 make a map, or a set, of any iterator | uses_tests/counts::collected_pairs, uses_tests/counts::collected_items |
 know when a map, or a set, of a list is refused | uses_tests/listed::pairs_of, uses_tests/listed::items_of |
-make a map of what a function makes of each, all or none, or with each one's index | folds::all_halves, folds::numbered |
+make a map, or a set, of what a function makes of each, all or none | wholes::halves, wholes::set_of_all_halves |
+make a map of what a function makes of each, as far as they fit, or with each one's index | wholes::first_halves, folds::numbered |
+make a map, or a set, of what a function makes of each, or know that there are too many | builds::halves_or_none, builds::distinct_halves |
 know when a map, or a set, of what a function makes of each is refused | answered::map_of_mapped, answered::set_of_list |
 make a set of what a function makes of each | builds::set_of_halves |
 count how often each item comes | folds::counted | uses/votes::tally
@@ -79,7 +81,7 @@ make a map of the pairs of a map by value that pass | builds::map_above |
 make a map with other values | copies::halved | built::doubled
 make a map of a list, or of two lists of keys and values, as far as they fit | folds::halves_of_list, folds::zipped |
 make a map with key and value exchanged, as far as they fit | folds::turned |
-make a map with other values of the pairs that pass, as far as they fit | folds::halves |
+make a map with other values of the pairs that pass, all or none; as far as they fit | wholes::low_halves, folds::halves |
 make a map of the pairs that another map lacks | copies::lacking, copies::lacking_any |
 make a map of the pairs of two maps | builds::map_of_maps |
 make a map of the pairs that another map lacks, or has with another value | uses_tests/changed::changed |
