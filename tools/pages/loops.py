@@ -131,10 +131,12 @@ keep some pairs, and know how many were dropped | nested::expire |
 take an item out of each set of a map | nested::drop_everywhere, uses_tests/granted::take_built |
 add an item to a set that is a value, or keep the items of each such set that pass | uses_tests/granted::grant, uses_tests/granted::limit_all |
 keep some pairs, and insert one | uses_tests/copies::keep_and_insert |
+insert a pair unless its key is stored, and know whether there was room | uses_tests/copies::reserve |
 take the first pair, or the first of all and drop the others | uses_tests/generic::take_first, uses_tests/generic::first_drained, uses_tests/generic::first_key, uses_tests/generic::first_item |
 # Searching one and changing another
 put a map into another, up to the first that doesn't fit; as far as it fits | copies::put_map, folds::merged | built::add_all
 put a map into a copy of another, and know exactly when it is refused | | changed::merged
+put a map, or the items of two sets, into another, all or nothing | uses_tests/copies::reprice, uses_tests/copies::add_both |
 put a map by value into another, all or nothing | uses_tests/combined::merge |
 move what `drain` yields into another map | extends::put_drained |
 add a map's amounts to the totals of another | | merged::add_map

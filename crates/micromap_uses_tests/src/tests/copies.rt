@@ -1,10 +1,14 @@
-//! Callers of the calls that copy or read without a loop, none of which has a proof: copies of maps and sets of which pairs
-//! are dropped or changed, both ends of a list, a default for a missing key, and room once pairs are dropped.
-ghost use Rattle.std.specs.Prelude.{◌≡◌, ◌==◌, ◌%◌, ◌+◌, ◌-◌, ◌<◌, IsTrue, filter, length, map, min, nat_eq, nat_lt, slice_get, unwrap_or};
+//! Callers of the calls that copy, read or insert without a loop, none of which has a proof: copies of maps and sets of
+//! which pairs are dropped or changed, both ends of a list, a default for a missing key, room once pairs are dropped, a
+//! pair that is inserted unless its key is stored, and a map or a set put into another, all or nothing.
+ghost use Rattle.std.specs.Prelude.{◌≡◌, ◌==◌, ◌%◌, ◌+◌, ◌-◌, ◌<◌, true, false, Some, None, if◌then◌else◌, IsTrue, IsFalse, OnOk, filter, length, map, min, nat_eq, nat_lt, slice_get, unwrap_or};
+ghost use Rattle.std.specs.Bool.{OnTrue};
 ghost use Rattle.std.specs.Option.{option_map};
-ghost use Rattle.micromap.specs.Pairs.{at, has};
+ghost use Rattle.micromap.specs.Build.{put_all};
+ghost use Rattle.micromap.specs.Extend.{put_all_items};
+ghost use Rattle.micromap.specs.Pairs.{at, has, has_room};
 
-use micromap::{Map, Set};
+use micromap::{Map, Overfull, Set};
 
 // The pairs whose value is over the limit, as a map.
 fn over<const N: usize>(amounts: &Map<u8, u8, N>, limit: u8) -> Map<u8, u8, N>
@@ -72,6 +76,42 @@ fn keep_and_insert<const N: usize>(pairs: &mut Map<u8, u8, N>, limit: u8, key: u
     pairs.insert(key, 0);
 }
 
+// Reserves a seat for a guest, and returns whether it was free, or `None` if no more seats can be reserved.
+fn reserve<const N: usize>(seats: &mut Map<u8, u16, N>, seat: u8, guest: u16) -> Option<bool>
+    ensures answer { result ≡ (if has nat_eq seats.old seat then Some false
+        else if has_room N seats.old then Some true else None) }
+    ensures kept { IsTrue (has nat_eq seats.old seat) → seats.new ≡ seats.old }
+{
+    match seats.try_insert(seat, guest) {
+        Ok(stored) => Some(stored.is_none()),
+        Err(_) => None,
+    }
+}
+
+// Moves to new prices, or stays with the old ones if there is no room for all.
+fn reprice<const N: usize, const M: usize>(
+    prices: &mut Map<u8, u32, N>,
+    new: &Map<u8, u32, M>,
+) -> bool
+    ensures all { OnTrue result (prices.new ≡ put_all nat_eq prices.old new.now) }
+    ensures none { IsFalse result → prices.new ≡ prices.old }
+    ensures refused { IsFalse result → N < length (put_all nat_eq prices.old new.now) }
+{
+    prices.try_extend_from(new).is_ok()
+}
+
+// Adds the items of two sets, up to the first set that doesn't fit as a whole.
+fn add_both<const N: usize>(
+    items: &mut Set<u8, N>,
+    one: &Set<u8, 4>,
+    other: &Set<u8, 4>,
+) -> Result<(), Overfull>
+    ensures { OnOk result (items.new ≡ put_all_items nat_eq (put_all_items nat_eq items.old one.now) other.now) }
+{
+    items.try_extend_from(one)?;
+    items.try_extend_from(other)
+}
+
 #[tactic(auto)]
 mod tests {
     use super::*;
@@ -105,5 +145,27 @@ mod tests {
             keep_and_insert(&mut pairs, 1, 9);
         }
         assert!(rt; pairs.into_iter().eq([(3, 30), (9, 0)]));
+    }
+
+    #[test]
+    fn a_seat_is_reserved_once(rt: HostRuntime) {
+        let mut seats: Map<u8, u16, 1> = Map::new();
+        assert_eq!(rt; reserve(&mut seats, 4, 100), Some(true));
+        assert_eq!(rt; reserve(&mut seats, 4, 200), Some(false));
+        assert_eq!(rt; reserve(&mut seats, 5, 200), None);
+        assert!(rt; seats.into_iter().eq([(4, 100)]));
+    }
+
+    #[test]
+    fn a_map_or_a_set_is_put_whole_or_not_at_all(rt: HostRuntime) {
+        let mut prices: Map<u8, u32, 2> = Map::from([(1, 10), (2, 20)]);
+        assert!(rt; reprice(&mut prices, &Map::from([(2, 25)])));
+        assert!(rt; !reprice(&mut prices, &Map::from([(1, 15), (3, 30)])));
+        assert!(rt; prices.into_iter().eq([(1, 10), (2, 25)]));
+        let mut items: Set<u8, 6> = Set::new();
+        let one = Set::from([1, 2, 3, 4]);
+        let other = Set::from([3, 5, 6, 7]);
+        assert_eq!(rt; add_both(&mut items, &one, &other), Err(Overfull { at: 3 }));
+        assert!(rt; items.into_iter().eq([1, 2, 3, 4]));
     }
 }
