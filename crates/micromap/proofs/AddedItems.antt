@@ -30,8 +30,8 @@ module _ {T : Type 0} {eq : T → T → Bool} (laws : IsEquivalence eq) where
   added_all xs distinct =
       let back = keys_of-entries xs in
       ap (put_all_items eq []) (sym back) ∙ sym (keys_put_all_items eq [] (entries_of xs))
-          ∙ ap keys_of (built_in_turn laws [] (entries_of xs)
-            (subst (IsDistinct eq) (sym back) distinct)) ∙ back
+      ∙ ap keys_of (built_in_turn laws [] (entries_of xs)
+      (subst (IsDistinct eq) (sym back) distinct)) ∙ back
 
   module _ {C : T → T → Type 0} (equal : ClonesAreEqual eq C) where
     -- an item has an equal one among the clones where an equal item has one among their sources
@@ -42,7 +42,7 @@ module _ {T : Type 0} {eq : T → T → Bool} (laws : IsEquivalence eq) where
     clones_alike (x ∷ xs) [] q r clones same = absurd clones
     clones_alike (x ∷ xs) (y ∷ ys) q r clones same =
         let here : eq r y ≡ eq q x = laws.symm r y ∙ sym (laws.congr x y r (equal x y clones.0))
-            ∙ laws.symm x r ∙ sym (laws.congr q r x same) in
+        ∙ laws.symm x r ∙ sym (laws.congr q r x same) in
         (λ i. here i || clones_alike xs ys q r clones.1 same i)
 
 -- of the members, these are left; the clones of those before them are the set
@@ -69,7 +69,7 @@ module _ {T : Type 0} {eq : T → T → Bool} (laws : IsEquivalence eq) {C : T �
   -- what holds of each member holds of the next
   pub next_holds : (P : T → Type 0) → All P members → P x
   next_holds P all = subst P (ap (λ l. get_or l (length c.before) x) (sym whole)
-        ∙ get_or-append_seam c.before x rest x) (all (length c.before) x within)
+      ∙ get_or-append_seam c.before x rest x) (all (length c.before) x within)
 
   -- there is room for its clone, which is new and goes last
   pub clone_fits : (N : ℕ) (y : T) → length members ≤ N → IsTrue (item_fits eq N set y)
@@ -80,8 +80,8 @@ module _ {T : Type 0} {eq : T → T → Bool} (laws : IsEquivalence eq) {C : T �
       → ClonesTo C members rest new
   clones_next {y} distinct clone added =
       let missing : is_member eq set y ≡ false =
-          clones_alike laws equal c.before set x y c.clones (equal x y clone)
-          ∙ new_behind laws c.before x rest (subst (IsDistinct eq) (sym whole) distinct) in
+      clones_alike laws equal c.before set x y c.clones (equal x y clone)
+      ∙ new_behind laws c.before x rest (subst (IsDistinct eq) (sym whole) distinct) in
       record {
         before = c.before ++ x ∷ [];
         split = append_assoc c.before (x ∷ []) rest ∙ whole;

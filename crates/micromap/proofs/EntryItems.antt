@@ -34,5 +34,9 @@ module _ {T : Type 0} where
       → result_map_both keys_of (λ e. e) r ≡ Ok (keys_of pairs)
   items_read_back r pairs read items same =
       ap (result_map_both keys_of (λ e. e))
-          (read (record { unique = items.unique; bounded =
-                rw (length-keys_of pairs) at items.bounded; lawful = items.lawful }) same)
+      (read (record {
+        unique = items.unique;
+        bounded =
+            rw (length-keys_of pairs) at items.bounded;
+        lawful = items.lawful;
+      }) same)

@@ -4,5 +4,16 @@ use Rattle.std.proofs.lemmas.Map.Entries.{length-keys_of}
 use Rattle.std.proofs.lemmas.Option.{slice_get-map}
 use Rattle.micromap.proofs.ItemLemmas.{find-keys, any-keys, fits-keys, take-keys, take_item-keys, replace_item-keys, keys_put_item, checked-keys}
 
-pub ruleset forwarded = (find-keys, any-keys, fits-keys, take-keys, take_item-keys,
-      replace_item-keys, keys_put_item, checked-keys, length-keys_of, drop-map, slice_get-map)
+pub ruleset forwarded = (
+  find-keys,
+  any-keys,
+  fits-keys,
+  take-keys,
+  take_item-keys,
+  replace_item-keys,
+  keys_put_item,
+  checked-keys,
+  length-keys_of,
+  drop-map,
+  slice_get-map,
+)

@@ -56,27 +56,36 @@ module _ {T V : Type 0} where
         → replace_item eq (keys_of pairs) k ≡ keys_of (put_key eq pairs k v)
     unfolding replace_item put_key
     replace_item-keys pairs =
-        grind (arith, any-keys (eq k) pairs, swap-keys (eq k) (set_value (eq k) pairs v) k,
-          keys-set_value (eq k) pairs v, map_push (λ (e : T × V). e.0) pairs (k, v))
+        grind (
+          arith,
+          any-keys (eq k) pairs,
+          swap-keys (eq k) (set_value (eq k) pairs v) k,
+          keys-set_value (eq k) pairs v,
+          map_push (λ (e : T × V). e.0) pairs (k, v),
+        )
 
     pub keys_put_item : (pairs : List (T × V))
         → keys_of (put eq pairs k v) ≡ put_item eq (keys_of pairs) k
     unfolding put_item
-    keys_put_item pairs = grind (arith, any-keys (eq k) pairs, keys_of-put_stored eq pairs k v,
-          keys_of-put_new eq pairs k v)
+    keys_put_item pairs = grind (
+      arith,
+      any-keys (eq k) pairs,
+      keys_of-put_stored eq pairs k v,
+      keys_of-put_new eq pairs k v,
+    )
 
     -- where it fits, the item is added
     pub checked-keys : (N : ℕ) (pairs : List (T × V))
         → (if item_fits eq N (keys_of pairs) k then put_item eq (keys_of pairs) k else keys_of
-          pairs) ≡ keys_of (if fits eq N pairs k then put eq pairs k v else pairs)
+        pairs) ≡ keys_of (if fits eq N pairs k then put eq pairs k v else pairs)
     checked-keys N pairs = grind (arith, fits-keys eq N pairs k, keys_put_item pairs)
 
     -- where it is stored, nothing is changed
     pub tried-keys : (N : ℕ) (pairs : List (T × V))
         → (if item_fits eq N (keys_of pairs) k then put_item eq (keys_of pairs) k else keys_of
-              pairs)
+        pairs)
         ≡ keys_of (if has eq pairs k then pairs else if fits eq N pairs k then put eq pairs k v else
-              pairs)
+        pairs)
     unfolding put_item
     tried-keys N pairs = grind (arith, checked-keys N pairs, any-keys (eq k) pairs)
 
@@ -110,9 +119,9 @@ module _ {T : Type 0} (eq : T → T → Bool) (N : ℕ) where
     each_fits-keys pairs (p ∷ items) =
         let put_keys = sym (keys_put_item eq p.0 p.1 pairs) in
         let rest = ap (λ keys. items_fit keys (keys_of items)) put_keys
-            ∙ each_fits-keys (put eq pairs p.0 p.1) items in
+        ∙ each_fits-keys (put eq pairs p.0 p.1) items in
         ap (λ b. b && items_fit (put_item eq (keys_of pairs) p.0) (keys_of items))
-            (fits-keys eq N pairs p.0) ∙ ap (λ b. fits eq N pairs p.0 && b) rest
+        (fits-keys eq N pairs p.0) ∙ ap (λ b. fits eq N pairs p.0 && b) rest
 
     each_fits-take : (pairs items : List (T × V)) (n : ℕ)
         → items_fit (keys_of pairs) (take n (keys_of items)) ≡ pairs_fit pairs (take n items)
@@ -121,9 +130,11 @@ module _ {T : Type 0} (eq : T → T → Bool) (N : ℕ) where
 
     pub misfit-keys : (pairs items : List (T × V)) (at : ℕ) → MisfitIn eq N pairs items at
         → ItemMisfitIn eq N (keys_of pairs) (keys_of items) at
-    misfit-keys pairs items at misfit =
-        (each_fits-take pairs items at ∙ misfit.0, ap not (each_fits-take pairs items (at + 1))
-          ∙ misfit.1)
+    misfit-keys pairs items at misfit = (
+      each_fits-take pairs items at ∙ misfit.0,
+      ap not (each_fits-take pairs items (at + 1))
+          ∙ misfit.1,
+    )
 
 -- what is cloned pair by pair is cloned key by key
 pub zip-keys : {T V : Type 0} (C : T → T → Type 0) (D : V → V → Type 0) (ps qs : List (T × V))
@@ -137,8 +148,12 @@ zip-keys C D (p ∷ ps) (q ∷ qs) zip = (zip.0.0, zip-keys C D ps qs zip.1)
 pub content_items : {T V : Type 0} {eq : T → T → Bool} {N : ℕ} {pairs : List (T × V)}
     {items : List T} → keys_of pairs ≡ items → IsContent eq N pairs → IsItems eq N items
 content_items {pairs = pairs} seen content =
-    rw (← seen) (record { unique = content.unique; bounded =
-        rw (length-keys_of pairs) content.bounded; lawful = content.lawful })
+    rw (← seen) (record {
+      unique = content.unique;
+      bounded =
+          rw (length-keys_of pairs) content.bounded;
+      lawful = content.lawful;
+    })
 
 -- and no items at all
 pub items_empty : {T : Type 0} {eq : T → T → Bool} {N : ℕ} {items : List T} → Lawful eq → items ≡ []

@@ -31,7 +31,7 @@ pub map_read : (N : ℕ) (text : Bytes) (result : Result Pairs JsonFault)
     → IfOk result (HasPairs N text) × IfOk result (λ map. pairs_for N text ≡ Ok (key_texts map))
     × IfErr result (IsFault (pairs_for N text))
     × ((pairs : Pairs) → HasPairs N text pairs
-      → MatchResult result (λ map. Same string_eq int_eq pairs map) (λ fault. fault ≡ Memory))
+    → MatchResult result (λ map. Same string_eq int_eq pairs map) (λ fault. fault ≡ Memory))
 map_read N text (Ok now) is = (
   (key_texts now, is, bytes_equiv.refl (key_texts now)),
   is,
@@ -39,8 +39,8 @@ map_read N text (Ok now) is = (
   λ pairs has. (
       let read : has.0 ≡ key_texts now = cc (has.1, is) in
       sym (same_texts string_bytes (λ v. v) int_eq pairs now)
-          ∙ bytes_equiv.symm (key_texts pairs) (key_texts now)
-          ∙ subst (λ ms. Same bytes_eq int_eq ms (key_texts pairs)) read has.2),
+      ∙ bytes_equiv.symm (key_texts pairs) (key_texts now)
+      ∙ subst (λ ms. Same bytes_eq int_eq ms (key_texts pairs)) read has.2),
 )
 map_read N text (Err fault) is =
     (tt, tt, inr is, λ pairs has. absurd (true≢false (ap is_ok (sym has.1 ∙ is))))

@@ -42,8 +42,13 @@ pub record HasRead {B : Type 0} (put : List B → B → List B) (N : ℕ) (all r
 
 pub none_read : {B : Type 0} (put : List B → B → List B) (N : ℕ) (all : Option (List B))
     → HasRead put N all all [] true
-none_read put N all = record { before = []; split = sym (option_map_id all); fit =
-      λ _. refl; misfit = λ over. absurd (true≢false over) }
+none_read put N all = record {
+  before = [];
+  split = sym (option_map_id all);
+  fit =
+      λ _. refl;
+  misfit = λ over. absurd (true≢false over);
+}
 
 module _ {B Y : Type 0} {put : List B → B → List B} {N : ℕ} {all rest : Option (List B)}
     {now : List B} {all_fit : Bool} (has : HasRead put N all rest now all_fit) (part : Y → B)
@@ -73,8 +78,16 @@ module _ {B Y : Type 0} {put : List B → B → List B} {N : ℕ} {all rest : Op
       before = has.before ++ part y ∷ [];
       split = rw (has.split, first, is) (joined later);
       fit = λ whole. grind (arith, whole, has.fit, made, fits, more);
-      misfit = λ over. grind (arith, over, has.fit, has.misfit, made, misfits, more,
-            grows (fold put [] has.before));
+      misfit = λ over. grind (
+        arith,
+        over,
+        has.fit,
+        has.misfit,
+        made,
+        misfits,
+        more,
+        grows (fold put [] has.before),
+      );
     }
 
 module _ {B : Type 0} {put : List B → B → List B} {N : ℕ} {all rest : Option (List B)}
@@ -89,7 +102,7 @@ module _ {B : Type 0} {put : List B → B → List B} {N : ℕ} {all rest : Opti
       → and_then (ok_or all fault) (λ parts. items_for N (fold put [] parts)) ≡ Err TooMany
   read_beyond over = rw (has.split, end, append-nil has.before)
       (ap (λ b. if b then Err TooMany else Ok (fold put [] has.before))
-        (lt-ltb N (length (fold put [] has.before)) (has.misfit over)))
+      (lt-ltb N (length (fold put [] has.before)) (has.misfit over)))
 
 -- an element that is a text, in a set
 module _ {N : ℕ} {all : Option (List Bytes)} {rest later : Items} {d : Data}
@@ -101,34 +114,45 @@ module _ {N : ℕ} {all : Option (List Bytes)} {rest later : Items} {d : Data}
       → HasRead (put_item bytes_eq) N all (all_texts later) (item_texts new) (all_fit && fit)
   text_put {fit = fit} answer made =
       read_one has (λ t. t) (all_texts later) (as_str d) (ap all_texts first)
-          (string_bytes x) is (λ texts. grind (arith,
-              length_put_item bytes_eq texts (string_bytes x))) fit
-          (item_texts_put_item string_bytes items string_eq x (λ x y. refl))
-          (λ fits. grind (arith, answer, made, fits))
-      (λ misfit. grind (arith, not_fits string_eq items x N (sym answer ∙ misfit),
-              length_put_item string_eq items x,
-              length_item_texts string_bytes (put_item string_eq items x)))
+      (string_bytes x) is (λ texts. grind (
+        arith,
+        length_put_item bytes_eq texts (string_bytes x),
+      )) fit
+      (item_texts_put_item string_bytes items string_eq x (λ x y. refl))
+      (λ fits. grind (arith, answer, made, fits))
+      (λ misfit. grind (
+        arith,
+        not_fits string_eq items x N (sym answer ∙ misfit),
+        length_put_item string_eq items x,
+        length_item_texts string_bytes (put_item string_eq items x),
+      ))
 
 -- a member whose value is whole, in a map
 module _ {N : ℕ} {all : Option (List (Bytes × ℤ))} {rest later : List Entry} {k : String Global}
     {value : Value} (pairs : Pairs) {all_fit : Bool}
     (has : HasRead (put_pair bytes_eq) N all (whole_members (members_view rest)) (key_texts pairs)
-      all_fit) (first : rest ≡ (k, value) ∷ later) (n : ℤ) (is :
-      whole_number (view value) ≡ Some n) where
+    all_fit) (first : rest ≡ (k, value) ∷ later) (n : ℤ) (is :
+    whole_number (view value) ≡ Some n) where
   pub member_put : {new : Pairs} {fit : Bool} → fit ≡ fits string_eq N pairs k
       → new ≡ put_if_fits string_eq N pairs k n
       → HasRead (put_pair bytes_eq) N all (whole_members (members_view later)) (key_texts new)
       (all_fit && fit)
   member_put {fit = fit} answer made =
       read_one has (λ i. (string_bytes k, i)) (whole_members (members_view later))
-          (whole_number (view value))
-          (ap (λ es. whole_members (members_view es)) first) n is
-          (λ ps. grind (arith, length_put bytes_eq ps (string_bytes k) n)) fit
-          (texts_put string_bytes (λ v. v) k string_eq pairs n (λ x y. refl))
-          (λ fits. grind (arith, answer, made, fits))
-      (λ misfit. grind (arith, answer, misfit, ltb-false (length pairs) N,
-              length_put string_eq pairs k n, length_texts string_bytes (λ v. v)
-              (put string_eq pairs k n)))
+      (whole_number (view value))
+      (ap (λ es. whole_members (members_view es)) first) n is
+      (λ ps. grind (arith, length_put bytes_eq ps (string_bytes k) n)) fit
+      (texts_put string_bytes (λ v. v) k string_eq pairs n (λ x y. refl))
+      (λ fits. grind (arith, answer, made, fits))
+      (λ misfit. grind (
+        arith,
+        answer,
+        misfit,
+        ltb-false (length pairs) N,
+        length_put string_eq pairs k n,
+        length_texts string_bytes (λ v. v)
+            (put string_eq pairs k n),
+      ))
 
 -- the names of an object's whole members
 names_kept : (es : List Entry) (ps : List (Bytes × ℤ)) → whole_members (members_view es) ≡ Some ps
@@ -147,8 +171,8 @@ members_built N es sorted = by (whole_members (members_view es)) refl
     names : IsDistinct bytes_eq (item_texts (keys_of es))
     names = unique_item_texts string_bytes (keys_of es)
         (subst (λ eq. IsDistinct eq (keys_of es))
-          (λ i x y. is_eq-slice_cmp (string_bytes x) (string_bytes y) i)
-          (IsDistinct-from_sorted string_cmp (keys_of es) sorted))
+        (λ i x y. is_eq-slice_cmp (string_bytes x) (string_bytes y) i)
+        (IsDistinct-from_sorted string_cmp (keys_of es) sorted))
 
     by : (o : Option (List (Bytes × ℤ))) → whole_members (members_view es) ≡ o
         → and_then (ok_or o NotWhole)
@@ -156,4 +180,4 @@ members_built N es sorted = by (whole_members (members_view es)) refl
     by None is = refl
     by (Some ps) is = ap (items_for N)
         (built_in_turn nat_list_eq_equiv [] ps
-          (subst (IsDistinct bytes_eq) (sym (names_kept es ps is)) names))
+        (subst (IsDistinct bytes_eq) (sym (names_kept es ps is)) names))

@@ -89,8 +89,18 @@ pub record HasWritten (ms : Members) (rest all : Pairs) : Type 0 where
 
 pub none_written : (all : Pairs) → HasWritten no_members all all
 unfolding texts_by
-none_written all = record { before = []; split = refl; pairs = []; whole = refl; flat =
-      refl; none_is_float = refl; made = refl; alike = λ test. refl; count = refl }
+none_written all = record {
+  before = [];
+  split = refl;
+  pairs = [];
+  whole = refl;
+  flat =
+      refl;
+  none_is_float = refl;
+  made = refl;
+  alike = λ test. refl;
+  count = refl;
+}
 
 -- one more
 pub writes_one : {ms after : Members} {rest later all : Pairs} {k : String Global} {n : ℤ}
@@ -100,13 +110,13 @@ pub writes_one : {ms after : Members} {rest later all : Pairs} {k : String Globa
 unfolding texts_by
 writes_one {ms} {after} {rest} {later} {all} {k} {n} d has distinct first seen is flat made =
     let seam : keys_of all ≡ keys_of has.before ++ k ∷ keys_of later = sym (ap keys_of has.split)
-        ∙ ap (λ r. keys_of (has.before ++ r)) first
-        ∙ map-append (λ p. p.0) has.before ((k, n) ∷ later) in
+    ∙ ap (λ r. keys_of (has.before ++ r)) first
+    ∙ map-append (λ p. p.0) has.before ((k, n) ∷ later) in
     let new : Lacks has.pairs (string_bytes k) = has.alike _ ∙ any-names k has.before
-        ∙ new_behind string_eq_equiv (keys_of has.before) k (keys_of later)
-        (subst (IsDistinct string_eq) seam distinct) in
+    ∙ new_behind string_eq_equiv (keys_of has.before) k (keys_of later)
+    (subst (IsDistinct string_eq) seam distinct) in
     let put_is : after ≡ put (string_bytes k) (number (of_integer n)) ms = made
-        ∙ ap (λ d. put (string_bytes k) d ms) seen in
+    ∙ ap (λ d. put (string_bytes k) d ms) seen in
     record {
       before = has.before ++ (k, n) ∷ [];
       split = append_assoc has.before ((k, n) ∷ []) later ∙ ap (λ r. has.before ++ r) (sym first)
@@ -119,11 +129,18 @@ writes_one {ms} {after} {rest} {later} {all} {k} {n} d has distinct first seen i
       made = put_is ∙ ap (put (string_bytes k) (number (of_integer n))) has.made
           ∙ sym (fold_push _ no_members has.before (k, n));
       alike = λ test. any-insert test has.pairs (string_bytes k) n new
-          ∙ grind (arith, has.alike test,
+          ∙ grind (
+            arith,
+            has.alike test,
             map_push {Y = Bytes × ℤ} (λ p. (string_bytes p.0, p.1)) has.before (k, n),
-            list_any-append test (key_texts has.before) ((string_bytes k, n) ∷ []));
-      count = omega (arith, has.count, length-insert has.pairs (string_bytes k) n new,
-            length_push has.before (k, n));
+            list_any-append test (key_texts has.before) ((string_bytes k, n) ∷ []),
+          );
+      count = omega (
+        arith,
+        has.count,
+        length-insert has.pairs (string_bytes k) n new,
+        length_push has.before (k, n),
+      );
     }
 
 -- lists that have the same items by any test
@@ -132,11 +149,11 @@ same_items : (first second : List (Bytes × ℤ))
     → Same bytes_eq int_eq first second
 same_items first second same =
     let one : list_all (λ x. list_any (pair_eq bytes_eq int_eq x) second) first ≡ true =
-        ap (λ found. list_all found first) (λ i x. same (pair_eq bytes_eq int_eq x) i)
-        ∙ first_so _ _ (bytes_equiv.refl first) in
+    ap (λ found. list_all found first) (λ i x. same (pair_eq bytes_eq int_eq x) i)
+    ∙ first_so _ _ (bytes_equiv.refl first) in
     let other : list_all (λ y. list_any (pair_eq bytes_eq int_eq y) first) second ≡ true =
-        sym (ap (λ found. list_all found second) (λ i x. same (pair_eq bytes_eq int_eq x) i))
-        ∙ first_so _ _ (bytes_equiv.refl second) in
+    sym (ap (λ found. list_all found second) (λ i x. same (pair_eq bytes_eq int_eq x) i))
+    ∙ first_so _ _ (bytes_equiv.refl second) in
     both_true one other
 
 -- the text of these members has the pairs, for any capacity that holds them
@@ -145,12 +162,14 @@ pub written : {ms : Members} {rest all : Pairs} (text : Bytes) → HasWritten ms
     → HasPairs M text all
 written {ms} {all = all} text has none reads_back M short =
     let whole : has.before ≡ all = sym (append-nil has.before)
-        ∙ ap (λ r. has.before ++ r) (sym none) ∙ has.split in
-    let is = reads_back (rw has.flat (omega arith)) in
-    (has.pairs, rw (is, has.whole)
+    ∙ ap (λ r. has.before ++ r) (sym none) ∙ has.split in
+    let is = reads_back (rw has.flat (omega arith)) in (
+      has.pairs,
+      rw (is, has.whole)
           (few M has.pairs (omega (arith, has.count, ap length whole, short))),
-          same_items has.pairs (key_texts all)
-          (λ test. sym (has.alike test ∙ ap (λ l. list_any test (key_texts l)) whole)))
+      same_items has.pairs (key_texts all)
+          (λ test. sym (has.alike test ∙ ap (λ l. list_any test (key_texts l)) whole)),
+    )
 
 -- and is that of all pairs' members
 pub written_text : {ms : Members} {rest all : Pairs} (text : Bytes) → HasWritten ms rest all
@@ -158,7 +177,7 @@ pub written_text : {ms : Members} {rest all : Pairs} (text : Bytes) → HasWritt
     → text ≡ compact_text (object (members all))
 written_text {ms} {all = all} text has none is =
     let whole : has.before ≡ all = sym (append-nil has.before)
-        ∙ ap (λ r. has.before ++ r) (sym none) ∙ has.split in
+    ∙ ap (λ r. has.before ++ r) (sym none) ∙ has.split in
     is has.none_is_float ∙ ap (λ ms. compact_text (object ms)) (has.made ∙ ap members whole)
 
 -- a set's items as the elements of an array
@@ -172,10 +191,10 @@ pub pushes_one : (vs new : List Value) (v : Value) (x : String Global)
     → map view new ++ as_data later ≡ as_data all
 pushes_one vs new v x rest later all has first is made =
     ap (λ ws. map view ws ++ as_data later) made
-        ∙ ap (λ ds. ds ++ as_data later) (map_push view vs v)
-        ∙ append_assoc (map view vs) (view v ∷ []) (as_data later)
+    ∙ ap (λ ds. ds ++ as_data later) (map_push view vs v)
+    ∙ append_assoc (map view vs) (view v ∷ []) (as_data later)
     ∙ (λ i. map view vs ++ is i ∷ as_data later) ∙ sym (ap (λ r. map view vs ++ as_data r) first)
-        ∙ has
+    ∙ has
 
 texts-elements : (items : List (String Global))
     → all_texts (elements items) ≡ Some (item_texts items)
@@ -199,25 +218,28 @@ module _ (vs : List Value) (items : List (String Global)) (text : Bytes)
 
   -- the text of these elements
   pub elements_text : (has_float (array (items_view vs)) ≡ false
-        → text ≡ compact_text (array (items_view vs)))
+      → text ≡ compact_text (array (items_view vs)))
       → text ≡ compact_text (array (elements items))
   elements_text is = is (ap items_have_float elements_are ∙ float-elements items)
       ∙ ap (λ ds. compact_text (array ds)) elements_are
 
   module _ (reads_back : depth (array (items_view vs)) ≤ max_depth
-        → read text ≡ Some (array (items_view vs))) where
+      → read text ≡ Some (array (items_view vs))) where
     -- is an array of the items' texts
     pub elements_read : read text ≡ Some (array (elements items))
     elements_read =
         let flat : items_depth (items_view vs) ≡ 0 = ap items_depth elements_are
-            ∙ depth-elements items in
+        ∙ depth-elements items in
         reads_back (rw flat (omega arith)) ∙ ap (λ ds. Some (array ds)) elements_are
 
     -- and is read as the same items in any capacity that holds them
     pub elements_again : IsDistinct string_eq items → (M : ℕ) → length items ≤ M
         → texts_for M text ≡ Ok (item_texts items)
     elements_again distinct_items M short =
-        rw (elements_read, texts-elements items,
+        rw (
+          elements_read,
+          texts-elements items,
           added_all nat_list_eq_equiv (item_texts items)
-          (unique_item_texts string_bytes items distinct_items)) (few M (item_texts items)
-          (omega (arith, short, length_item_texts string_bytes items)))
+              (unique_item_texts string_bytes items distinct_items),
+        ) (few M (item_texts items)
+        (omega (arith, short, length_item_texts string_bytes items)))

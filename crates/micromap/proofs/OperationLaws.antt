@@ -41,8 +41,12 @@ module _ {T : Type 0} {eq : T → T → Bool} (laws : IsEquivalence eq) where
       ≡ (if is_member eq xs q then not (is_member eq ys q) else is_member eq ys q)
   unfolding symmetric_difference
   is_member-symmetric_difference xs ys q =
-      grind (arith, list_any-append (eq q) (difference eq xs ys) (difference eq ys xs),
-        is_member-difference xs ys q, is_member-difference ys xs q)
+      grind (
+        arith,
+        list_any-append (eq q) (difference eq xs ys) (difference eq ys xs),
+        is_member-difference xs ys q,
+        is_member-difference ys xs q,
+      )
 
   -- turned round, the operations have equal members
   pub intersection_turned : (xs ys : List T) → Commutes eq (intersection eq) xs ys
@@ -69,9 +73,13 @@ module _ {T : Type 0} {eq : T → T → Bool} (laws : IsEquivalence eq) where
   unfolding symmetric_difference
   IsDistinct-symmetric_difference xs ys first second =
       IsDistinct-append laws (difference eq xs ys)
-          (difference eq ys xs) first second
-          (λ q found. grind (arith, found, is_member-difference xs ys q,
-              is_member-difference ys xs q))
+      (difference eq ys xs) first second
+      (λ q found. grind (
+        arith,
+        found,
+        is_member-difference xs ys q,
+        is_member-difference ys xs q,
+      ))
 
 -- what is counted twice in the two lists is counted once in the intersection
 pub length-union : {T : Type 0} (eq : T → T → Bool) (xs ys : List T)
@@ -83,8 +91,10 @@ length-union eq xs ys = omega (arith, length-append ys (difference eq xs ys), le
 module _ {T : Type 0} (test opposite : T → Bool) (turns : (x : T) → opposite x ≡ not (test x)) where
   none_pass : (xs : List T) → IsTrue (list_all opposite xs) ↔ (filter test xs ≡ [])
   none_pass [] = (λ all. refl, λ none. refl)
-  none_pass (x ∷ xs) = (λ all. grind (arith, all, turns x, none_pass xs),
-        λ none. grind (arith, none, turns x, none_pass xs))
+  none_pass (x ∷ xs) = (
+    λ all. grind (arith, all, turns x, none_pass xs),
+    λ none. grind (arith, none, turns x, none_pass xs),
+  )
 
 module _ {T : Type 0} (eq : T → T → Bool) (xs ys : List T) (answer : Bool) where
   -- a set is a subset exactly where the difference is empty, and disjoint exactly where the intersection is; the answer
@@ -93,7 +103,7 @@ module _ {T : Type 0} (eq : T → T → Bool) (xs ys : List T) (answer : Bool) w
       ↔ (difference eq xs ys ≡ [])
   subset_answered is = rw is
       (none_pass (λ x. not (is_member eq ys x)) (is_member eq ys)
-        (λ x. sym (not-not (is_member eq ys x))) xs)
+      (λ x. sym (not-not (is_member eq ys x))) xs)
 
   pub disjoint_answered : answer ≡ list_all (λ x. not (is_member eq ys x)) xs → IsTrue answer
       ↔ (intersection eq xs ys ≡ [])
@@ -128,8 +138,8 @@ module _ {T : Type 0} {eq : T → T → Bool} (laws : IsEquivalence eq) where
   within_is_member [] ys each = refl
   within_is_member (x ∷ xs) ys each =
       both_true (each x (ap (λ b. b || is_member eq xs x) (laws.refl x)))
-          (within_is_member xs ys
-            (λ q there. each q (ap (λ b. eq q x || b) there ∙ or-true (eq q x))))
+      (within_is_member xs ys
+      (λ q there. each q (ap (λ b. eq q x || b) there ∙ or-true (eq q x))))
 
   pub same_members : (xs ys : List T) → HaveEqualItems eq xs ys ↔ HaveEquals eq xs ys
   same_members xs ys = (
@@ -157,8 +167,8 @@ module _ {T : Type 0} {eq : T → T → Bool} (laws : IsEquivalence eq) where
   apart_is_member [] ys each = refl
   apart_is_member (x ∷ xs) ys each =
       both_true (ap not (each x (ap (λ b. b || is_member eq xs x) (laws.refl x))))
-          (apart_is_member xs ys (λ q there. each q (ap (λ b. eq q x || b) there
-                ∙ or-true (eq q x))))
+      (apart_is_member xs ys (λ q there. each q (ap (λ b. eq q x || b) there
+      ∙ or-true (eq q x))))
 
   -- the answers of `is_subset` and `is_disjoint` say the same of every item
   pub is_subset_answered : (xs ys : List T) (answer : Bool) → answer ≡ list_all (is_member eq ys) xs

@@ -26,8 +26,12 @@ module _ {S A X : Type 0} (shows : A → X) (left : S → List X) (on : S → S)
       → MakesProgress (λ _. Unit {0}) (item_count left) s r t
   progress s t None given = record { on = λ _. tt; keeps = tt; rests = λ _. tt }
   progress s t (Some x) given =
-      record { on = λ _. (tt, tt, omega (arith, ap length given.member)); keeps = tt; rests =
-        λ _. tt }
+      record {
+        on = λ _. (tt, tt, omega (arith, ap length given.member));
+        keeps = tt;
+        rests =
+            λ _. tt;
+      }
 
 pub items_in_order : {S X : Type 0} (left : S → List X) (on : S → S)
     → YieldsInOrder (GivesNext (λ (x : X). x) left on) left
@@ -55,14 +59,16 @@ module _ {T : Type 0} (eq : T → T → Bool) (test : List T → T → Bool) whe
       pub meets_none : test now.other x ≡ false → MeetsNone start (record now { rest = next })
       meets_none fails =
           let further : (1 + position_or_len (test now.other) next) + 1
-              ≡ suc (position_or_len (test now.other) next + 1) = omega arith in
+          ≡ suc (position_or_len (test now.other) next + 1) = omega arith in
           record {
             members = grind (arith, walk.members, first, fails);
             after = sym (ap (λ xs. record now { rest = after_first (test now.other) xs }) first
-                  ∙ ap (λ b. record now { rest =
+                ∙ ap (λ b. record now {
+                  rest =
                       drop ((if not b then 1 + position_or_len (test now.other) next else 0) + 1)
-                      (x ∷ next) }) fails ∙ ap (λ n. record now { rest = drop n (x ∷ next) })
-                  further) ∙ walk.after;
+                      (x ∷ next);
+                }) fails ∙ ap (λ n. record now { rest = drop n (x ∷ next) })
+                further) ∙ walk.after;
             distinct = distinct_behind;
           }
 
@@ -72,15 +78,21 @@ module _ {T : Type 0} (eq : T → T → Bool) (test : List T → T → Bool) whe
         → GivesNext deref left on start (Some x) (record now { rest = next })
     walk_gives {next = next} first passes =
         let passed : next ≡ after_first (test now.other) now.rest = grind (arith, first, passes) in
-        record { member = grind (arith, walk.members, first, passes); led =
-              ap (λ xs. record now { rest = xs }) passed ∙ walk.after }
+        record {
+          member = grind (arith, walk.members, first, passes);
+          led =
+              ap (λ xs. record now { rest = xs }) passed ∙ walk.after;
+        }
 
     pub walk_ends : {next : List T} → now.rest ≡ [] → next ≡ []
         → GivesNext deref left on start None (record now { rest = next })
     walk_ends {next} none end =
         let over : next ≡ after_first (test now.other) now.rest = grind (arith, none, end) in
-        record { member = (grind (arith, walk.members, none), grind (arith, end)); led =
-              ap (λ xs. record now { rest = xs }) over ∙ walk.after }
+        record {
+          member = (grind (arith, walk.members, none), grind (arith, end));
+          led =
+              ap (λ xs. record now { rest = xs }) over ∙ walk.after;
+        }
 
 -- once the first of two walks has ended, a call at the second is a call at both
 pub second_gives : {T : Type 0} (eq : T → T → Bool) (s t : TwoWalks T (List T) (List T))
@@ -91,15 +103,21 @@ pub second_gives : {T : Type 0} (eq : T → T → Bool) (s t : TwoWalks T (List 
 unfolding symmetric_left symmetric_on
 second_gives {T} eq s t r ended gives = record {
   member = both r gives.member;
-  led = λ i. record { first = ended.led i; second =
+  led = λ i. record {
+    first = ended.led i;
+    second =
         (gives.led ∙ sym (ap (λ xs. if_empty xs (difference_on eq s.second) s.second)
-            ended.member.0)) i };
+        ended.member.0)) i;
+  };
 }
   where
     both : (r : Option (Bor T)) → YieldsFirstBy deref (difference_left eq) s.second r t.second
         → YieldsFirstBy deref (λ w. difference_left eq w.first ++ difference_left eq w.second) s r t
-    both None left = (ap (λ xs. xs ++ difference_left eq s.second) ended.member.0
-          ∙ left.0, ap (λ xs. xs ++ difference_left eq t.second) ended.member.1 ∙ left.1)
+    both None left = (
+      ap (λ xs. xs ++ difference_left eq s.second) ended.member.0
+          ∙ left.0,
+      ap (λ xs. xs ++ difference_left eq t.second) ended.member.1 ∙ left.1,
+    )
     both (Some x) left = ap (λ xs. xs ++ difference_left eq s.second) ended.member.0 ∙ left
         ∙ sym (ap (λ xs. x.now ∷ (xs ++ difference_left eq t.second)) ended.member.1)
 
@@ -114,12 +132,18 @@ module _ {T : Type 0} where
       (distinct : IsDistinct eq xs) where
     -- a lower bound of a difference, and an upper one of an intersection
     pub length-difference : length xs - length ys ≤ length (difference eq xs ys)
-    length-difference = omega (arith, length-parts eq xs ys,
-          length-filter_members laws xs ys distinct)
+    length-difference = omega (
+      arith,
+      length-parts eq xs ys,
+      length-filter_members laws xs ys distinct,
+    )
 
     pub length-intersection : length (intersection eq xs ys) ≤ min (length xs) (length ys)
-    length-intersection = omega (arith, length-parts eq xs ys,
-          length-filter_members laws xs ys distinct)
+    length-intersection = omega (
+      arith,
+      length-parts eq xs ys,
+      length-filter_members laws xs ys distinct,
+    )
 
 -- the sum of two lower bounds is one of what both bound together
 pub lower_sum : {a b m n l : ℕ} → m ≤ a → n ≤ b → l ≡ a + b → min (m + n) (2 ^ 64 - 1) ≤ l

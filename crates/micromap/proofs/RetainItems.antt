@@ -9,13 +9,15 @@ use Rattle.micromap_core.specs.Closures.{AtEachTurn}
 
 module _ {F G T V : Type 0} (S : F → T → V → Bool → V → F → Type 0) (R : G → T → Bool → G → Type 0)
     (look : F → G) (says : (s : F) (k : T) (v : V) (b : Bool) (w : V) (t : F) → S s k v b w t
-      → R (look s) k b (look t)) where
+    → R (look s) k b (look t)) where
   calls_inner : (f s : F) (pairs : List (T × V)) → FoldsTo (SomeCallAtPair S) f pairs s
       → FoldsTo (λ h x t. (b : Bool) × R h x b t) (look f) (keys_of pairs) (look s)
   calls_inner f s [] calls = ap look calls
-  calls_inner f s (p ∷ pairs) calls =
-      (look calls.0, (calls.1.0, says f p.0 p.1 calls.1.0 calls.1.1 calls.0 calls.1.2),
-        calls_inner calls.0 s pairs calls.2)
+  calls_inner f s (p ∷ pairs) calls = (
+    look calls.0,
+    (calls.1.0, says f p.0 p.1 calls.1.0 calls.1.1 calls.0 calls.1.2),
+    calls_inner calls.0 s pairs calls.2,
+  )
 
   pub callable_inner : (Q : G → T → Type 0) (f : F) (pairs : List (T × V))
       → AtEachTurn (λ h x t. (b : Bool) × R h x b t) (look f) (keys_of pairs) Q

@@ -84,26 +84,37 @@ module _ {C X : Type 0} (fits : C → X → Bool) (put : C → X → C) where
     pub run_stops : {S : Type 0} (steps : S → Option X → S → Type 0) (it rest : S)
         → fits now x ≡ false → YieldsThen steps it items (Some x) rest
         → SomeRun steps it (λ p. (p.len ≡ position + 1)
-          × PutsUpTo fits put old new p.items position)
+        × PutsUpTo fits put old new p.items position)
     run_stops steps it rest misfit gave =
         let turn = run_of_turn steps it items gave.0 gave.1 x rest gave.2 in
         let long = turn.2.1 ∙ ap (λ n. n + 1) (sym has.position_is) in
         let front : take position turn.0.items ≡ items = ap (take position) turn.2.0
-            ∙ take_at items (x ∷ []) position (sym has.position_is) in
+        ∙ take_at items (x ∷ []) position (sym has.position_is) in
         let whole : take (position + 1) turn.0.items ≡ items ++ x ∷ [] =
-            ap (take (position + 1)) turn.2.0
-            ∙ take_all (position + 1) (items ++ x ∷ [])
-            (omega (arith, length_push items x, has.position_is)) in
+        ap (take (position + 1)) turn.2.0
+        ∙ take_all (position + 1) (items ++ x ∷ [])
+        (omega (arith, length_push items x, has.position_is)) in
         let last : fits (fold put old items) x ≡ false = ap (λ c. fits c x) (sym has.made)
-            ∙ misfit in
+        ∙ misfit in
         let stops : IsTrue (not (each_fits fits put old (items ++ x ∷ []))) =
-            grind (arith, each_fits-push old items x, last) in
+        grind (arith, each_fits-push old items x, last) in
         let made : new ≡ fold put old (take position turn.0.items) = next
-            ∙ ap (λ b. if b then put now x else now) misfit ∙ has.made
-            ∙ sym (ap (fold put old) front) in
-        (turn.0, turn.1, (long,
-                ((ap (each_fits fits put old) front
-                    ∙ has.fit, ap (λ l. not (each_fits fits put old l)) whole ∙ stops), made)))
+        ∙ ap (λ b. if b then put now x else now) misfit ∙ has.made
+        ∙ sym (ap (fold put old) front) in (
+          turn.0,
+          turn.1,
+          (
+            long,
+            (
+              (
+                ap (each_fits fits put old) front
+                    ∙ has.fit,
+                ap (λ l. not (each_fits fits put old l)) whole ∙ stops,
+              ),
+              made,
+            ),
+          ),
+        )
 
   -- all of them
   pub run_puts : {S : Type 0} (steps : S → Option X → S → Type 0) (it : S) (old now : C)
@@ -142,7 +153,7 @@ module _ {C X : Type 0} (fits : C → X → Bool) (put : C → X → C) where
   pub all_or_none : (content : C) (items : List X)
       → fold (put_whole fits put)
       (Some content) items ≡ (if each_fits fits put content items then Some (fold put content items)
-        else None)
+      else None)
   all_or_none content [] = refl
   all_or_none content (x ∷ items) = elim (cases_Bool (fits content x)) [
     | inl fit ↦ rw fit (all_or_none (put content x) items)
@@ -160,9 +171,9 @@ module _ {C X : Type 0} (fits : C → X → Bool) (put : C → X → C) where
       subst (λ o. IfSome o (λ c. c ≡ fold put content items))
       (sym (made ∙ all_or_none content items))
       (elim (cases_Bool (each_fits fits put content items)) [
-    | inl fit ↦ rw fit refl
-    | inr misfit ↦ rw misfit tt
-  ])
+        | inl fit ↦ rw fit refl
+        | inr misfit ↦ rw misfit tt
+      ])
 
   -- the item of a list at an index
   module _ (old : C) (items : List X) (index : ℕ) (d : X) (now : C) (within : index < length items)
@@ -175,7 +186,7 @@ module _ {C X : Type 0} (fits : C → X → Bool) (put : C → X → C) where
         → new ≡ fold put old (take (index + 1) items)
     put_at new next = next ∙ ap (λ c. put c (get_or items index d)) made
         ∙ sym (ap (fold put old) (take_more items index d within)
-          ∙ fold_push put old (take index items) (get_or items index d))
+        ∙ fold_push put old (take index items) (get_or items index d))
 
 pub IsDistinct-nil : {K : Type 0} (eq : K → K → Bool) → IsDistinct eq []
 unfolding IsDistinct
@@ -188,8 +199,8 @@ pub record IsKeyed {C X K : Type 0} (eq : K → K → Bool) (N : ℕ) (fits : C 
     Type 0 where
   pub cases : (c : C) (x : X)
       → ((is_member eq (keys c) (key x) ≡ true) × (fits c x ≡ true)
-        × (keys (put c x) ≡ keys c)) ⊎ ((is_member eq (keys c) (key x) ≡ false)
-        × (fits c x ≡ nat_lt (length (keys c)) N) × (keys (put c x) ≡ keys c ++ key x ∷ []))
+      × (keys (put c x) ≡ keys c)) ⊎ ((is_member eq (keys c) (key x) ≡ false)
+      × (fits c x ≡ nat_lt (length (keys c)) N) × (keys (put c x) ≡ keys c ++ key x ∷ []))
   pub none : keys empty ≡ []
   pub counts : (items : List X) → count items ≡ distinct_count eq (map key items)
 
@@ -202,31 +213,41 @@ module _ {C X K : Type 0} {eq : K → K → Bool} (laws : IsEquivalence eq) {N :
       × ((q : K) → is_member eq (keys (put c x)) q ≡ (is_member eq (keys c) q || eq q (key x)))
   keys-put c x distinct = elim (keyed.cases c x) [
     | inl h ↦ subst (λ ks. IsDistinct eq ks
-          × ((q : K) → is_member eq ks q ≡ (is_member eq (keys c) q || eq q (key x)))) (sym h.2)
-        (distinct, λ q. or_absorbs (is_member eq (keys c) q) (eq q (key x))
-          (λ same. list_any_congr laws q (key x) (keys c) same ∙ h.0))
+        × ((q : K) → is_member eq ks q ≡ (is_member eq (keys c) q || eq q (key x)))) (sym h.2) (
+          distinct,
+          λ q. or_absorbs (is_member eq (keys c) q) (eq q (key x))
+              (λ same. list_any_congr laws q (key x) (keys c) same ∙ h.0),
+        )
     | inr h ↦ subst (λ ks. IsDistinct eq ks
-          × ((q : K) → is_member eq ks q ≡ (is_member eq (keys c) q || eq q (key x)))) (sym h.2)
-        (IsDistinct-push laws (keys c) (key x) distinct h.0,
+        × ((q : K) → is_member eq ks q ≡ (is_member eq (keys c) q || eq q (key x)))) (sym h.2) (
+          IsDistinct-push laws (keys c) (key x) distinct h.0,
           λ q. list_any-append (eq q) (keys c) (key x ∷ [])
-          ∙ ap (λ b. is_member eq (keys c) q || b) (or-false (eq q (key x))))
+              ∙ ap (λ b. is_member eq (keys c) q || b) (or-false (eq q (key x))),
+        )
   ]
 
   pub keys-fold : (c : C) (items : List X) → IsDistinct eq (keys c)
       → IsDistinct eq (keys (fold put c items))
       × ((q : K) → is_member eq (keys (fold put c items)) q
-        ≡ (is_member eq (keys c) q || is_member eq (map key items) q))
+      ≡ (is_member eq (keys c) q || is_member eq (map key items) q))
   keys-fold c [] distinct = (distinct, λ q. sym (or-false _))
   keys-fold c (x ∷ items) distinct =
       let one = keys-put c x distinct in
-      let all = keys-fold (put c x) items one.0 in
-      (all.0, λ q. all.1 q ∙ ap (λ b. b || is_member eq (map key items) q) (one.1 q)
-            ∙ or_assoc (is_member eq (keys c) q) (eq q (key x)) (is_member eq (map key items) q))
+      let all = keys-fold (put c x) items one.0 in (
+        all.0,
+        λ q. all.1 q ∙ ap (λ b. b || is_member eq (map key items) q) (one.1 q)
+            ∙ or_assoc (is_member eq (keys c) q) (eq q (key x)) (is_member eq (map key items) q),
+      )
 
   -- an item fits, and items fit, exactly where the keys are few enough with them
   fits-count : (c : C) (x : X) → length (keys c) ≤ N → fits c x ≡ nat_le (length (keys (put c x))) N
-  fits-count c x short = grind (arith, keyed.cases c x, le-leb (length (keys (put c x))) N, short,
-        length_push (keys c) (key x))
+  fits-count c x short = grind (
+    arith,
+    keyed.cases c x,
+    le-leb (length (keys (put c x))) N,
+    short,
+    length_push (keys c) (key x),
+  )
 
   pub each_fits-count : (c : C) (items : List X) → IsDistinct eq (keys c) → length (keys c) ≤ N
       → each_fits fits put c items ≡ nat_le (length (keys (fold put c items))) N
@@ -234,10 +255,10 @@ module _ {C X K : Type 0} {eq : K → K → Bool} (laws : IsEquivalence eq) {N :
   each_fits-count c (x ∷ items) distinct short =
       let after = (keys-put c x distinct).0 in
       let longer : length (keys (put c x)) ≤ length (keys (fold put (put c x) items)) =
-          length-le_from_is_member laws _ _ after (λ q member. (keys-fold (put c x) items after).1 q
-            ∙ ap (λ b. b || is_member eq (map key items) q) member) in
+      length-le_from_is_member laws _ _ after (λ q member. (keys-fold (put c x) items after).1 q
+      ∙ ap (λ b. b || is_member eq (map key items) q) member) in
       ap (λ b. b && each_fits fits put (put c x) items) (fits-count c x short)
-          ∙ elim (leb_tells (length (keys (put c x))) N) [
+      ∙ elim (leb_tells (length (keys (put c x))) N) [
         | inl few ↦ ap (λ b. b && each_fits fits put (put c x) items) few.0
             ∙ each_fits-count (put c x) items after few.1
         | inr many ↦ ap (λ b. b && each_fits fits put (put c x) items) many.0
@@ -250,9 +271,11 @@ module _ {C X K : Type 0} {eq : K → K → Bool} (laws : IsEquivalence eq) {N :
       × ((q : K) → is_member eq (keys (fold put empty items)) q ≡ is_member eq (map key items) q)
   keys-built items =
       let built = keys-fold empty items
-          (subst (IsDistinct eq) (sym keyed.none) (IsDistinct-nil eq)) in
-      (built.0, λ q. built.1 q
-            ∙ ap (λ ks. is_member eq ks q || is_member eq (map key items) q) keyed.none)
+      (subst (IsDistinct eq) (sym keyed.none) (IsDistinct-nil eq)) in (
+        built.0,
+        λ q. built.1 q
+            ∙ ap (λ ks. is_member eq ks q || is_member eq (map key items) q) keyed.none,
+      )
 
   pub length-built : (items : List X) → length (keys (fold put empty items)) ≡ count items
   length-built items = let built = keys-built items in
@@ -261,7 +284,7 @@ module _ {C X K : Type 0} {eq : K → K → Bool} (laws : IsEquivalence eq) {N :
   all_fit-count : (items : List X) → each_fits fits put empty items ≡ nat_le (count items) N
   all_fit-count items =
       each_fits-count empty items (subst (IsDistinct eq) (sym keyed.none) (IsDistinct-nil eq))
-          (rw (keyed.none) (omega arith))
+      (rw (keyed.none) (omega arith))
       ∙ ap (λ n. nat_le n N) (length-built items)
 
   -- items that all fit have few distinct keys, and with one more that doesn't they have too many
@@ -276,7 +299,7 @@ module _ {C X K : Type 0} {eq : K → K → Bool} (laws : IsEquivalence eq) {N :
       → N < count (items ++ x ∷ [])
   many_distinct items x misfit =
       let many : each_fits fits put empty (items ++ x ∷ []) ≡ false =
-          grind (arith, each_fits-push fits put empty items x, not-true _ misfit) in
+      grind (arith, each_fits-push fits put empty items x, not-true _ misfit) in
       leb-false _ N (sym (all_fit-count (items ++ x ∷ [])) ∙ many)
 
   -- where not even the first of the items all fit, there are too many distinct ones
@@ -303,16 +326,26 @@ module _ {C X K : Type 0} {eq : K → K → Bool} (laws : IsEquivalence eq) {N :
       → IsTrue (not (each_fits fits put empty (take (position + 1) items))) → N ≤ position
   full_at items position misfit =
       let first = take (position + 1) items in
-      omega (arith, many_prefix first misfit, keyed.counts first,
-            distinct_count-le eq (map key first), length-map first key,
-            length-take (position + 1) items)
+      omega (
+        arith,
+        many_prefix first misfit,
+        keyed.counts first,
+        distinct_count-le eq (map key first),
+        length-map first key,
+        length-take (position + 1) items,
+      )
 
   -- as many items as there is room for
   module _ (items : List X) (long : length items ≡ N) where
     pub array_fits : IsTrue (each_fits fits put empty items)
     array_fits = all_fit-count items
-        ∙ le-leb _ N (omega (arith, keyed.counts items, distinct_count-le eq (map key items),
-            length-map items key, long))
+        ∙ le-leb _ N (omega (
+          arith,
+          keyed.counts items,
+          distinct_count-le eq (map key items),
+          length-map items key,
+          long,
+        ))
 
     pub array_fits_at : (index : ℕ) (d : X) (now : C) → index < N
         → now ≡ fold put empty (take index items) → fits now (get_or items index d) ≡ true
@@ -325,11 +358,18 @@ pub pairs_keyed : {K V : Type 0} (eq : K → K → Bool) (N : ℕ)
     (put_pair eq) keys_of (λ p. p.0) [] (λ items. distinct_count eq (keys_of items))
 pairs_keyed {K} {V} eq N = record {
   cases = λ pairs p. elim (cases_Bool (has eq pairs p.0)) [
-    | inl stored ↦ inl (sym (is_some-lookup (eq p.0) pairs)
-          ∙ stored, ap (λ b. b || has_room N pairs) stored,
-          keys_of-put_stored eq pairs p.0 p.1 stored)
-    | inr new ↦ inr (sym (is_some-lookup (eq p.0) pairs) ∙ new, ap (λ b. b || has_room N pairs) new
-          ∙ ap (λ n. nat_lt n N) (sym (length-keys_of pairs)), keys_of-put_new eq pairs p.0 p.1 new)
+    | inl stored ↦ inl (
+      sym (is_some-lookup (eq p.0) pairs)
+          ∙ stored,
+      ap (λ b. b || has_room N pairs) stored,
+      keys_of-put_stored eq pairs p.0 p.1 stored,
+    )
+    | inr new ↦ inr (
+      sym (is_some-lookup (eq p.0) pairs) ∙ new,
+      ap (λ b. b || has_room N pairs) new
+          ∙ ap (λ n. nat_lt n N) (sym (length-keys_of pairs)),
+      keys_of-put_new eq pairs p.0 p.1 new,
+    )
   ];
   none = refl;
   counts = λ items. refl;

@@ -48,9 +48,10 @@ module _ {K V : Type 0} (eq : K → K → Bool) (laws : IsEquivalence eq) (C : K
   apart_all k k' c zero ps (q ∷ qs) clones differ = absurd clones
   apart_all k k' c (suc i) ps [] clones differ = tt
   apart_all k k' c (suc i) [] (q ∷ qs) clones differ = absurd clones
-  apart_all k k' c (suc i) (p ∷ ps) (q ∷ qs) clones differ =
-      (apart k k' p.0 q.0 (equal k k' c) (equal p.0 q.0 clones.0.0) differ.0,
-        apart_all k k' c i ps qs clones.1 differ.1)
+  apart_all k k' c (suc i) (p ∷ ps) (q ∷ qs) clones differ = (
+    apart k k' p.0 q.0 (equal k k' c) (equal p.0 q.0 clones.0.0) differ.0,
+    apart_all k k' c i ps qs clones.1 differ.1,
+  )
 
   -- so the keys of the first clones are pairwise unequal
   pub unique_clones : (i : ℕ) (ps qs : List (K × V)) → AllZip (IsPairClone C D) (take i ps) qs
@@ -61,9 +62,10 @@ module _ {K V : Type 0} (eq : K → K → Bool) (laws : IsEquivalence eq) (C : K
   unique_clones (suc i) [] [] clones unique = tt
   unique_clones (suc i) [] (q ∷ qs) clones unique = absurd clones
   unique_clones (suc i) (p ∷ ps) [] clones unique = absurd clones
-  unique_clones (suc i) (p ∷ ps) (q ∷ qs) clones unique =
-      (apart_all p.0 q.0 clones.0.0 i ps qs clones.1 unique.0,
-        unique_clones i ps qs clones.1 unique.1)
+  unique_clones (suc i) (p ∷ ps) (q ∷ qs) clones unique = (
+    apart_all p.0 q.0 clones.0.0 i ps qs clones.1 unique.0,
+    unique_clones i ps qs clones.1 unique.1,
+  )
 
   -- the clones of what a map may hold are what a map may hold
   pub IsContent-clones : (N : ℕ) (ps qs : List (K × V)) → AllZip (IsPairClone C D) ps qs
@@ -71,7 +73,7 @@ module _ {K V : Type 0} (eq : K → K → Bool) (laws : IsEquivalence eq) (C : K
   IsContent-clones N ps qs clones content = record {
     unique = unique_clones (length ps) ps qs
         (subst (λ l. AllZip (IsPairClone C D) l qs) (sym (take_all (length ps) ps (omega arith)))
-          clones) content.unique;
+        clones) content.unique;
     bounded = subst (λ n. n ≤ N) (length_all_zip (IsPairClone C D) ps qs clones) content.bounded;
     lawful = content.lawful;
   }

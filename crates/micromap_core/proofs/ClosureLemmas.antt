@@ -45,15 +45,24 @@ module _ {F K V : Type 0} (g : Mut F (Bor K × (MutBor V × Unit {0})) (Bool × 
     visited : (b : Bool) (t : F) (seen : List (K × V)) (v : VisitsAt g s now index b t seen)
         (new : List (K × V)) (n : ℕ) → drop (suc index) new ≡ drop (suc index) now
         → ((more : List (K × V))
-          → take n new ++ more ≡ take kept now ++ cond b ((v.pair.0, v.value) ∷ more) more)
+        → take n new ++ more ≡ take kept now ++ cond b ((v.pair.0, v.value) ∷ more) more)
         → n ≤ suc index → length new ≡ length now → Retaining t new n (suc index)
     visited b t seen v new n others front behind same = record {
-      ready = record { at = λ before after u k x parts calls. m.ready.at (v.pair ∷ before) after u k
+      ready = record {
+        at = λ before after u k x parts calls. m.ready.at (v.pair ∷ before) after u k
             x (drop-here now index v.pair v.here ∙ ap (λ l. v.pair ∷ l) (sym others ∙ parts))
-            (t, (b, v.value, v.called), calls) };
+            (t, (b, v.value, v.called), calls);
+      };
       rest = λ more later. rw (front more)
-          (m.rest _ (rw (drop-here now index v.pair v.here) (b, v.value, t, more, v.called,
-                rw others at later, refl)));
+          (m.rest _ (rw (drop-here now index v.pair v.here) (
+            b,
+            v.value,
+            t,
+            more,
+            v.called,
+            rw others at later,
+            refl,
+          )));
       behind = behind;
       whole = same ∙ m.whole;
     }
@@ -65,11 +74,11 @@ module _ {F K V : Type 0} (g : Mut F (Bor K × (MutBor V × Unit {0})) (Bool × 
         let put = set now index left in
         let stands = slice_get-set_same now index left (slice_get_within now index v.pair v.here) in
         rw (add-one, add-one, swapped, v.pairs)
-            (visited true t new v (swap put kept index) (suc kept)
+        (visited true t new v (swap put kept index) (suc kept)
         (swap-behind put kept index m.behind ∙ drop-set-lt (suc index) now index left (omega arith))
         (λ more. ap (λ l. l ++ more) (swap-front put kept index left m.behind stands)
-              ∙ append_assoc (take kept put) (left ∷ []) more
-              ∙ ap (λ l. l ++ left ∷ more) (take-set-le kept now index left m.behind))
+        ∙ append_assoc (take kept put) (left ∷ []) more
+        ∙ ap (λ l. l ++ left ∷ more) (take-set-le kept now index left m.behind))
         (omega (arith, m.behind))
         (length-swap put kept index ∙ length-set now index left))
 
@@ -91,14 +100,16 @@ module _ {P A : Type 0} (R : P → A → P → Type 0) (p : P) (xs : List A) (i 
     (here : slice_get xs i ≡ Some x) (turns : FoldsTo R p (take i xs) q) where
   -- one more turn
   turns_more : (t : P) → R q x t → FoldsTo R p (take (i + 1) xs) t
-  turns_more t turn = rw (take_more xs i x (slice_get_within xs i x here),
-        get_or_from_slice_get xs i x x here) (FoldsTo-push R p (take i xs) q x t turns turn)
+  turns_more t turn = rw (
+    take_more xs i x (slice_get_within xs i x here),
+    get_or_from_slice_get xs i x x here,
+  ) (FoldsTo-push R p (take i xs) q x t turns turn)
 
   -- what holds at each turn holds at the next
   turns_ask : (Q : P → A → Type 0) → AtEachTurn R p xs Q → Q q x
   turns_ask Q asks = asks.each (take i xs)
       (drop (suc i) xs) x q (sym (take-append-drop i xs)
-        ∙ ap (λ l. take i xs ++ l) (drop-here xs i x here)) turns
+      ∙ ap (λ l. take i xs ++ l) (drop-here xs i x here)) turns
 
 module _ {F K V R : Type 0} (g : Mut F (Bor K × (MutBor V × Unit {0})) (R × (MutBor V × Unit {0})))
     (f : F) (pairs : List (K × V)) where
@@ -117,8 +128,10 @@ module _ {F K V R : Type 0} (g : Mut F (Bor K × (MutBor V × Unit {0})) (R × (
     pub asks_next : MayUpdateAll g f pairs
         → IfSome (slice_get now index) (λ p. AcceptsPair g s p.0 p.1)
     asks_next may = IfSome-from (slice_get now index) _
-        (λ p here. turns_ask (UpdateAllTurn g) (f, []) pairs index p (s,
-            take index now) (stood p here) m.turns _ may)
+        (λ p here. turns_ask (UpdateAllTurn g) (f, []) pairs index p (
+          s,
+          take index now,
+        ) (stood p here) m.turns _ may)
 
     pub updates_next : (t : F) (new : List (K × V)) (r : R) → VisitsAt g s now index r t new
         → Updating t new (index + 1)
@@ -129,16 +142,23 @@ module _ {F K V R : Type 0} (g : Mut F (Bor K × (MutBor V × Unit {0})) (R × (
         let rest : drop (suc index) now ≡ drop (suc index) pairs = cc in
         record {
           turns = turns_more (UpdateAllTurn g) (f, []) pairs index v.pair (s, take index now)
-              (stood v.pair v.here) m.turns (t, take (index + 1) new)
-              (r, v.value, v.called, ap (take (index + 1)) v.pairs
-                ∙ take_more_set now index left (slice_get_within now index v.pair v.here));
+              (stood v.pair v.here) m.turns (t, take (index + 1) new) (
+                r,
+                v.value,
+                v.called,
+                ap (take (index + 1)) v.pairs
+                    ∙ take_more_set now index left (slice_get_within now index v.pair v.here),
+              );
           others = rw (v.pairs, add-one, drop-set-lt (suc index) now index left (omega arith)) rest;
           whole = ap length v.pairs ∙ length-set now index left ∙ m.whole;
         }
 
     pub update_ends : length now ≤ index → UpdatesAll g f pairs now
-    update_ends past = record { last = s; turns =
-          rw (take_all index now past, take_all index pairs (omega (arith, m.whole))) at m.turns }
+    update_ends past = record {
+      last = s;
+      turns =
+          rw (take_all index now past, take_all index pairs (omega (arith, m.whole))) at m.turns;
+    }
 
 module _ {F K V R : Type 0} (eq : K → K → Bool)
     (g : Mut F (ℕ × (MutBor V × Unit {0})) (R × (MutBor V × Unit {0}))) (f : F)
@@ -173,7 +193,7 @@ module _ {F K V R : Type 0} (eq : K → K → Bool)
           → UpdatingKeys t new (position + 1) (set found position (has eq now k))
       updates_key t new turn same =
           let as_before : has eq now k ≡ has eq pairs k = is_some-lookup (eq k) now
-              ∙ ap (list_any (eq k)) m.same_keys ∙ sym (is_some-lookup (eq k) pairs) in
+          ∙ ap (list_any (eq k)) m.same_keys ∙ sym (is_some-lookup (eq k) pairs) in
           record {
             turns = turns_more (UpdateDisjointTurn eq g) (f, pairs)
                 (enumerate_from 0 keys) position (position, k)
@@ -189,7 +209,7 @@ module _ {F K V R : Type 0} (eq : K → K → Bool)
           → UpdatingKeys t (put eq now k w) (position + 1) (set found position true)
       updates_stored v stored r w t called =
           rw stored at (updates_key t (put eq now k w) (rw stored (r, w, called, refl))
-                (keys_of-put_stored eq now k w (ap is_some stored)))
+          (keys_of-put_stored eq now k w (ap is_some stored)))
 
       pub updates_missing : at eq now k ≡ None
           → UpdatingKeys s now (position + 1) (set found position false)
@@ -200,23 +220,28 @@ module _ {F K V R : Type 0} (eq : K → K → Bool)
     update_keys_end past =
         let all : take position keys ≡ keys = take_all position keys (omega arith) in
         let turns : take position (enumerate_from 0 keys) ≡ enumerate_from 0 keys =
-            take_all position _ (omega (arith, length-enumerate_from 0 keys)) in
-        (sym (take_all position found (omega (arith, m.whole))) ∙ m.answered
-              ∙ ap (map (has eq pairs)) all, record { last = s; turns = rw turns at m.turns })
+        take_all position _ (omega (arith, length-enumerate_from 0 keys)) in (
+          sym (take_all position found (omega (arith, m.whole))) ∙ m.answered
+              ∙ ap (map (has eq pairs)) all,
+          record { last = s; turns = rw turns at m.turns },
+        )
 
 -- the keys that `retain` leaves are those at which the closure answered `true`, in the order that they had; R says what a
 -- call makes of a key alone, and of what is looked at of the closure
 pub retained_keys : {F G K V : Type 0} {T : F → K → V → Bool → V → F → Type 0}
     (R : G → K → Bool → G → Type 0) (look : F → G)
     (says : (s : F) (k : K) (v : V) (b : Bool) (w : V) (t : F) → T s k v b w t
-      → R (look s) k b (look t)) (f : F) (pairs kept : List (K × V)) → RetainsPairs T f pairs kept
+    → R (look s) k b (look t)) (f : F) (pairs kept : List (K × V)) → RetainsPairs T f pairs kept
     → IsFiltered R (look f) (keys_of pairs) (keys_of kept)
 retained_keys R look says f [] kept retains = ([], look f, refl, refl, ap keys_of retains)
 retained_keys {K = K} {V = V} R look says f (e ∷ es) kept retains =
-    let later = retained_keys R look says retains.2 es retains.3 retains.5 in
-    (retains.0 ∷ later.0, later.1, ap suc later.2,
-          (look retains.2, says f e.0 e.1 retains.0 retains.1 retains.2 retains.4, later.3),
-          ap keys_of retains.6 ∙ by retains.0 retains.1 retains.3 later.0 later.4)
+    let later = retained_keys R look says retains.2 es retains.3 retains.5 in (
+      retains.0 ∷ later.0,
+      later.1,
+      ap suc later.2,
+      (look retains.2, says f e.0 e.1 retains.0 retains.1 retains.2 retains.4, later.3),
+      ap keys_of retains.6 ∙ by retains.0 retains.1 retains.3 later.0 later.4,
+    )
   where
     by : (b : Bool) (w : V) (rest : List (K × V)) (picks : List Bool)
         → keys_of rest ≡ items_where_true picks (keys_of es)
@@ -229,14 +254,14 @@ pub keys_in_order : {F K V : Type 0} (T : F → K → V → Bool → V → F →
     → IsSublist (keys_of kept) (keys_of pairs)
 keys_in_order T f pairs kept retains =
     let is = retained_keys (λ s k b t. Unit {0}) (λ s. s)
-        (λ s k v b w t called. tt {0}) f pairs kept retains in
+    (λ s k v b w t called. tt {0}) f pairs kept retains in
     (is.0, is.4)
 
 pub shorter_retained : {F K V : Type 0} (T : F → K → V → Bool → V → F → Type 0) (f : F)
     (pairs kept : List (K × V)) → RetainsPairs T f pairs kept → length kept ≤ length pairs
 shorter_retained T f pairs kept retains =
     rw (← length-keys_of kept, ← length-keys_of pairs)
-        (length-sublist (keys_of kept) (keys_of pairs) (keys_in_order T f pairs kept retains))
+    (length-sublist (keys_of kept) (keys_of pairs) (keys_in_order T f pairs kept retains))
 
 -- `update_all` leaves the keys as they were
 pub keys_updated : {F K V R : Type 0}
@@ -244,8 +269,8 @@ pub keys_updated : {F K V R : Type 0}
     {pairs new : List (K × V)} → UpdatesAll g f pairs new → keys_of new ≡ keys_of pairs
 keys_updated {F = F} {K = K} {V = V} {g = g} {f = f} {pairs = pairs} {new = new} updates =
     chained_keeps {P = F × List (K × V)} (UpdateAllTurn g)
-        (λ done s. keys_of s.1 ≡ keys_of done) more pairs (f, [])
-        (updates.last, new) refl updates.turns
+    (λ done s. keys_of s.1 ≡ keys_of done) more pairs (f, [])
+    (updates.last, new) refl updates.turns
   where
     more : (done : List (K × V)) (s : F × List (K × V)) (p : K × V) (t : F × List (K × V))
         → keys_of s.1 ≡ keys_of done → UpdateAllTurn g s p t
@@ -259,20 +284,24 @@ module _ {F K V R A : Type 0}
     (pairs new : List (K × V)) (see : K × V → A) (h : A → A) where
   pub seen : FoldsTo (UpdateAllTurn g) (f, []) pairs (last, new)
       → ((k : K) (v : V) (r : R) (w : V) (t : F) → CalledOnPair g f k v r w t
-        → (see (k, w) ≡ h (see (k, v))) × (t ≡ f)) → map see new ≡ map (λ p. h (see p)) pairs
+      → (see (k, w) ≡ h (see (k, v))) × (t ≡ f)) → map see new ≡ map (λ p. h (see p)) pairs
   seen turns pure =
       (chained_keeps {P = F × List (K × V)} (UpdateAllTurn g) (λ done s. (s.0 ≡ f)
-              × (map see s.1 ≡ map (λ p. h (see p)) done)) more pairs (f, []) (last, new) (refl,
-              refl) turns).1
+      × (map see s.1 ≡ map (λ p. h (see p)) done)) more pairs (f, []) (last, new) (
+        refl,
+        refl,
+      ) turns).1
     where
       more : (done : List (K × V)) (s : F × List (K × V)) (p : K × V) (t : F × List (K × V))
           → (s.0 ≡ f) × (map see s.1 ≡ map (λ p. h (see p)) done) → UpdateAllTurn g s p t
           → (t.0 ≡ f) × (map see t.1 ≡ map (λ p. h (see p)) (done ++ p ∷ []))
       more done s p t before turn =
           let said = pure p.0 p.1 turn.0 turn.1 t.0
-              (subst (λ u. CalledOnPair g u p.0 p.1 turn.0 turn.1 t.0) before.0 turn.2) in
-          (said.1, ap (map see) turn.3 ∙ map_push see s.1 (p.0, turn.1)
-                ∙ (λ i. before.1 i ++ said.0 i ∷ []) ∙ sym (map_push (λ p. h (see p)) done p))
+          (subst (λ u. CalledOnPair g u p.0 p.1 turn.0 turn.1 t.0) before.0 turn.2) in (
+            said.1,
+            ap (map see) turn.3 ∙ map_push see s.1 (p.0, turn.1)
+                ∙ (λ i. before.1 i ++ said.0 i ∷ []) ∙ sym (map_push (λ p. h (see p)) done p),
+          )
 
 -- `update_all` by a function of key and value
 pub updated_by : {F K V R : Type 0}
@@ -282,8 +311,8 @@ pub updated_by : {F K V R : Type 0}
     → new ≡ map (λ p. (p.0, h p.0 p.1)) pairs
 updated_by {g = g} {f = f} {pairs = pairs} {new = new} h updates pure =
     sym (map-id new) ∙ seen g f updates.last pairs new (λ p. p)
-        (λ p. (p.0, h p.0 p.1)) updates.turns (λ k v r w t said. let is = pure k v r w t said in
-          ((λ i. (k, is.0 i)), is.1))
+    (λ p. (p.0, h p.0 p.1)) updates.turns (λ k v r w t said. let is = pure k v r w t said in
+    ((λ i. (k, is.0 i)), is.1))
 
 -- `update_disjoint` by a function of position and value
 pub updated_at_keys : {F K V R : Type 0} {eq : K → K → Bool}
@@ -291,12 +320,14 @@ pub updated_at_keys : {F K V R : Type 0} {eq : K → K → Bool}
     {pairs new : List (K × V)} {keys : List K} (h : ℕ → V → V)
     → UpdatesDisjoint eq g f pairs keys new
     → ((i : ℕ) (v : V) (r : R) (w : V) (t : F) → CalledOnValue g f i v r w t
-      → (w ≡ h i v) × (t ≡ f)) → new ≡ updated_disjoint eq h pairs keys
+    → (w ≡ h i v) × (t ≡ f)) → new ≡ updated_disjoint eq h pairs keys
 updated_at_keys {F = F} {K = K} {V = V} {R = R} {eq = eq} {g = g} {f = f} {pairs = pairs}
     {new = new} {keys = keys} h updates pure =
     (chained_keeps {P = F × List (K × V)} (UpdateDisjointTurn eq g) (λ done s. (s.0 ≡ f)
-            × (s.1 ≡ fold (written_by eq h) pairs done)) more (enumerate_from 0 keys) (f,
-            pairs) (updates.last, new) (refl, refl) updates.turns).1
+    × (s.1 ≡ fold (written_by eq h) pairs done)) more (enumerate_from 0 keys) (
+      f,
+      pairs,
+    ) (updates.last, new) (refl, refl) updates.turns).1
   where
     one : (s : F × List (K × V)) (e : ℕ × K) (t : F × List (K × V)) (o : Option V) → s.0 ≡ f
         → MatchOption o (t ≡ s)
@@ -305,7 +336,7 @@ updated_at_keys {F = F} {K = K} {V = V} {R = R} {eq = eq} {g = g} {f = f} {pairs
     one s e t None was same = (ap (λ u. u.0) same ∙ was, ap (λ u. u.1) same)
     one s e t (Some v) was turn =
         let said = pure e.0 v turn.0 turn.1 t.0
-            (subst (λ u. CalledOnValue g u e.0 v turn.0 turn.1 t.0) was turn.2) in
+        (subst (λ u. CalledOnValue g u e.0 v turn.0 turn.1 t.0) was turn.2) in
         (said.1, turn.3 ∙ ap (put eq s.1 e.1) said.0)
 
     more : (done : List (ℕ × K)) (s : F × List (K × V)) (e : ℕ × K) (t : F × List (K × V))

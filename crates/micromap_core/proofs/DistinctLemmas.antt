@@ -71,24 +71,24 @@ module _ {T : Type 0} {eq : T → T → Bool} (laws : IsEquivalence eq) where
   IsDistinct-append (x ∷ xs) ys first second apart =
       let P : T → Type 0 = λ y. eq x y ≡ false in
       let here : AllByRecursion P ys =
-          fails_everywhere (eq x) ys (apart x (ap (λ b. b || is_member eq xs x) (laws.refl x))) in
+      fails_everywhere (eq x) ys (apart x (ap (λ b. b || is_member eq xs x) (laws.refl x))) in
       let all : AllByRecursion P (xs ++ ys) =
-          recursion_from_All P (xs ++ ys)
-          (All-append P xs ys (All-from_recursion P xs (IsDistinct-head eq x xs first))
-            (All-from_recursion P ys here)) in
+      recursion_from_All P (xs ++ ys)
+      (All-append P xs ys (All-from_recursion P xs (IsDistinct-head eq x xs first))
+      (All-from_recursion P ys here)) in
       IsDistinct-cons eq x (xs ++ ys) all
-          (IsDistinct-append xs ys (IsDistinct-tail eq x xs first) second
-            (λ q found. apart q (ap (λ b. eq q x || b) found ∙ or-true (eq q x))))
+      (IsDistinct-append xs ys (IsDistinct-tail eq x xs first) second
+      (λ q found. apart q (ap (λ b. eq q x || b) found ∙ or-true (eq q x))))
 
   -- at most as many items of xs have an equal one in ys as ys is long
   pub length-filter_members : (xs ys : List T) → IsDistinct eq xs
       → length (filter (is_member eq ys) xs) ≤ length ys
   length-filter_members xs ys distinct =
       length-le_from_is_member laws (filter (is_member eq ys) xs) ys
-          (IsDistinct-filter eq (is_member eq ys) xs distinct)
+      (IsDistinct-filter eq (is_member eq ys) xs distinct)
       (λ q found. second_so _ _
-            (sym (is_member-filter laws (is_member eq ys) q
-                (λ x same. list_any_congr laws q x ys same) xs) ∙ found))
+      (sym (is_member-filter laws (is_member eq ys) q
+      (λ x same. list_any_congr laws q x ys same) xs) ∙ found))
 
 -- a test that each item passes keeps them all, and one that keeps as many as there are is passed by each
 filter_all : {T : Type 0} (test : T → Bool) (xs : List T) → list_all test xs ≡ true
@@ -116,14 +116,14 @@ module _ {T : Type 0} {eq : T → T → Bool} (laws : IsEquivalence eq) (xs ys :
     members_turned few =
         let shared : List T = filter (is_member eq xs) ys in
         let each : list_all (is_member eq shared) xs ≡ true =
-            list_all-from_AllPass (is_member eq shared) xs (λ i d within.
+        list_all-from_AllPass (is_member eq shared) xs (λ i d within.
         is_member-filter laws (is_member eq xs) (get_or xs i d)
-            (λ x same. list_any_congr laws (get_or xs i d) x xs same) ys
+        (λ x same. list_any_congr laws (get_or xs i d) x xs same) ys
         ∙ both_true (AllPass-from_list_all (is_member eq ys) xs all i d within)
-            (All-is_member laws xs i d within)) in
+        (All-is_member laws xs i d within)) in
         let many : length xs ≤ length shared =
-            subst (λ l. length l ≤ length shared) (filter_all (is_member eq shared) xs each)
-            (length-filter_members laws xs shared distinct) in
+        subst (λ l. length l ≤ length shared) (filter_all (is_member eq shared) xs each)
+        (length-filter_members laws xs shared distinct) in
         all_kept (is_member eq xs) ys (omega (arith, few, many))
 
   -- of more items than ys has, some has no equal one there
@@ -140,8 +140,12 @@ module _ {T : Type 0} {eq : T → T → Bool} (laws : IsEquivalence eq) (xs ys :
 
   pub not_both_sides : length xs ≢ length ys
       → (list_all (is_member eq ys) xs && list_all (is_member eq xs) ys) ≡ false
-  not_both_sides apart = grind (arith, apart, length-le_from_members laws xs ys first,
-        length-le_from_members laws ys xs second)
+  not_both_sides apart = grind (
+    arith,
+    apart,
+    length-le_from_members laws xs ys first,
+    length-le_from_members laws ys xs second,
+  )
 
 -- what holds of each element holds of the one behind the first ones
 at_seam : {T : Type 0} (P : T → Type 0) (ys : List T) (x : T) (xs : List T)
@@ -155,6 +159,6 @@ pub new_behind : {T : Type 0} {eq : T → T → Bool} (laws : IsEquivalence eq) 
 new_behind laws [] x xs distinct = refl
 new_behind {eq = eq} laws (y ∷ ys) x xs distinct =
     let differs : eq x y ≡ false = laws.symm x y
-        ∙ at_seam (λ z. eq y z ≡ false) ys x xs (IsDistinct-head eq y (ys ++ x ∷ xs) distinct) in
+    ∙ at_seam (λ z. eq y z ≡ false) ys x xs (IsDistinct-head eq y (ys ++ x ∷ xs) distinct) in
     ap (λ b. b || is_member eq ys x) differs
-        ∙ new_behind laws ys x xs (IsDistinct-tail eq y (ys ++ x ∷ xs) distinct)
+    ∙ new_behind laws ys x xs (IsDistinct-tail eq y (ys ++ x ∷ xs) distinct)

@@ -91,8 +91,8 @@ module _ {K V : Type 0} (eq : K → K → Bool) (v : V) (new : MutBor (List (K �
   unfolding entry_put
   occupied_written o p here same now =
       written (Occupied o) p.0 o.index same (rw here refl) now
-          (read_written o.map.now o.index p here v) (written_again o.map.now o.index p here v)
-          (written_taken o.map.now o.index p here v)
+      (read_written o.map.now o.index p here v) (written_again o.map.now o.index p here v)
+      (written_taken o.map.now o.index p here v)
 
   -- the held key was pushed with v
   pub vacant_written : (e : VacantIn K (List (K × V))) (i : ℕ) → i ≡ length e.map.now
@@ -101,5 +101,5 @@ module _ {K V : Type 0} (eq : K → K → Bool) (v : V) (new : MutBor (List (K �
   unfolding without_at entry_put
   vacant_written e i at_end same now =
       rw at_end (written (Vacant e) e.key (length e.map.now) same refl now
-            (slice_get_seam e.map.now (e.key, v) []) (pushed_written e.map.now e.key v)
-            (remove_seam e.map.now (e.key, v) [] ∙ append-nil e.map.now))
+      (slice_get_seam e.map.now (e.key, v) []) (pushed_written e.map.now e.key v)
+      (remove_seam e.map.now (e.key, v) [] ∙ append-nil e.map.now))

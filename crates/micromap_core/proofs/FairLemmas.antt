@@ -34,8 +34,12 @@ module _ {K V : Type 0} (eq : K → K → Bool) (same : V → V → Bool) (keys 
   pub are_same : (first second : List (K × V)) → IsUnique eq first → IsUnique eq second
       → Same eq same first second → AreSame eq same first second
   are_same first second one other are =
-      record { unique_first = one; unique_second = other; alike =
-        alike_from_same eq same keys values first second one other are }
+      record {
+        unique_first = one;
+        unique_second = other;
+        alike =
+            alike_from_same eq same keys values first second one other are;
+      }
 
   pub found_same : (first second : List (K × V)) → AreSame eq same first second
       → Same eq same first second
@@ -65,15 +69,22 @@ module _ {K V : Type 0} (eq : K → K → Bool) (same : V → V → Bool) (keys 
     pair_alike : (k : K) → option_eq (pair_eq eq same) (pair eq first k) (pair eq second k) ≡ true
     pair_alike k =
         let equal = λ (x y : K) (found : eq k x ≡ true). sym (keys.congr k x y found) in
-        grind (arith, lookup-entry (eq k) first, lookup-entry (eq k) second, key_passes first k,
-              key_passes second k, are.alike.each k, equal)
+        grind (
+          arith,
+          lookup-entry (eq k) first,
+          lookup-entry (eq k) second,
+          key_passes first k,
+          key_passes second k,
+          are.alike.each k,
+          equal,
+        )
 
     length_alike : length first ≡ length second
     length_alike =
         sym (length-keys_of first)
         ∙ length-from_same_keys keys (keys_of first)
-            (keys_of second) are.unique_first are.unique_second
-            (λ k. sym (is_some-lookup (eq k) first) ∙ has_alike k ∙ is_some-lookup (eq k) second)
+        (keys_of second) are.unique_first are.unique_second
+        (λ k. sym (is_some-lookup (eq k) first) ∙ has_alike k ∙ is_some-lookup (eq k) second)
         ∙ length-keys_of second
 
     -- the two stay so where both find the same at a key, and at others what they found
@@ -83,37 +94,41 @@ module _ {K V : Type 0} (eq : K → K → Bool) (same : V → V → Bool) (keys 
         → ((q : K) → at eq other q ≡ (if eq k q then o else at eq second q))
         → AreSame eq same one other
     changed k o itself one other one_at other_at =
-        record { unique_first = one; unique_second = other; alike =
-          record { each = λ q. grind (arith, one_at q, other_at q, itself, are.alike.each q) } }
+        record {
+          unique_first = one;
+          unique_second = other;
+          alike =
+              record { each = λ q. grind (arith, one_at q, other_at q, itself, are.alike.each q) };
+        }
 
     pub put_same : (k : K) (v : V) → AreSame eq same (put eq first k v) (put eq second k v)
     put_same k v =
         changed k (Some v) (values.refl v)
-            (unique_put eq first k v (lawful eq keys) are.unique_first)
-            (unique_put eq second k v (lawful eq keys) are.unique_second)
-            (λ q. at_put eq first k v q (lawful eq keys))
-            (λ q. at_put eq second k v q (lawful eq keys))
+        (unique_put eq first k v (lawful eq keys) are.unique_first)
+        (unique_put eq second k v (lawful eq keys) are.unique_second)
+        (λ q. at_put eq first k v q (lawful eq keys))
+        (λ q. at_put eq second k v q (lawful eq keys))
 
     pub put_key_same : (k : K) (v : V)
         → AreSame eq same (put_key eq first k v) (put_key eq second k v)
     put_key_same k v =
         changed k (Some v) (values.refl v)
-            (unique_put_key eq first k v (lawful eq keys) are.unique_first)
-            (unique_put_key eq second k v (lawful eq keys) are.unique_second)
-            (λ q. at_put_key eq first k v q (lawful eq keys))
-            (λ q. at_put_key eq second k v q (lawful eq keys))
+        (unique_put_key eq first k v (lawful eq keys) are.unique_first)
+        (unique_put_key eq second k v (lawful eq keys) are.unique_second)
+        (λ q. at_put_key eq first k v q (lawful eq keys))
+        (λ q. at_put_key eq second k v q (lawful eq keys))
 
     pub take_out_same : (k : K) → AreSame eq same (take_out eq first k) (take_out eq second k)
     take_out_same k =
         changed k None refl (unique_take_out eq first k (lawful eq keys) are.unique_first)
-            (unique_take_out eq second k (lawful eq keys) are.unique_second)
-            (λ q. at_take_out eq first k q (lawful eq keys) are.unique_first)
-            (λ q. at_take_out eq second k q (lawful eq keys) are.unique_second)
+        (unique_take_out eq second k (lawful eq keys) are.unique_second)
+        (λ q. at_take_out eq first k q (lawful eq keys) are.unique_first)
+        (λ q. at_take_out eq second k q (lawful eq keys) are.unique_second)
 
     module _ (N M : ℕ) where
       -- a key fits both or neither, where the insertion is fair
       fits_alike : (k : K) → (IsFalse (has eq first k) → IsFalse (has eq second k)
-            → has_room N first ≡ has_room M second) → fits eq N first k ≡ fits eq M second k
+          → has_room N first ≡ has_room M second) → fits eq N first k ≡ fits eq M second k
       fits_alike k fair = grind (arith, fair, has_alike k)
 
       -- the answers of one fair call agree
@@ -158,7 +173,7 @@ module _ {K V : Type 0} (eq : K → K → Bool) (same : V → V → Bool) (keys 
   run_same N M [] first second are fair = (refl, are)
   run_same N M (call ∷ calls) first second are fair =
       let rest = run_same N M calls (after eq N first call) (after eq M second call)
-          (after_same first second are N M call fair.0) fair.1 in
+      (after_same first second are N M call fair.0) fair.1 in
       (both_true (answer_agrees first second are N M call fair.0) rest.0, rest.1)
 
   module _ (N M : ℕ) (first second : List (K × V)) (unique_first : IsUnique eq first)
@@ -167,7 +182,7 @@ module _ {K V : Type 0} (eq : K → K → Bool) (same : V → V → Bool) (keys 
     pub same_for_good : Same eq same first second → SameForGood eq same N M first second
     same_for_good are calls fair =
         let ran = run_same N M calls first second
-            (are_same first second unique_first unique_second are) fair in
+        (are_same first second unique_first unique_second are) fair in
         (ran.0, found_same _ _ ran.1)
 
     -- two lists are told apart exactly where they aren't the same: by a look-up of a key at which they differ
@@ -175,9 +190,13 @@ module _ {K V : Type 0} (eq : K → K → Bool) (same : V → V → Bool) (keys 
     told_apart = (
       λ unlike.
           let at = differs_where_unlike eq same keys values first second unique_first unique_second
-              unlike in
-          record { calls = get at.0 ∷ []; fair = (tt, tt); differ =
-                λ agrees. false≢true (sym at.1 ∙ first_so _ true agrees) },
+          unlike in
+          record {
+            calls = get at.0 ∷ [];
+            fair = (tt, tt);
+            differ =
+                λ agrees. false≢true (sym at.1 ∙ first_so _ true agrees);
+          },
       λ apart. false_from_ne_true (is_same eq same first second)
           (λ are. apart.differ (same_for_good are apart.calls apart.fair).0),
     )
@@ -208,7 +227,7 @@ module _ {K V : Type 0} {eq : K → K → Bool} {same : V → V → Bool} {N M :
         (
           λ yes. (alike_from_same eq same keys values first second unique also (is.0 yes)).each,
           λ each. is.1 (same_from_alike eq same keys values first second unique also
-                (record { each = each })),
+              (record { each = each })),
         ),
       )
 
@@ -216,9 +235,9 @@ module _ {K V : Type 0} {eq : K → K → Bool} {same : V → V → Bool} {N M :
       → Clauses answer
   compared_long long answer is =
       whole answer (answered_long eq same (of_lawful eq content.lawful) values first second
-        content.unique other.unique m n one two long answer is)
+      content.unique other.unique m n one two long answer is)
 
   pub compared_short : m ≢ n → Clauses (nat_eq m n)
   compared_short apart = whole (nat_eq m n)
       (answered_short eq same (of_lawful eq content.lawful) values first second content.unique
-        other.unique m n one two apart)
+      other.unique m n one two apart)

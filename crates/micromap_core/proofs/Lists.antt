@@ -35,7 +35,7 @@ module _ {X : Type 0} where
       → slice_get (set xs i x) i ≡ Some x
   slice_get-set_same xs i x within =
       slice_get-get_or (set xs i x) i x (rw length-set within)
-          ∙ ap Some (get_or-set_same xs i x x within)
+      ∙ ap Some (get_or-set_same xs i x x within)
 
   -- so is the one that stands after the first ones
   pub slice_get_seam : (kept : List X) (x : X) (rest : List X)
@@ -51,8 +51,10 @@ IfSome-from (Some x) P all = all x refl
 -- the elements from an index on are the one that stands there and the others
 pub drop-here : {X : Type 0} (xs : List X) (i : ℕ) (x : X) → slice_get xs i ≡ Some x
     → drop i xs ≡ x ∷ drop (suc i) xs
-drop-here xs i x here = rw (drop-cons xs i x (slice_get_within xs i x here),
-      get_or_from_slice_get xs i x x here) refl
+drop-here xs i x here = rw (
+  drop-cons xs i x (slice_get_within xs i x here),
+  get_or_from_slice_get xs i x x here,
+) refl
 
 -- the element at an index is the first of those from there on
 pub slice_get-drop : {X : Type 0} (xs : List X) (i : ℕ) → slice_get (drop i xs) 0 ≡ slice_get xs i
@@ -77,9 +79,9 @@ map-swap f [] i j = refl
 map-swap f (x ∷ xs) i j =
     map-set f (set (x ∷ xs) i (get_or (x ∷ xs) j x)) j (get_or (x ∷ xs) i x)
     ∙ (λ z. set (map-set f (x ∷ xs) i (get_or (x ∷ xs) j x) z) j
-          (sym (get_or-map f (x ∷ xs) i x) z))
+    (sym (get_or-map f (x ∷ xs) i x) z))
     ∙ ap (λ y. set (set (f x ∷ map f xs) i y) j (get_or (f x ∷ map f xs) i (f x)))
-        (sym (get_or-map f (x ∷ xs) j x))
+    (sym (get_or-map f (x ∷ xs) j x))
 
 module _ {X : Type 0} where
   -- an element that is swapped with an earlier one stands behind those before that

@@ -74,8 +74,14 @@ module _ {K V : Type 0} (test : K → Bool) where
       }
 
   missing_from : (pairs : List (K × V)) → length pairs ≤ first pairs → NotFound test pairs
-  missing_from [] past = record { entry = refl; value = refl; written = λ v. refl; taken =
-        refl; none = refl }
+  missing_from [] past = record {
+    entry = refl;
+    value = refl;
+    written = λ v. refl;
+    taken =
+        refl;
+    none = refl;
+  }
   missing_from (e ∷ es) past = missing_step e es (missing_from es) (test e.0) refl past
 
   module _ (pairs : List (K × V)) where
@@ -112,21 +118,29 @@ module _ {K : Type 0} {test : K → Bool} {count : ℕ} {left all : List K}
     pub not_yet-on : test x ≡ false → NotYet test (count + 1) rest all
     not_yet-on fails = record {
       counted = omega (arith, scan.counted, ap length parts);
-      first = omega (arith, scan.first, ap (position_or_len test) parts,
-            fails-on test x rest fails);
+      first = omega (
+        arith,
+        scan.first,
+        ap (position_or_len test) parts,
+        fails-on test x rest fails,
+      );
     }
 
     pub not_yet-found : test x ≡ true → position test all ≡ Some count
     not_yet-found passes =
         let here : position_or_len test all ≡ count =
-            omega (arith, scan.first, ap (position_or_len test) parts,
-              passes-here test x rest passes) in
+        omega (
+          arith,
+          scan.first,
+          ap (position_or_len test) parts,
+          passes-here test x rest passes,
+        ) in
         grind (arith, common_steps, here, scan.counted, ap length parts)
 
   pub not_yet-missing : left ≡ [] → position test all ≡ None
   not_yet-missing none =
       let past : position_or_len test all ≡ length all =
-          omega (arith, scan.counted, scan.first, ap length none, ap (position_or_len test) none) in
+      omega (arith, scan.counted, scan.first, ap length none, ap (position_or_len test) none) in
       grind (arith, common_steps, past)
 
 -- an index is answered where there is a value
@@ -177,9 +191,9 @@ keys_of-set : {K V : Type 0} (pairs : List (K × V)) (i : ℕ) (p : K × V) (v :
 keys_of-set {K} {V} pairs i p v here =
     let key : K × V → K = λ e. e.0 in
     let read = get_or-map key pairs i p p.0 (slice_get_within pairs i p here)
-        ∙ ap key (get_or_from_slice_get pairs i p p here) in
+    ∙ ap key (get_or_from_slice_get pairs i p p here) in
     map-set key pairs i (p.0, v) ∙ ap (λ q. set (keys_of pairs) i q) (sym read)
-        ∙ set-get_or (keys_of pairs) i p.0
+    ∙ set-get_or (keys_of pairs) i p.0
 
 module _ {K : Type 0} (eq : K → K → Bool) (laws : IsEquivalence eq) (k old : K)
     (same : eq k old ≡ true) where
@@ -192,9 +206,11 @@ module _ {K : Type 0} (eq : K → K → Bool) (laws : IsEquivalence eq) (k old :
   apart_set : (x : K) (ks : List K) (i : ℕ) → get_or ks i old ≡ old
       → AllByRecursion (λ y. eq x y ≡ false) ks → AllByRecursion (λ y. eq x y ≡ false) (set ks i k)
   apart_set x [] i read apart = tt
-  apart_set x (y ∷ ks) zero read apart =
-      (laws.symm x k ∙ laws.congr k old x same ∙ laws.symm old x ∙ ap (eq x) (sym read)
-        ∙ apart.0, apart.1)
+  apart_set x (y ∷ ks) zero read apart = (
+    laws.symm x k ∙ laws.congr k old x same ∙ laws.symm old x ∙ ap (eq x) (sym read)
+        ∙ apart.0,
+    apart.1,
+  )
   apart_set x (y ∷ ks) (suc i) read apart = (apart.0, apart_set x ks i read apart.1)
 
   -- an equal key at the index of a key
@@ -202,9 +218,10 @@ module _ {K : Type 0} (eq : K → K → Bool) (laws : IsEquivalence eq) (k old :
       → IsDistinct eq (set ks i k)
   unfolding IsDistinct
   IsDistinct-set_equal [] i read distinct = tt
-  IsDistinct-set_equal (x ∷ ks) zero read distinct =
-      (apart_equal ks (subst (λ y. AllByRecursion (λ z. eq y z ≡ false) ks) read distinct.0),
-        distinct.1)
+  IsDistinct-set_equal (x ∷ ks) zero read distinct = (
+    apart_equal ks (subst (λ y. AllByRecursion (λ z. eq y z ≡ false) ks) read distinct.0),
+    distinct.1,
+  )
   IsDistinct-set_equal (x ∷ ks) (suc i) read distinct =
       (apart_set x ks i read distinct.0, IsDistinct-set_equal ks i read distinct.1)
 
@@ -218,7 +235,7 @@ module _ {K V : Type 0} (eq : K → K → Bool) (laws : IsEquivalence eq) (pairs
   pub IsUnique-with_value_at : (i : ℕ) (v : V) → IsUnique eq (with_value_at pairs i v)
   IsUnique-with_value_at i v =
       elim (slice_get pairs i) as (λ o. slice_get pairs i ≡ o
-            → IsUnique eq (option_map_or (λ p. set pairs i (p.0, v)) o pairs)) [
+      → IsUnique eq (option_map_or (λ p. set pairs i (p.0, v)) o pairs)) [
         | None ↦ λ e. unique
         | Some p ↦ λ e. IsUnique-set i p v e
       ] refl
@@ -229,9 +246,9 @@ module _ {K V : Type 0} (eq : K → K → Bool) (laws : IsEquivalence eq) (pairs
   IsUnique-set_key i p k v here same =
       let key : K × V → K = λ e. e.0 in
       let read = get_or-map key pairs i p p.0 (slice_get_within pairs i p here)
-          ∙ ap key (get_or_from_slice_get pairs i p p here) in
+      ∙ ap key (get_or_from_slice_get pairs i p p here) in
       subst (IsDistinct eq) (sym (map-set key pairs i (k, v)))
-          (IsDistinct-set_equal eq laws k p.0 same (keys_of pairs) i read unique)
+      (IsDistinct-set_equal eq laws k p.0 same (keys_of pairs) i read unique)
 
   -- a pair whose key is new
   pub IsUnique-push : (k : K) (v : V) → NotFound (eq k) pairs → IsUnique eq (pairs ++ (k, v) ∷ [])
@@ -244,15 +261,15 @@ module _ {K V : Type 0} (eq : K → K → Bool) (laws : IsEquivalence eq) (pairs
       → IsUnique eq (remove pairs i)
   IsUnique-remove i p here =
       let moved = IsPermutation-map (λ (e : K × V). e.0) _ _
-          (IsPermutation-remove pairs i p (slice_get_within pairs i p here)
-            (sym (get_or_from_slice_get pairs i p p here))) in
+      (IsPermutation-remove pairs i p (slice_get_within pairs i p here)
+      (sym (get_or_from_slice_get pairs i p p here))) in
       IsDistinct-tail eq p.0 _ (IsDistinct-IsPermutation eq laws.symm _ _ moved unique)
 
 module _ {K V : Type 0} (pairs : List (K × V)) (i : ℕ) (v : V) where
   length-with_value_at : length (with_value_at pairs i v) ≡ length pairs
   length-with_value_at =
       elim (slice_get pairs i) as (λ o. length (option_map_or (λ p. set pairs i (p.0, v)) o pairs)
-            ≡ length pairs) [
+      ≡ length pairs) [
         | None ↦ refl
         | Some p ↦ length-set pairs i (p.0, v)
       ]
@@ -294,15 +311,19 @@ module _ {K V : Type 0} (eq : K → K → Bool) (test : K → Bool) (p : IsProbe
     -- a put at a stored key, and at a new one
     pub entry_set : (pairs : List (K × V)) → has eq pairs k ≡ true
         → lookup_entry test (set_value (eq k) pairs v)
-        ≡ (if test k then Some (option_map_or (λ e. e.0) (pair eq pairs k) k,
-            v) else lookup_entry test pairs)
+        ≡ (if test k then Some (
+          option_map_or (λ e. e.0) (pair eq pairs k) k,
+          v,
+        ) else lookup_entry test pairs)
     entry_set [] stored = absurd (false≢true stored)
     entry_set (e ∷ es) stored = grind (arith, entry_set es, p.alike_keys k e.0, p.equal_keys k e.0)
 
     pub entry_push : (pairs : List (K × V)) → has eq pairs k ≡ false
         → lookup_entry test (pairs ++ (k, v) ∷ [])
-        ≡ (if test k then Some (option_map_or (λ e. e.0) (pair eq pairs k) k,
-            v) else lookup_entry test pairs)
+        ≡ (if test k then Some (
+          option_map_or (λ e. e.0) (pair eq pairs k) k,
+          v,
+        ) else lookup_entry test pairs)
     entry_push [] missing = refl
     entry_push (e ∷ es) missing = grind (arith, entry_push es, p.equal_keys k e.0)
 
@@ -340,9 +361,14 @@ unfolding IsDistinct
 lookup-reverse eq test p [] unique = refl
 lookup-reverse eq test p (e ∷ es) unique =
     let apart = unique.0 in
-    grind (arith, lookup-reverse eq test p es unique.1, reverse-append (e ∷ []) es,
-          lookup-append test (reverse es) (e ∷ []), none_apart eq test p e.0 es,
-          lookup-entry test es)
+    grind (
+      arith,
+      lookup-reverse eq test p es unique.1,
+      reverse-append (e ∷ []) es,
+      lookup-append test (reverse es) (e ∷ []),
+      none_apart eq test p e.0 es,
+      lookup-entry test es,
+    )
 
 -- the key of a pair that a put adds
 pub entry_new : {K V : Type 0} (eq : K → K → Bool) (k : K) (pairs : List (K × V))

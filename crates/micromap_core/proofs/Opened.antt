@@ -2,5 +2,11 @@
 use Rattle.micromap_core.proofs.laws.MapLaws.{unique_empty}
 use Rattle.micromap_core.proofs.MapLemmas.{slice_set-put_key, with_value_at-put, found_at, is_found, not_found}
 
-pub ruleset opened_map = (is_found, found_at, not_found, with_value_at-put, slice_set-put_key,
-      unique_empty)
+pub ruleset opened_map = (
+  is_found,
+  found_at,
+  not_found,
+  with_value_at-put,
+  slice_set-put_key,
+  unique_empty,
+)

@@ -27,9 +27,9 @@ module _ {F X : Type 0} (writes : F → Result (Unit {0}) Error → Option (List
   printing_ends f g h all lead left r so_far none closes = so_far r h (rw none closes)
 
   module _ (append : (f g h : F) (r : Result (Unit {0}) Error) (a b : Option (List ℕ))
-        → writes f (Ok tt) a g → writes g r b h → writes f r (a ++? b) h) where
+      → writes f (Ok tt) a g → writes g r b h → writes f r (a ++? b) h) where
     pub printing_begins : (f g : F) (all : List X) → writes f (Ok tt) (Some (codes "{")) g
-          → Printing f g all [] all
+        → Printing f g all [] all
     printing_begins f g all opens r h rest =
         append f g h r (Some (codes "{")) (rest_text [] all) opens rest
 
@@ -39,9 +39,9 @@ module _ {F X : Type 0} (writes : F → Result (Unit {0}) Error → Option (List
         → writes f (Ok tt) (Some lead ++? item_text x) g → Printing e g all comma_space rest
     printing_more e f g all lead left x rest so_far first item r h others =
         so_far r h (rw first (simp then_text_assoc
-                (simp then_text_assoc at
-                  (append f g h r (Some lead ++? item_text x) (rest_text comma_space rest) item
-                    others))))
+        (simp then_text_assoc at
+        (append f g h r (Some lead ++? item_text x) (rest_text comma_space rest) item
+        others))))
 
 module _ {W : Type 0} (took : W → List ℕ → W → Type 0) where
   -- by a formatter without options
@@ -55,7 +55,7 @@ module _ {W : Type 0} (took : W → List ℕ → W → Type 0) where
     abbrev pub WritesAs : Formatter W → Result (Unit {0}) Error → Option (List ℕ) → Formatter W
         → Type 0
     WritesAs f r o g = IfSome o (λ bs. formatter_spec f ≡ formatter_spec e
-          → WritesStyledOnOk took f r bs g)
+        → WritesStyledOnOk took f r bs g)
 
     pub styled_append : (f g h : Formatter W) (r : Result (Unit {0}) Error) (a b : Option (List ℕ))
         → WritesAs f (Ok tt) a g → WritesAs g r b h → WritesAs f r (a ++? b) h
@@ -63,7 +63,7 @@ module _ {W : Type 0} (took : W → List ℕ → W → Type 0) where
     styled_append f g h r (Some a) None first next = tt
     styled_append f g h r (Some a) (Some b) first next =
         λ same flush ok. (let one = first same flush refl in
-          has_written_styled_append took f a g b h one (next (one.spec ∙ same) (one.flush) ok))
+        has_written_styled_append took f a g b h one (next (one.spec ∙ same) (one.flush) ok))
 
     pub with_options : (f g : Formatter W) (r : Result (Unit {0}) Error)
         (text : _ → Option (List ℕ)) → DisplaysStyledOnOk took f r (text (formatter_spec f)) g
@@ -105,10 +105,12 @@ module _ {W : Type 0} (took : W → List ℕ → W → Type 0) where
       subst (Took old []) same ((λ flush ok. has_written_styled_nil took old.f.now flush), refl)
   in_calls old (text ∷ texts) new calls =
       let first = calls.1 in
-      let rest = in_calls calls.0 texts new calls.2 in
-      ((λ flush ok. (let one = first.0 flush refl in
-                has_written_styled_append took old.f.now text calls.0.f.now (concat texts) new.f.now
-                one (rest.0 (one.flush) ok))), rest.1 ∙ first.1)
+      let rest = in_calls calls.0 texts new calls.2 in (
+        (λ flush ok. (let one = first.0 flush refl in
+            has_written_styled_append took old.f.now text calls.0.f.now (concat texts) new.f.now
+            one (rest.0 (one.flush) ok))),
+        rest.1 ∙ first.1,
+      )
 
   pub unstyled_writes : (old new : Unstyled W) (f : Formatter W) (o : Option (List ℕ))
       → (new.f.ghost_name ≡ old.f.ghost_name → f ≡ new.f.now) → WritesText Took old o new
@@ -117,5 +119,5 @@ module _ {W : Type 0} (took : W → List ℕ → W → Type 0) where
   unstyled_writes old new f (Some text) back writes =
       let all = in_calls old writes.parts new writes.calls in
       λ flush ok. subst (HasWrittenStyled took old.f.now text) (sym (back all.1))
-          (has_written_styled_of_eq took old.f.now (concat writes.parts) text new.f.now writes.whole
-            (all.0 flush refl))
+      (has_written_styled_of_eq took old.f.now (concat writes.parts) text new.f.now writes.whole
+      (all.0 flush refl))

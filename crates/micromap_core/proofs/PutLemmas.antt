@@ -13,20 +13,28 @@ module _ {C X : Type 0} (fits : C → X → Bool) (put : C → X → C) where
     pub has : HasPut fits put old before position now
 
   pub put_starts : (old : C) (items : List X) → PutSoFar old items items 0 old
-  put_starts old items = record { before = []; split = refl; has =
-        record { fit = refl; made = refl; position_is = refl } }
+  put_starts old items = record {
+    before = [];
+    split = refl;
+    has =
+        record { fit = refl; made = refl; position_is = refl };
+  }
 
   module _ {old : C} {items left : List X} {position : ℕ} {now : C}
       (so_far : PutSoFar old items left position now) where
     pub put_counted : position + length left ≡ length items
-    put_counted = omega (arith, so_far.has.position_is, ap length so_far.split,
-          length-append so_far.before left)
+    put_counted = omega (
+      arith,
+      so_far.has.position_is,
+      ap length so_far.split,
+      length-append so_far.before left,
+    )
 
     -- none is left
     pub put_ends : left ≡ [] → now ≡ fold put old items
     put_ends none =
         let before : so_far.before ≡ items = sym (append-nil so_far.before)
-            ∙ ap (λ l. so_far.before ++ l) (sym none) ∙ so_far.split in
+        ∙ ap (λ l. so_far.before ++ l) (sym none) ∙ so_far.split in
         so_far.has.made ∙ ap (fold put old) before
 
     module _ (x : X) (rest : List X) (parts : left ≡ x ∷ rest) where
@@ -53,14 +61,16 @@ module _ {C X : Type 0} (fits : C → X → Bool) (put : C → X → C) where
           let before = so_far.before in
           let counted = so_far.has.position_is in
           let front : take position items ≡ before = ap (take position) (sym so_far.split)
-              ∙ take_at before left position (sym counted) in
+          ∙ take_at before left position (sym counted) in
           let long : length through ≡ position + 1 = omega (arith, length_push before x, counted) in
           let whole : take (position + 1) items ≡ through =
-              ap (take (position + 1)) (sym split_behind)
-              ∙ take_at through rest (position + 1) long in
+          ap (take (position + 1)) (sym split_behind)
+          ∙ take_at through rest (position + 1) long in
           let last : fits (fold put old before) x ≡ false = ap (λ c. fits c x) (sym so_far.has.made)
-              ∙ misfit in
+          ∙ misfit in
           let stops : IsTrue (not (each_fits fits put old through)) =
-              grind (arith, each_fits-push fits put old before x, last) in
-          (ap (each_fits fits put old) front
-                ∙ so_far.has.fit, ap (λ l. not (each_fits fits put old l)) whole ∙ stops)
+          grind (arith, each_fits-push fits put old before x, last) in (
+            ap (each_fits fits put old) front
+                ∙ so_far.has.fit,
+            ap (λ l. not (each_fits fits put old l)) whole ∙ stops,
+          )

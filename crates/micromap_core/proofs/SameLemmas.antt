@@ -59,8 +59,13 @@ module _ {K V : Type 0} (eq : K → K → Bool) (same : V → V → Bool) (keys 
   unfolding IsDistinct
   any_by_at [] p unique = refl
   any_by_at (e ∷ es) p unique =
-      grind (arith, any_by_at es p unique.1, lookup-none (eq p.0) es,
-        none_past_head keys p.0 e es unique, or-false (same p.1 e.1))
+      grind (
+        arith,
+        any_by_at es p unique.1,
+        lookup-none (eq p.0) es,
+        none_past_head keys p.0 e es unique,
+        or-false (same p.1 e.1),
+      )
 
   -- where each pair of one list has an equal one in another, what a key finds in the one it finds in the other
   at_within : (first second : List (K × V)) → IsUnique eq second
@@ -68,14 +73,25 @@ module _ {K V : Type 0} (eq : K → K → Bool) (same : V → V → Bool) (keys 
       → option_map_or (λ v. option_eq same (Some v) (at eq second k)) (at eq first k) true ≡ true
   at_within [] second unique all k = refl
   at_within (e ∷ es) second unique all k =
-      grind (arith, at_within es second unique, all, any_by_at second e unique,
-        at_alike eq k e.0 second (lawful eq keys))
+      grind (
+        arith,
+        at_within es second unique,
+        all,
+        any_by_at second e unique,
+        at_alike eq k e.0 second (lawful eq keys),
+      )
 
   pub alike_from_same : (first second : List (K × V)) → IsUnique eq first → IsUnique eq second
       → Same eq same first second → FindAlike eq same first second
   alike_from_same first second unique_first unique_second are =
-      record { each = λ k. grind (arith, are, at_within first second unique_second,
-          at_within second first unique_first) }
+      record {
+        each = λ k. grind (
+          arith,
+          are,
+          at_within first second unique_second,
+          at_within second first unique_first,
+        );
+      }
 
   -- and each pair has an equal value there
   pub values_within : (first second : List (K × V)) → IsUnique eq second
@@ -84,7 +100,7 @@ module _ {K V : Type 0} (eq : K → K → Bool) (same : V → V → Bool) (keys 
   values_within first second unique all =
       ap (λ test. list_all test first)
       (λ i p. ((options_equiv values).symm (at eq second p.0) (Some p.1)
-          ∙ sym (any_by_at second p unique)) i) ∙ all
+      ∙ sym (any_by_at second p unique)) i) ∙ all
 
   -- a pair of a list is what its key finds there
   own_at : (pairs : List (K × V)) → IsUnique eq pairs → All (λ p. at eq pairs p.0 ≡ Some p.1) pairs
@@ -99,21 +115,23 @@ module _ {K V : Type 0} (eq : K → K → Bool) (same : V → V → Bool) (keys 
       list_all-from_AllPass (λ p. list_any (pair_eq eq same p) second) first (λ i d within.
       let p = get_or first i d in
       any_by_at second p unique_second
-          ∙ ap (λ o. option_eq same o (at eq second p.0))
-          (sym (own_at first unique_first i d within)) ∙ alike.each p.0)
+      ∙ ap (λ o. option_eq same o (at eq second p.0))
+      (sym (own_at first unique_first i d within)) ∙ alike.each p.0)
 
   FindAlike-symm : (first second : List (K × V)) → FindAlike eq same first second
       → FindAlike eq same second first
   FindAlike-symm first second alike =
-      record { each = λ k. (options_equiv values).symm (at eq second k) (at eq first k)
-        ∙ alike.each k }
+      record {
+        each = λ k. (options_equiv values).symm (at eq second k) (at eq first k)
+            ∙ alike.each k;
+      }
 
   pub same_from_alike : (first second : List (K × V)) → IsUnique eq first → IsUnique eq second
       → FindAlike eq same first second → Same eq same first second
   same_from_alike first second unique_first unique_second alike =
       both_true (within_from_alike first second unique_first unique_second alike)
-          (within_from_alike second first unique_second unique_first
-            (FindAlike-symm first second alike))
+      (within_from_alike second first unique_second unique_first
+      (FindAlike-symm first second alike))
 
 -- the first item that passes a test, and that all pass where none is found that doesn't
 module _ {X : Type 0} (test : X → Bool) where
@@ -123,9 +141,10 @@ module _ {X : Type 0} (test : X → Bool) where
       let i = position_or_len test xs in
       let here : slice_get xs i ≡ Some x = sym (find_at test xs) ∙ found in
       let within = slice_get_within xs i x here in
-      let is = get_or_from_slice_get xs i x x here in
-      (subst (λ y. test y ≡ true) is (passes_at_first test xs x within),
-            λ P all. subst P is (all i x within))
+      let is = get_or_from_slice_get xs i x x here in (
+        subst (λ y. test y ≡ true) is (passes_at_first test xs x within),
+        λ P all. subst P is (all i x within),
+      )
 
   all_by_find : (xs : List X) → list_all test xs ≡ not (is_some (find (λ x. not (test x)) xs))
   all_by_find [] = refl
@@ -139,7 +158,7 @@ module _ {K V : Type 0} (eq : K → K → Bool) (same : V → V → Bool) (keys 
   differs_unequal p found =
       let told = find_some (λ p. not (has_value eq same second p)) first p found in
       ap (λ o. option_eq same o (at eq second p.0))
-          (told.1 (λ p. at eq first p.0 ≡ Some p.1) (own_at eq same keys values first unique_first))
+      (told.1 (λ p. at eq first p.0 ≡ Some p.1) (own_at eq same keys values first unique_first))
       ∙ (options_equiv values).symm (Some p.1) (at eq second p.0) ∙ not-true _ told.0
 
   differs_missing : (k : K) → first_missing eq same second first ≡ Some k
@@ -147,8 +166,8 @@ module _ {K V : Type 0} (eq : K → K → Bool) (same : V → V → Bool) (keys 
   differs_missing k found =
       let told = find_some (λ k. not (has eq first k)) (keys_of second) k found in
       let stored : has eq second k ≡ true = is_some-lookup (eq k) second
-          ∙ told.1 (λ k. is_member eq (keys_of second) k ≡ true)
-          (All-is_member keys (keys_of second)) in
+      ∙ told.1 (λ k. is_member eq (keys_of second) k ≡ true)
+      (All-is_member keys (keys_of second)) in
       grind (arith, not-true _ told.0, stored)
 
   equal_at : (pairs : List (K × V)) → list_all (has_value eq same second) pairs ≡ true → (k : K)
@@ -167,8 +186,14 @@ module _ {K V : Type 0} (eq : K → K → Bool) (same : V → V → Bool) (keys 
   alike_within : list_all (has_value eq same second) first ≡ true
       → list_all (has eq first) (keys_of second) ≡ true → FindAlike eq same first second
   alike_within equal stored =
-      record { each = λ k. grind (arith, equal_at first equal k, stored_at second stored k,
-          (options_equiv values).symm (at eq first k) (at eq second k)) }
+      record {
+        each = λ k. grind (
+          arith,
+          equal_at first equal k,
+          stored_at second stored k,
+          (options_equiv values).symm (at eq first k) (at eq second k),
+        );
+      }
 
   -- what the second lacks, or has with an unequal value, is nothing where each pair has an equal one there
   pub filters_empty : (pairs : List (K × V)) → list_all (has_value eq same second) pairs ≡ true
@@ -196,8 +221,8 @@ module _ {K V : Type 0} (eq : K → K → Bool) (same : V → V → Bool) (keys 
       → Same eq same first second
   same_from_filters only_first only_second unequal =
       same_from_alike eq same keys values first second unique_first unique_second
-          (alike_within (equal_from_filters first only_first unequal)
-            (stored_from_filter second only_second))
+      (alike_within (equal_from_filters first only_first unequal)
+      (stored_from_filter second only_second))
 
   -- the first difference is a key at which the two differ, and where there is none they are alike
   difference : MatchOption (first_difference eq same first second) (FindAlike eq same first second)
@@ -213,25 +238,32 @@ module _ {K V : Type 0} (eq : K → K → Bool) (same : V → V → Bool) (keys 
       by None unequal (Some k) missing = differs_missing k missing
       by None unequal None missing =
           alike_within (all_by_find (has_value eq same second) first
-            ∙ ap (λ o. not (is_some o)) unequal) (all_by_find (has eq first) (keys_of second)
-            ∙ ap (λ o. not (is_some o)) missing)
+          ∙ ap (λ o. not (is_some o)) unequal) (all_by_find (has eq first) (keys_of second)
+          ∙ ap (λ o. not (is_some o)) missing)
 
   -- an answer that is the first difference is none exactly where the two are the same, and else they differ there
   pub answered_difference : (answer : Option (Bor K))
       → option_copied answer ≡ first_difference eq same first second
       → (IsNone answer ↔ Same eq same first second)
       × IfSome answer (λ k. IsFalse (same_at eq same first second k.now))
-  answered_difference None is =
-      ((λ none. same_from_alike eq same keys values first second unique_first unique_second
+  answered_difference None is = (
+    (
+      λ none. same_from_alike eq same keys values first second unique_first unique_second
           (MatchOption-at_none (FindAlike eq same first second)
-            (λ k. IsFalse (same_at eq same first second k)) (sym is) difference), λ are. refl), tt)
+          (λ k. IsFalse (same_at eq same first second k)) (sym is) difference),
+      λ are. refl,
+    ),
+    tt,
+  )
   answered_difference (Some k) is =
       let differs = MatchOption-at_some (FindAlike eq same first second)
-          (λ k. IsFalse (same_at eq same first second k)) k.now (sym is) difference in (
-        (λ none. absurd (false≢true (sym none)),
-              λ are. absurd (false≢true (sym differs
-                  ∙ (alike_from_same eq same keys values first second unique_first unique_second
-                    are).each k.now))),
+      (λ k. IsFalse (same_at eq same first second k)) k.now (sym is) difference in (
+        (
+          λ none. absurd (false≢true (sym none)),
+          λ are. absurd (false≢true (sym differs
+              ∙ (alike_from_same eq same keys values first second unique_first unique_second
+              are).each k.now)),
+        ),
         differs,
       )
 
@@ -244,7 +276,7 @@ module _ {K V : Type 0} (eq : K → K → Bool) (same : V → V → Bool) (keys 
           (λ k. IsFalse (same_at eq same first second k))
           → (k : K) × IsFalse (same_at eq same first second k)
       by None alike = absurd (false≢true (sym unlike
-              ∙ same_from_alike eq same keys values first second unique_first unique_second alike))
+          ∙ same_from_alike eq same keys values first second unique_first unique_second alike))
       by (Some k) differs = (k, differs)
 
 -- where each key of the one has an equal value in the other
@@ -260,8 +292,13 @@ module _ {K V : Type 0} (eq : K → K → Bool) (same : V → V → Bool) (keys 
   keys-le : (first second : List (K × V)) → IsUnique eq first
       → list_all (has_value eq same second) first ≡ true → length first ≤ length second
   keys-le first second unique all =
-      omega (arith, length-le_from_members keys (keys_of first) (keys_of second) unique
-        (keys_within first second all), length-keys_of first, length-keys_of second)
+      omega (
+        arith,
+        length-le_from_members keys (keys_of first) (keys_of second) unique
+            (keys_within first second all),
+        length-keys_of first,
+        length-keys_of second,
+      )
 
   module _ (first second : List (K × V)) (unique_first : IsUnique eq first)
       (unique_second : IsUnique eq second) where
@@ -269,34 +306,41 @@ module _ {K V : Type 0} (eq : K → K → Bool) (same : V → V → Bool) (keys 
         → list_all (has_value eq same second) first ≡ true → Same eq same first second
     same_from_long long all =
         let few : length (keys_of second) ≤ length (keys_of first) =
-            omega (arith, long, length-keys_of first, length-keys_of second) in
+        omega (arith, long, length-keys_of first, length-keys_of second) in
         let back = members_turned keys (keys_of first)
-            (keys_of second) unique_first (keys_within first second all) few in
+        (keys_of second) unique_first (keys_within first second all) few in
         let there : list_all (has eq first) (keys_of second) ≡ true =
-            ap (λ test. list_all test (keys_of second)) (λ i k. is_some-lookup (eq k) first i)
-            ∙ back in
+        ap (λ test. list_all test (keys_of second)) (λ i k. is_some-lookup (eq k) first i)
+        ∙ back in
         same_from_alike eq same keys values first second unique_first unique_second
-            (alike_within eq same keys values first second unique_first unique_second all there)
+        (alike_within eq same keys values first second unique_first unique_second all there)
 
     pub long_from_same : Same eq same first second → length first ≡ length second
     long_from_same are =
-        omega (arith, keys-le first second unique_first
+        omega (
+          arith,
+          keys-le first second unique_first
               (values_within eq same keys values first second unique_second (first_so _ _ are)),
-              keys-le second first unique_second
-              (values_within eq same keys values second first unique_first (second_so _ _ are)))
+          keys-le second first unique_second
+              (values_within eq same keys values second first unique_first (second_so _ _ are)),
+        )
 
     -- what is answered where the lengths are equal, and where they aren't
     module _ (m n : ℕ) (one : m ≡ length first) (two : n ≡ length second) where
       pub answered_long : m ≡ n → (answer : Bool)
           → answer ≡ list_all (has_value eq same second) first → IsTrue answer
           ↔ Same eq same first second
-      answered_long long answer is =
-          (λ holds. same_from_long (sym one ∙ long ∙ two) (sym is ∙ holds), λ are. is
-            ∙ values_within eq same keys values first second unique_second (first_so _ _ are))
+      answered_long long answer is = (
+        λ holds. same_from_long (sym one ∙ long ∙ two) (sym is ∙ holds),
+        λ are. is
+            ∙ values_within eq same keys values first second unique_second (first_so _ _ are),
+      )
 
       pub answered_short : m ≢ n → IsTrue (nat_eq m n) ↔ Same eq same first second
-      answered_short apart = (λ holds. absurd (apart (grind (arith, nat_tests))),
-            λ are. absurd (apart (one ∙ long_from_same are ∙ sym two)))
+      answered_short apart = (
+        λ holds. absurd (apart (grind (arith, nat_tests))),
+        λ are. absurd (apart (one ∙ long_from_same are ∙ sym two)),
+      )
 
 -- where no first unequal key is found, there is an equal value at each
 pub none_unequal : {K V : Type 0} (eq : K → K → Bool) (same : V → V → Bool)

@@ -24,8 +24,8 @@ module _ {X : Type 0} (slots : List (Option X)) (filled : AreFilled slots) where
   item_at i (Some x) within stands =
       slice_get-get_or (items_of slots) i x (rw (length_filled slots filled) within)
       ∙ sym (ap (λ s. get_or s i (Some x)) filled
-            ∙ get_or-map Some (items_of slots) i x (Some x)
-            (rw (length_filled slots filled) within)) ∙ sym stands
+      ∙ get_or-map Some (items_of slots) i x (Some x)
+      (rw (length_filled slots filled) within)) ∙ sym stands
 
   -- another item at an index
   pub set_filled : (i : ℕ) (x : X) → set slots i (Some x) ≡ map Some (set (items_of slots) i x)
@@ -86,7 +86,7 @@ module _ {K V : Type 0} where
   zip_swap ks vs i j same =
       (λ z. zip (swap (sym (keys_zip ks vs same) z) i j) (swap (sym (values_zip ks vs same) z) i j))
       ∙ (λ z. zip (sym (map-swap (λ p. p.0) (zip ks vs) i j) z)
-            (sym (map-swap (λ p. p.1) (zip ks vs) i j) z)) ∙ zip_columns (swap (zip ks vs) i j)
+      (sym (map-swap (λ p. p.1) (zip ks vs) i j) z)) ∙ zip_columns (swap (zip ks vs) i j)
 
   -- the first pairs
   pub zip_take : (n : ℕ) (ks : List K) (vs : List V)
@@ -132,9 +132,18 @@ module _ {K V : Type 0} where
       → length (ks ++ k ∷ []) ≡ length (vs ++ v ∷ [])
   equal_push ks vs k v same = grind (arith, common_steps, same)
 
-pub ruleset opened_slots =
-    (items_of-map, AreFilled-from, length_filled, some_at, item_at, set_filled, remove_filled,
-      swap_filled, take_filled, push_filled)
+pub ruleset opened_slots = (
+  items_of-map,
+  AreFilled-from,
+  length_filled,
+  some_at,
+  item_at,
+  set_filled,
+  remove_filled,
+  swap_filled,
+  take_filled,
+  push_filled,
+)
 
 pub ruleset opened_columns =
     (keys_zip, values_zip, length-swap, equal_slots, as_long, equal_remove, equal_push)

@@ -21,13 +21,13 @@ most_steps-product (x ∷ left) n = omega (arith, most_steps-product left n)
 through-cons : {X : Type 0} (cost : X → ℕ) (test : X → Bool) (x : X) (xs : List X)
     → sum_by cost (take (suc (position_or_len (λ y. not (test y)) (x ∷ xs))) (x ∷ xs))
     ≡ cost x + (if test x then sum_by cost (take (suc (position_or_len (λ y. not (test y)) xs)) xs)
-      else 0)
+    else 0)
 through-cons cost test x xs =
     let n = position_or_len (λ y. not (test y)) xs in
     let more : 1 + n ≡ suc n = omega arith in
     sum_by-cons cost x (take (if not (not (test x)) then 1 + n else 0) xs)
     ∙ elim (test x) as (λ b. cost x + sum_by cost (take (if not (not b) then 1 + n else 0) xs)
-          ≡ cost x + (if b then sum_by cost (take (suc n) xs) else 0)) [
+    ≡ cost x + (if b then sum_by cost (take (suc n) xs) else 0)) [
       | true ↦ ap (λ m. cost x + sum_by cost (take m xs)) more
       | false ↦ refl
     ]
@@ -53,14 +53,14 @@ module _ {K V : Type 0} (eq : K → K → Bool) where
   walk_steps-bound same other [] = omega arith
   walk_steps-bound same other (p ∷ left) =
       let here = look_up_steps-bound other p.0 in let rest = walk_steps-bound same other left in
-          grind (arith, walk_steps-cons same other p left)
+      grind (arith, walk_steps-cons same other p left)
 
   -- a walk of two lists that are equally long takes at most the length times itself
   pub walk_steps-square : (same : V → V → Bool) (other left : List (K × V))
       → length left ≡ length other → walk_steps eq same other left ≤ length left * length left
   walk_steps-square same other left long =
       subst (λ n. walk_steps eq same other left ≤ length left * n) (sym long)
-          (omega (arith, walk_steps-bound same other left, most_steps-product left (length other)))
+      (omega (arith, walk_steps-bound same other left, most_steps-product left (length other)))
 
 -- a comparison takes the steps of a walk where the lengths are equal, and else none
 module _ {K V : Type 0} (eq : K → K → Bool) (same : V → V → Bool) (first second : List (K × V))

@@ -27,8 +27,8 @@ pub found_place : {X : Type 0} (test : X → Bool) (xs : List X) (x : X) → fin
 found_place test [] x found = absurd (none-some x found)
 found_place test (y ∷ xs) x found =
     either_way (test y) (λ passes. (0, grind (arith, found, passes)))
-        (λ fails. let rest = found_place test xs x (grind (arith, found, fails)) in
-          (suc rest.0, rest.1))
+    (λ fails. let rest = found_place test xs x (grind (arith, found, fails)) in
+    (suc rest.0, rest.1))
 
 pub found_passes : {X : Type 0} (test : X → Bool) (xs : List X) (x : X) → find test xs ≡ Some x
     → test x ≡ true
@@ -41,7 +41,7 @@ pub at_found : (test : ℕ × List ℕ → Bool) (plan : List (ℕ × List ℕ))
     → find test plan ≡ Some p → at nat_eq plan p.0 ≡ Some p.1
 at_found test plan p unique found =
     let place = found_place test plan p found in
-        lookup_from_place nat_eq_equiv plan place.0 p.0 p.1 unique place.1
+    lookup_from_place nat_eq_equiv plan place.0 p.0 p.1 unique place.1
 
 -- where no pair passes a test, none that a key finds does
 pub none_found : (test : ℕ × List ℕ → Bool) (plan : List (ℕ × List ℕ)) (target : ℕ) (needs : List ℕ)
@@ -64,13 +64,13 @@ ordered_at : (plan : List (ℕ × List ℕ)) (order : List ℕ) (target i x : �
     → is_ready plan (take i (order ++ target ∷ [])) x ≡ true
 ordered_at plan order target i x ordered ready (inl before) =
     subst (λ built. is_ready plan built x ≡ true)
-        (sym (take-append-le i order (target ∷ []) (omega (arith, before.0))))
-        (ordered i x before.1)
+    (sym (take-append-le i order (target ∷ []) (omega (arith, before.0))))
+    (ordered i x before.1)
 ordered_at plan order target i x ordered ready (inr last) =
     let whole : take i (order ++ target ∷ []) ≡ order =
-        ap (λ n. take n (order ++ target ∷ [])) last.0 ∙ take-append_seam order (target ∷ []) in
+    ap (λ n. take n (order ++ target ∷ [])) last.0 ∙ take-append_seam order (target ∷ []) in
     subst (λ t. is_ready plan (take i (order ++ target ∷ [])) t ≡ true) last.1
-        (subst (λ built. is_ready plan built target ≡ true) (sym whole) ready)
+    (subst (λ built. is_ready plan built target ≡ true) (sym whole) ready)
 
 -- a ready target may come next
 pub IsOrdered-append : (plan : List (ℕ × List ℕ)) (order : List ℕ) (target : ℕ)
@@ -117,23 +117,23 @@ all_with_last (y ∷ xs) ys x all there = grind (arith, all, there, all_with_las
 -- if all that is ready is built, so is all that any order builds
 built_in_turn : (plan : List (ℕ × List ℕ)) (built before after : List ℕ)
     → ((x : ℕ) → is_ready plan built x ≡ true → is_member nat_eq built x ≡ true)
-        → IsOrdered plan (before ++ after)
+    → IsOrdered plan (before ++ after)
     → list_all (is_member nat_eq built) before ≡ true
-        → list_all (is_member nat_eq built) after ≡ true
+    → list_all (is_member nat_eq built) after ≡ true
 built_in_turn plan built before [] complete ordered all = refl
 built_in_turn plan built before (x ∷ after) complete ordered all =
     let ready : is_ready plan before x ≡ true =
-        subst (λ l. is_ready plan l x ≡ true) (take-append_seam before (x ∷ after))
-        (ordered (length before) x (here_behind before after x)) in
+    subst (λ l. is_ready plan l x ≡ true) (take-append_seam before (x ∷ after))
+    (ordered (length before) x (here_behind before after x)) in
     let there = complete x (is_ready-more plan before built x all ready) in
     let rest = built_in_turn plan built (before ++ x ∷ []) after complete
-        (subst (IsOrdered plan) (sym (append_assoc before (x ∷ []) after)) ordered)
-        (all_with_last before built x all there) in
+    (subst (IsOrdered plan) (sym (append_assoc before (x ∷ []) after)) ordered)
+    (all_with_last before built x all there) in
     grind (arith, there, rest)
 
 pub all_built : (plan : List (ℕ × List ℕ)) (built other : List ℕ)
     → ((x : ℕ) → is_ready plan built x ≡ true → is_member nat_eq built x ≡ true)
-        → IsOrdered plan other
+    → IsOrdered plan other
     → list_all (is_member nat_eq built) other ≡ true
 all_built plan built other complete ordered =
     built_in_turn plan built [] other complete ordered refl
@@ -190,7 +190,7 @@ ready_at : (o : Option (List ℕ)) (plan : List (ℕ × List ℕ)) (built : List
 ready_at None plan built target none here ready = grind (arith, here, ready)
 ready_at (Some needs) plan built target none here ready =
     let fails = none_at_key (is_next built) plan target needs none here in
-        grind (arith, here, ready, fails)
+    grind (arith, here, ready, fails)
 
 -- and if none is next, all that is ready is built
 pub none_is_next : (plan : List (ℕ × List ℕ)) (built : List ℕ) (target : ℕ)
@@ -202,21 +202,27 @@ none_is_next plan built target none ready =
 -- with a target of the plan put, all that is built is still in the plan
 pub targets_put : (plan : List (ℕ × List ℕ)) (built : List ℕ) (target : ℕ)
     → ((x : ℕ) → is_member nat_eq built x ≡ true → has nat_eq plan x ≡ true)
-        → has nat_eq plan target ≡ true
+    → has nat_eq plan target ≡ true
     → (x : ℕ) → is_member nat_eq (put_item nat_eq built target) x ≡ true → has nat_eq plan x ≡ true
 targets_put plan built target targets here x there =
-    grind (arith, common_steps, sym (is_member_put_item nat_eq built target x lawful_nat)
-          ∙ there, targets x, here)
+    grind (
+      arith,
+      common_steps,
+      sym (is_member_put_item nat_eq built target x lawful_nat)
+          ∙ there,
+      targets x,
+      here,
+    )
 
 -- a target of the plan that isn't built yet: fewer are built than the plan has
 pub fewer : (plan : List (ℕ × List ℕ)) (built : List ℕ) (target n : ℕ) → IsItems nat_eq n built
     → ((x : ℕ) → is_member nat_eq built x ≡ true → has nat_eq plan x ≡ true)
-        → has nat_eq plan target ≡ true
+    → has nat_eq plan target ≡ true
     → is_member nat_eq built target ≡ false → length built < length plan
 fewer plan built target n items targets here new =
     let few = length-le_from_keys nat_eq_equiv (put_item nat_eq built target) plan
-        (unique_put_item nat_eq built target lawful_nat items.unique)
-        (targets_put plan built target targets here) in
+    (unique_put_item nat_eq built target lawful_nat items.unique)
+    (targets_put plan built target targets here) in
     grind (arith, few, new, length_put_item nat_eq built target)
 
 -- so it fits
@@ -249,18 +255,18 @@ blocked_at (Some needs) built here fails = any_fails (is_member nat_eq built) ne
 pub left_blocked : (plan : List (ℕ × List ℕ)) (built : List ℕ)
     → ((x : ℕ) → is_ready plan built x ≡ true → is_member nat_eq built x ≡ true)
     → list_all (is_blocked plan built)
-        (filter (λ target. not (is_member nat_eq built target)) (keys_of plan)) ≡ true
+    (filter (λ target. not (is_member nat_eq built target)) (keys_of plan)) ≡ true
 left_blocked plan built complete =
     all_kept_pass (is_blocked plan built) (λ target. not (is_member nat_eq built target))
-        (keys_of plan) (λ x there new.
+    (keys_of plan) (λ x there new.
     blocked_at (at nat_eq plan x) built (is_some-lookup (nat_eq x) plan ∙ there)
-        (either_way (is_ready plan built x) (λ ready. grind (arith, complete x ready, new))
-          (λ fails. fails)))
+    (either_way (is_ready plan built x) (λ ready. grind (arith, complete x ready, new))
+    (λ fails. fails)))
 
 -- what isn't built is what the plan has and isn't built
 pub left_members : (plan : List (ℕ × List ℕ)) (built : List ℕ) (x : ℕ)
     → is_member nat_eq (filter (λ target. not (is_member nat_eq built target)) (keys_of plan)) x
-        ≡ (has nat_eq plan x && not (is_member nat_eq built x))
+    ≡ (has nat_eq plan x && not (is_member nat_eq built x))
 left_members plan built x =
     (each_difference nat_eq (keys_of plan) built lawful_nat).1 x
-        ∙ ap (λ b. b && not (is_member nat_eq built x)) (sym (is_some-lookup (nat_eq x) plan))
+    ∙ ap (λ b. b && not (is_member nat_eq built x)) (sym (is_some-lookup (nat_eq x) plan))

@@ -31,7 +31,7 @@ module _ {X : Type 0} where
     pub some_at : (i : ℕ) (d : Option X) → i < length slots → is_some (get_or slots i d) ≡ true
     some_at i d within =
         ap (λ ps. is_some (get_or ps i d)) filled
-            ∙ some_at_made (items_of slots) i d (rw length_filled within)
+        ∙ some_at_made (items_of slots) i d (rw length_filled within)
 
     -- the first slot, and those behind it
     module _ (slot : Option X) (rest : List (Option X)) (parts : slots ≡ slot ∷ rest) where
@@ -43,7 +43,7 @@ module _ {X : Type 0} where
         pub rest_filled : AreFilled rest
         rest_filled =
             let whole : AreFilled (Some x ∷ rest) =
-                subst AreFilled (rw (parts, some) refl) filled in
+            subst AreFilled (rw (parts, some) refl) filled in
             ap (drop 1) whole
 
         pub items_first : items_of slots ≡ x ∷ items_of rest
@@ -79,5 +79,11 @@ module _ {X : Type 0} (slots : List (Option X)) (i : ℕ) (filled : AreFilled (d
 pub left_equal : {X Y : Type 0} (given : ℕ) (xs : List (Option X)) (ys : List (Option Y))
     → AreLeft given xs ys → length (items_of (drop given xs)) ≡ length (items_of (drop given ys))
 left_equal given xs ys left =
-    omega (arith, length_filled _ left.keys, length_filled _ left.values, length-drop given xs,
-      length-drop given ys, left.equal)
+    omega (
+      arith,
+      length_filled _ left.keys,
+      length_filled _ left.values,
+      length-drop given xs,
+      length-drop given ys,
+      left.equal,
+    )

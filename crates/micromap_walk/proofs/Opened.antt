@@ -4,5 +4,11 @@ use Rattle.std.proofs.lemmas.Map.Entries.{length-keys_of, length-values_of}
 use Rattle.micromap_walk.proofs.FilledLemmas.{left_equal, length_filled}
 use Rattle.micromap_walk.proofs.ZipLemmas.{length_zip}
 
-pub ruleset opened = (length-drop, length-keys_of, length-values_of, left_equal, length_filled,
-      length_zip)
+pub ruleset opened = (
+  length-drop,
+  length-keys_of,
+  length-values_of,
+  left_equal,
+  length_filled,
+  length_zip,
+)

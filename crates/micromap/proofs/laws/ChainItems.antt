@@ -26,11 +26,11 @@ pub YieldsList-from_values :
     {S A B F : Type 0} {steps : S → Option A → S → Type 0} {v : A → B} {ys : List B} {s : Map S F}
     (g : Mut F (A × Unit {0}) B) {f : F}
     → YieldsList steps v (map_source s) ys → map_callee s ≡ f
-        → ((x : A) (r : B) (q : F) → Called g f (x, tt) r q → (q ≡ f) × (r ≡ v x))
+    → ((x : A) (r : B) (q : F) → Called g f (x, tt) r q → (q ≡ f) × (r ≡ v x))
     → YieldsList (maps steps g) (λ r. r) s ys
 YieldsList-from_values {steps = steps} {ys = ys} {s = s} g yields callee acts =
     subst (YieldsList (maps steps g) (λ r. r) s) (map-id ys)
-        (YieldsList-from_map g (λ y. y) yields callee acts)
+    (YieldsList-from_map g (λ y. y) yields callee acts)
 
 first_of : {A : Type 0} (items more xs : List A) (n : ℕ) → n ≡ length items → xs ≡ items ++ more
     → items ≡ take n xs
@@ -43,7 +43,7 @@ module _ {S A : Type 0} {steps : S → Option A → S → Type 0} {s : S} {xs : 
   whole_items p from whole yields =
       let d = took p in
       sym (map-id p.items) ∙ items_from_drains p.items
-          (subst (λ k. DrainsIf steps (Unit {0}) k p.items) from (d.0, d.1, λ _. d.2 whole)) yields
+      (subst (λ k. DrainsIf steps (Unit {0}) k p.items) from (d.0, d.1, λ _. d.2 whole)) yields
 
   -- any run has the first of them
   first_items : (p : Run steps) → p.from ≡ s → YieldsList steps (λ x. x) s xs
@@ -51,7 +51,7 @@ module _ {S A : Type 0} {steps : S → Option A → S → Type 0} {s : S} {xs : 
   first_items p from yields =
       let d = took p in
       let left = gives_left steps (λ x. x) p.items xs s d.0 yields.runs
-          (subst (λ k. Yields steps k p.items d.0) from d.1) in
+      (subst (λ k. Yields steps k p.items d.0) from d.1) in
       first_of p.items left.0 xs p.len p.long (left.1 ∙ ap (λ l. l ++ left.0) (map-id p.items))
 
 module _ {S A C : Type 0} (fits : C → A → Bool) (put : C → A → C) (content : C)
@@ -80,9 +80,9 @@ module _ {S A C : Type 0} (fits : C → A → Bool) (put : C → A → C) (conte
   misfit_of (Err e) stops yields =
       let taken = first_items stops.0 stops.1 yields in
       let before : take e.at stops.0.items ≡ take e.at xs =
-          grind (arith, common_steps, taken, stops.2.0) in
+      grind (arith, common_steps, taken, stops.2.0) in
       let with : take (e.at + 1) stops.0.items ≡ take (e.at + 1) xs =
-          grind (arith, common_steps, taken, stops.2.0) in
+      grind (arith, common_steps, taken, stops.2.0) in
       rw (← before, ← with) stops.2.1
 
 -- `try_from_iter` is refused exactly if there are more than N distinct keys or items, by its clauses `few` and `many`
@@ -97,9 +97,10 @@ module _ {S A K Y : Type 0} (eq : K → K → Bool) (N : ℕ) (keys : List A →
       ((λ e. cc), (λ more. absurd (omega (arith, is, few.3, more))))
   refused_by (Err e) laws first few many yields =
       let taken = ap (λ l. distinct_count eq (keys l)) (first_items many.0 many.1 yields) in
-      let same = ap (distinct_count eq) (first many.0.len) in
-      ((λ _. omega (arith, taken, same, many.2.1, distinct_prefix eq (keys xs) many.0.len laws)),
-            (λ _. refl))
+      let same = ap (distinct_count eq) (first many.0.len) in (
+        (λ _. omega (arith, taken, same, many.2.1, distinct_prefix eq (keys xs) many.0.len laws)),
+        (λ _. refl),
+      )
 
 -- of a map
 pub refused_of : {S K V Y : Type 0} (eq : K → K → Bool) (N : ℕ)

@@ -26,27 +26,34 @@ distinct_unique eq items laws unique = added_all (of_lawful eq laws) items uniqu
 module _ {K V : Type 0} (eq : K → K → Bool) (N : ℕ) (items : List (K × V)) where
   pub build_or_refuse_is : Lawful eq
       → build_or_refuse eq N items
-          ≡ (if nat_le (distinct_count eq (keys_of items)) N then Some (build eq items) else None)
+      ≡ (if nat_le (distinct_count eq (keys_of items)) N then Some (build eq items) else None)
   unfolding build_or_refuse
   build_or_refuse_is laws = whole_counted (of_lawful eq laws) (pairs_keyed eq N) items
 
   -- the same of a map that was there, as far as there is one
   pub put_or_refuse_is : (pairs : List (K × V)) {result : Option (List (K × V))}
       → result ≡ fold (put_or_refuse eq N) (Some pairs) items
-          → IfSome result (λ m. m ≡ put_all eq pairs items)
+      → IfSome result (λ m. m ≡ put_all eq pairs items)
   put_or_refuse_is pairs made = whole_made (pair_fits eq N) (put_pair eq) pairs items made
 
 module _ {T : Type 0} (eq : T → T → Bool) (N : ℕ) (items : List T) where
   pub distinct_or_refuse_is : Lawful eq
       → distinct_or_refuse eq N items
-          ≡ (if nat_le (distinct_count eq items) N then Some (distinct eq items) else None)
+      ≡ (if nat_le (distinct_count eq items) N then Some (distinct eq items) else None)
   unfolding distinct_or_refuse
   distinct_or_refuse_is laws = whole_counted (of_lawful eq laws) (items_keyed eq N) items
 
   pub put_item_or_refuse_is : (old : List T) {result : Option (List T)}
       → result ≡ fold (put_item_or_refuse eq N) (Some old) items
-          → IfSome result (λ s. s ≡ put_all_items eq old items)
+      → IfSome result (λ s. s ≡ put_all_items eq old items)
   put_item_or_refuse_is old made = whole_made (item_fits eq N) (put_item eq) old items made
 
-pub ruleset chain_laws = (distinct_unique, build_unique, build_or_refuse_is, distinct_or_refuse_is,
-      IsDistinct-filter, IsDistinct-keys_filter, equalities)
+pub ruleset chain_laws = (
+  distinct_unique,
+  build_unique,
+  build_or_refuse_is,
+  distinct_or_refuse_is,
+  IsDistinct-filter,
+  IsDistinct-keys_filter,
+  equalities,
+)

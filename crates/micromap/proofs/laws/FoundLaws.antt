@@ -59,7 +59,7 @@ module _ {K V : Type 0} (test : K × V → Bool) where
   pub none_passes : (pairs : List (K × V))
       → (find test pairs ≡ find test pairs)
       × (find test pairs ≡ None → (key : K → Bool) (p : K × V) → lookup_entry key pairs ≡ Some p
-        → test p ≡ false)
+      → test p ≡ false)
   none_passes pairs = (refl, λ none key p found. fails key pairs p none found)
 
 -- a test of the value
@@ -73,7 +73,7 @@ module _ {K V : Type 0} (test : V → Bool) where
   pub each_value : (pairs : List (K × V))
       → (list_all test (values_of pairs) ≡ list_all test (values_of pairs))
       × (list_all test (values_of pairs) ≡ true → (key : K → Bool) (v : V)
-        → lookup key pairs ≡ Some v → test v ≡ true)
+      → lookup key pairs ≡ Some v → test v ≡ true)
   each_value pairs = (refl, λ all key v found. value_passes key pairs v all found)
 
   all-find : (pairs : List (K × V))
@@ -92,8 +92,11 @@ module _ {K V : Type 0} (test : V → Bool) where
       by : (o : Option (K × V)) → find fails_one pairs ≡ o → list_all test (values_of pairs) ≡ true
       by None none = grind (arith, all-find pairs, none)
       by (Some p) found =
-          grind (arith, passes fails_one pairs p found,
-                each p.0 p.1 (found_at fails_one eq pairs p laws unique found))
+          grind (
+            arith,
+            passes fails_one pairs p found,
+            each p.0 p.1 (found_at fails_one eq pairs p laws unique found),
+          )
 
 -- equal items are members or not alike
 pub member_alike : {T : Type 0} (eq : T → T → Bool) (x y : T) (items : List T) → Lawful eq
@@ -141,9 +144,26 @@ all_members eq test (y ∷ items) laws each =
     let rest = all_members eq test items laws (λ x member. each x (grind (arith, member))) in
     grind (arith, each y here, rest)
 
-pub ruleset found_laws = (each_pair, at_alike, has_alike, find_passes, at_find, none_passes,
-      each_value, all_values, nat_tests, equalities)
+pub ruleset found_laws = (
+  each_pair,
+  at_alike,
+  has_alike,
+  find_passes,
+  at_find,
+  none_passes,
+  each_value,
+  all_values,
+  nat_tests,
+  equalities,
+)
 
-pub ruleset found_items =
-    (find_passes, member_alike, member_find, no_member, each_member, all_members, nat_tests,
-      equalities)
+pub ruleset found_items = (
+  find_passes,
+  member_alike,
+  member_find,
+  no_member,
+  each_member,
+  all_members,
+  nat_tests,
+  equalities,
+)

@@ -29,17 +29,22 @@ module _ {T : Type 0} (eq : T → T → Bool) where
   length_put_all_items items xs laws unique =
       let keys = keys-fold (of_lawful eq laws) (items_keyed eq 0) items xs unique in
       length-from_keys (of_lawful eq laws) _ (items ++ xs) keys.0 (λ q. keys.1 q
-            ∙ ap (λ l. is_member eq items q || list_any (eq q) l) (map-id xs)
-            ∙ sym (list_any-append (eq q) items xs))
+      ∙ ap (λ l. is_member eq items q || list_any (eq q) l) (map-id xs)
+      ∙ sym (list_any-append (eq q) items xs))
 
   put_all_items_grows : (items xs : List T) (i : ℕ) → Lawful eq → IsDistinct eq items
       → length (put_all_items eq items (take i xs)) ≤ length (put_all_items eq items xs)
   put_all_items_grows items xs i laws unique =
-      omega (arith, length_put_all_items items (take i xs) laws unique,
-            length_put_all_items items xs laws unique, distinct_grows eq (items ++ take i xs)
-            (drop i xs) laws, ap (distinct_count eq)
+      omega (
+        arith,
+        length_put_all_items items (take i xs) laws unique,
+        length_put_all_items items xs laws unique,
+        distinct_grows eq (items ++ take i xs)
+            (drop i xs) laws,
+        ap (distinct_count eq)
             (append_assoc items (take i xs) (drop i xs)
-              ∙ ap (λ l. items ++ l) (take-append-drop i xs)))
+            ∙ ap (λ l. items ++ l) (take-append-drop i xs)),
+      )
 
   -- an item that is new when it is put is one more
   put_all_items_beyond : (items xs : List T) (i : ℕ) (d : T) → i < length xs → Lawful eq
@@ -48,7 +53,7 @@ module _ {T : Type 0} (eq : T → T → Bool) where
       (put_all_items eq items xs)
   put_all_items_beyond items xs i d within laws unique new =
       let more = ap length (fold_more (put_item eq) items xs i d within)
-          ∙ length_put_item eq (put_all_items eq items (take i xs)) (get_or xs i d) in
+      ∙ length_put_item eq (put_all_items eq items (take i xs)) (get_or xs i d) in
       let grown = put_all_items_grows items xs (i + 1) laws unique in
       grind (arith, new, more, grown)
 
@@ -73,9 +78,9 @@ module _ {T : Type 0} (eq : T → T → Bool) where
   distinct_beyond xs i d within laws new =
       let built = length_distinct (take (i + 1) xs) laws in
       let longer = ap length (distinct_take xs i d within)
-          ∙ length_put_item eq (distinct eq (take i xs)) (get_or xs i d)
-          ∙ ap (λ b. if b then length (distinct eq (take i xs)) else length
-            (distinct eq (take i xs)) + 1) new in
+      ∙ length_put_item eq (distinct eq (take i xs)) (get_or xs i d)
+      ∙ ap (λ b. if b then length (distinct eq (take i xs)) else length
+      (distinct eq (take i xs)) + 1) new in
       omega (arith, built, longer, distinct_prefix eq xs (i + 1) laws)
 
   -- items one of which doesn't fit a new set of capacity N have more than N distinct ones
@@ -83,7 +88,7 @@ module _ {T : Type 0} (eq : T → T → Bool) where
       → N < distinct_count eq xs
   misfit_many_items N xs at laws misfit =
       let many : N < distinct_count eq (take (at + 1) xs) =
-          many_prefix (of_lawful eq laws) (items_keyed eq N) (take (at + 1) xs) misfit.1 in
+      many_prefix (of_lawful eq laws) (items_keyed eq N) (take (at + 1) xs) misfit.1 in
       omega (arith, many, distinct_prefix eq xs (at + 1) laws)
 
   -- the facts are those of `misfit_in`, and that the equality is lawful
@@ -91,7 +96,7 @@ module _ {T : Type 0} (eq : T → T → Bool) where
       (rest : S → List T) {s : S} {xs : List T} (at : E → ℕ) (r : Result Y E) → Lawful eq
       → EveryRun steps (λ q. ItemsAre q (rest q.from)) → rest s ≡ xs
       → IfErr r (λ e. SomeRun steps s (λ p. (p.len ≡ at e + 1)
-          × ItemMisfitIn eq N [] p.items (at e))) → IfErr r (λ e. N < distinct_count eq xs)
+      × ItemMisfitIn eq N [] p.items (at e))) → IfErr r (λ e. N < distinct_count eq xs)
   many_items_in N rest {xs = xs} at r laws reads left stops =
       IfErr-weaker r (λ e. ItemMisfitIn eq N [] xs (at e)) (λ e. N < distinct_count eq xs)
       (λ e. misfit_many_items N xs (at e) laws)
@@ -107,9 +112,9 @@ module _ {T : Type 0} (eq : T → T → Bool) where
       → (distinct eq (take i xs) ≡ distinct eq (take i xs))
       × (length xs ≤ i → distinct eq (take i xs) ≡ distinct eq xs)
       × ((d : T) → i < length xs
-        → distinct eq (take (i + 1) xs) ≡ put_item eq (distinct eq (take i xs)) (get_or xs i d))
+      → distinct eq (take (i + 1) xs) ≡ put_item eq (distinct eq (take i xs)) (get_or xs i d))
       × ((d : T) → i < length xs → is_member eq (distinct eq (take i xs)) (get_or xs i d) ≡ false
-        → length (distinct eq (take i xs)) < distinct_count eq xs)
+      → length (distinct eq (take i xs)) < distinct_count eq xs)
   each_distinct_take xs i laws = (
     refl,
     λ over. ap (distinct eq) (take_all i xs over),
@@ -122,19 +127,26 @@ module _ {T : Type 0} (eq : T → T → Bool) where
       → (distinct eq (map read (take i xs)) ≡ distinct eq (map read (take i xs)))
       × (length xs ≤ i → distinct eq (map read (take i xs)) ≡ distinct eq (map read xs))
       × ((d : X) → i < length xs
-        → distinct eq (map read (take (i + 1) xs))
-        ≡ put_item eq (distinct eq (map read (take i xs))) (read (get_or xs i d)))
+      → distinct eq (map read (take (i + 1) xs))
+      ≡ put_item eq (distinct eq (map read (take i xs))) (read (get_or xs i d)))
       × ((d : X) → i < length xs
-        → is_member eq (distinct eq (map read (take i xs))) (read (get_or xs i d)) ≡ false
-        → length (distinct eq (map read (take i xs))) < distinct_count eq (map read xs))
+      → is_member eq (distinct eq (map read (take i xs))) (read (get_or xs i d)) ≡ false
+      → length (distinct eq (map read (take i xs))) < distinct_count eq (map read xs))
   each_distinct_take_map read xs i laws =
       let all = each_distinct_take (map read xs) i laws in
       let first = take-map read i xs in
       let long = length-map xs read in (
         refl,
         λ over. grind (arith, common_steps, all.1, first, long, over),
-        λ d within. grind (arith, common_steps, all.2 (read d), first, take-map read (i + 1) xs,
-              long, within),
+        λ d within. grind (
+          arith,
+          common_steps,
+          all.2 (read d),
+          first,
+          take-map read (i + 1) xs,
+          long,
+          within,
+        ),
         λ d within new. grind (arith, common_steps, all.3 (read d), first, long, within, new),
       )
 
@@ -143,11 +155,11 @@ module _ {T : Type 0} (eq : T → T → Bool) where
       → (put_all_items eq items (take i xs) ≡ put_all_items eq items (take i xs))
       × (length xs ≤ i → put_all_items eq items (take i xs) ≡ put_all_items eq items xs)
       × ((d : T) → i < length xs
-        → put_all_items eq items (take (i + 1) xs)
-        ≡ put_item eq (put_all_items eq items (take i xs)) (get_or xs i d))
+      → put_all_items eq items (take (i + 1) xs)
+      ≡ put_item eq (put_all_items eq items (take i xs)) (get_or xs i d))
       × ((d : T) → i < length xs
-        → is_member eq (put_all_items eq items (take i xs)) (get_or xs i d) ≡ false
-        → length (put_all_items eq items (take i xs)) < length (put_all_items eq items xs))
+      → is_member eq (put_all_items eq items (take i xs)) (get_or xs i d) ≡ false
+      → length (put_all_items eq items (take i xs)) < length (put_all_items eq items xs))
   each_put_all_items_take items xs i laws unique = (
     refl,
     λ over. ap (put_all_items eq items) (take_all i xs over),
@@ -162,15 +174,18 @@ module _ {T : Type 0} {eq : T → T → Bool} {N : ℕ} {items : List T}
       → N < length (put_all_items eq items xs)
   stopped_many xs at stops =
       let fit = each_fits-count (of_lawful eq content.lawful)
-          (items_keyed eq N) items (take (at + 1) xs) content.unique content.bounded in
-      omega (arith, leb-false _ N (sym fit ∙ not-true _ stops.1),
-            put_all_items_grows eq items xs (at + 1) content.lawful content.unique)
+      (items_keyed eq N) items (take (at + 1) xs) content.unique content.bounded in
+      omega (
+        arith,
+        leb-false _ N (sym fit ∙ not-true _ stops.1),
+        put_all_items_grows eq items xs (at + 1) content.lawful content.unique,
+      )
 
   pub refused_is_many : {S E Y : Type 0} {steps : S → Option T → S → Type 0} (rest : S → List T)
       {s : S} {xs : List T} (new : List T) (at : E → ℕ) (r : Result Y E)
       → EveryRun steps (λ q. ItemsAre q (rest q.from)) → rest s ≡ xs
       → IfErr r (λ e. SomeRun steps s (λ p. (p.len ≡ at e + 1)
-          × PutsItemsBefore eq N items new p.items (at e)))
+      × PutsItemsBefore eq N items new p.items (at e)))
       → IfErr r (λ e. N < length (put_all_items eq items xs))
   refused_is_many rest {xs = xs} new at r reads left stops =
       IfErr-weaker r (λ e. PutsItemsBefore eq N items new xs (at e))

@@ -16,6 +16,6 @@ module _ {K V W : Type 0} (eq : K → K → Bool) (step : Option V → W → V) 
   keys_merged pairs (item ∷ items) =
       keys_merged (merge_pair eq step pairs item) items
       ∙ ap (λ keys. put_all_items eq keys (keys_of items))
-          (keys_put_item eq item.0 (step (at eq pairs item.0) item.1) pairs)
+      (keys_put_item eq item.0 (step (at eq pairs item.0) item.1) pairs)
 
 pub ruleset merged_keys = (keys_merged, merge_laws)

@@ -62,66 +62,105 @@ unique-entries eq items distinct = subst (IsDistinct eq) (sym (keys_of-entries i
 module _ {T : Type 0} (eq : T → T → Bool) (test : T → Bool) (items : List T) (x : T) where
   pub any_put_item : Probes eq test
       → list_any test (put_item eq items x) ≡ (test x || list_any test items)
-  any_put_item probes = grind (arith, entries-put_item eq items x,
-        any-keys test (put eq (entries_of items) x tt),
-        lookup_put eq test (entries_of items) x tt probes, any-entries test items)
+  any_put_item probes = grind (
+    arith,
+    entries-put_item eq items x,
+    any-keys test (put eq (entries_of items) x tt),
+    lookup_put eq test (entries_of items) x tt probes,
+    any-entries test items,
+  )
 
   pub any_replace_item : Probes eq test
       → list_any test (replace_item eq items x) ≡ (test x || list_any test items)
   any_replace_item probes =
-      grind (arith, entries-replace_item eq items x,
+      grind (
+        arith,
+        entries-replace_item eq items x,
         any-keys test (put_key eq (entries_of items) x tt),
-        lookup_put_key eq test (entries_of items) x tt probes, any-entries test items)
+        lookup_put_key eq test (entries_of items) x tt probes,
+        any-entries test items,
+      )
 
   pub any_take_item : Probes eq test → IsDistinct eq items
       → list_any test (take_item eq items x) ≡ (not (test x) && list_any test items)
   any_take_item probes distinct =
-      grind (arith, entries-take_item eq items x, any-keys test (take_out eq (entries_of items) x),
+      grind (
+        arith,
+        entries-take_item eq items x,
+        any-keys test (take_out eq (entries_of items) x),
         lookup_take_out eq test (entries_of items) x probes (unique-entries eq items distinct),
-        any-entries test items)
+        any-entries test items,
+      )
 
   pub find_put_item : Probes eq test
       → find test (put_item eq items x)
       ≡ (if test x then Some (unwrap_or (find_item eq items x) x) else find test items)
-  find_put_item probes = grind (arith, entries-put_item eq items x,
-        find-keys test (put eq (entries_of items) x tt),
-        pair_put eq test (entries_of items) x tt probes, find-entries (eq x) items,
-        find-entries test items)
+  find_put_item probes = grind (
+    arith,
+    entries-put_item eq items x,
+    find-keys test (put eq (entries_of items) x tt),
+    pair_put eq test (entries_of items) x tt probes,
+    find-entries (eq x) items,
+    find-entries test items,
+  )
 
   pub find_replace_item : Probes eq test
       → find test (replace_item eq items x) ≡ (if test x then Some x else find test items)
   find_replace_item probes =
-      grind (arith, entries-replace_item eq items x,
+      grind (
+        arith,
+        entries-replace_item eq items x,
         find-keys test (put_key eq (entries_of items) x tt),
-        pair_put_key eq test (entries_of items) x tt probes, find-entries test items)
+        pair_put_key eq test (entries_of items) x tt probes,
+        find-entries test items,
+      )
 
   pub find_take_item : Probes eq test → IsDistinct eq items
       → find test (take_item eq items x) ≡ (if test x then None else find test items)
   find_take_item probes distinct =
-      grind (arith, entries-take_item eq items x, find-keys test (take_out eq (entries_of items) x),
+      grind (
+        arith,
+        entries-take_item eq items x,
+        find-keys test (take_out eq (entries_of items) x),
         pair_take_out eq test (entries_of items) x probes (unique-entries eq items distinct),
-        find-entries test items)
+        find-entries test items,
+      )
 
 module _ {T : Type 0} (eq : T → T → Bool) (items : List T) (x : T) where
   -- how many items there are
   pub length_put_item : length (put_item eq items x)
       ≡ (if is_member eq items x then length items else length items + 1)
-  length_put_item = grind (arith, entries-put_item eq items x,
-        length-keys_of (put eq (entries_of items) x tt), length_put eq (entries_of items) x tt,
-        any-entries (eq x) items, length-entries items)
+  length_put_item = grind (
+    arith,
+    entries-put_item eq items x,
+    length-keys_of (put eq (entries_of items) x tt),
+    length_put eq (entries_of items) x tt,
+    any-entries (eq x) items,
+    length-entries items,
+  )
 
   pub length_replace_item :
       length (replace_item eq items x)
       ≡ (if is_member eq items x then length items else length items + 1)
-  length_replace_item = grind (arith, entries-replace_item eq items x,
-        length-keys_of (put_key eq (entries_of items) x tt),
-        length_put_key eq (entries_of items) x tt, any-entries (eq x) items, length-entries items)
+  length_replace_item = grind (
+    arith,
+    entries-replace_item eq items x,
+    length-keys_of (put_key eq (entries_of items) x tt),
+    length_put_key eq (entries_of items) x tt,
+    any-entries (eq x) items,
+    length-entries items,
+  )
 
   pub length_take_item : length (take_item eq items x) + (if is_member eq items x then 1 else 0)
       ≡ length items
-  length_take_item = grind (arith, entries-take_item eq items x,
-        length-keys_of (take_out eq (entries_of items) x), length_take_out eq (entries_of items) x,
-        any-entries (eq x) items, length-entries items)
+  length_take_item = grind (
+    arith,
+    entries-take_item eq items x,
+    length-keys_of (take_out eq (entries_of items) x),
+    length_take_out eq (entries_of items) x,
+    any-entries (eq x) items,
+    length-entries items,
+  )
 
   -- that they are pairwise unequal
   pub unique_put_item : Lawful eq → IsDistinct eq items → IsDistinct eq (put_item eq items x)
@@ -140,8 +179,8 @@ module _ {T : Type 0} (eq : T → T → Bool) (items : List T) (x : T) where
       → take_item eq items x ≡ filter (λ y. not (eq x y)) items
   items_take_item laws distinct =
       entries-take_item eq items x
-          ∙ keys_take_out eq (entries_of items) x laws (unique-entries eq items distinct)
-          ∙ ap (filter (λ y. not (eq x y))) (keys_of-entries items)
+      ∙ keys_take_out eq (entries_of items) x laws (unique-entries eq items distinct)
+      ∙ ap (filter (λ y. not (eq x y))) (keys_of-entries items)
 
   pub unique_take_item : Lawful eq → IsDistinct eq items → IsDistinct eq (take_item eq items x)
   unique_take_item laws distinct =
@@ -166,8 +205,8 @@ module _ {T : Type 0} (eq : T → T → Bool) (items : List T) (x : T) where
   pub take_item_missing : is_member eq items x ≡ false → take_item eq items x ≡ items
   take_item_missing missing =
       entries-take_item eq items x
-          ∙ ap keys_of (take_out_missing eq (entries_of items) x
-            (None-if_not_some _ (sym (any-entries (eq x) items) ∙ missing))) ∙ keys_of-entries items
+      ∙ ap keys_of (take_out_missing eq (entries_of items) x
+      (None-if_not_some _ (sym (any-entries (eq x) items) ∙ missing))) ∙ keys_of-entries items
 
 -- at an item of one's own
 module _ {T : Type 0} (eq : T → T → Bool) (items : List T) (x y : T) where
@@ -212,8 +251,11 @@ module _ {T : Type 0} (eq : T → T → Bool) where
       → list_any test (put_all_items eq items xs) ≡ (list_any test xs || list_any test items)
   any_put_all_items test items [] probes = refl
   any_put_all_items test items (x ∷ xs) probes =
-      grind (arith, any_put_all_items test (put_item eq items x) xs probes,
-        any_put_item eq test items x probes)
+      grind (
+        arith,
+        any_put_all_items test (put_item eq items x) xs probes,
+        any_put_item eq test items x probes,
+      )
 
   pub is_member_put_all_items : (items xs : List T) (y : T) → Lawful eq
       → is_member eq (put_all_items eq items xs) y ≡ (is_member eq xs y || is_member eq items y)
@@ -235,7 +277,7 @@ module _ {T : Type 0} (test : T → Bool) where
       → remove_key test items ≡ filter (λ y. not (test y)) items
   items_remove_key eq items probes distinct =
       ap (remove_key test) (sym (keys_of-entries items)) ∙ take-keys test (entries_of items)
-          ∙ keys_remove_entry test (entries_of items) eq probes (unique-entries eq items distinct)
+      ∙ keys_remove_entry test (entries_of items) eq probes (unique-entries eq items distinct)
       ∙ ap (filter (λ y. not (test y))) (keys_of-entries items)
 
 -- each item that a loop over a set comes to is in the set: so of what is left at the start, which is all
@@ -250,32 +292,40 @@ module _ {T : Type 0} (eq : T → T → Bool) (items : List T) (x : T) where
   pub each_put_item : Lawful eq
       → (put_item eq items x ≡ put_item eq items x) × (is_member eq (put_item eq items x) x ≡ true)
       × ((y : T) → is_member eq (put_item eq items x) y ≡ (eq x y || is_member eq items y))
-  each_put_item laws = (refl, is_member_put_item eq items x x laws
+  each_put_item laws = (
+    refl,
+    is_member_put_item eq items x x laws
         ∙ ap (λ b. b || is_member eq items x) ((of_lawful eq laws).refl x),
-        λ y. is_member_put_item eq items x y laws)
+    λ y. is_member_put_item eq items x y laws,
+  )
 
   pub each_replace_item : Lawful eq
       → (replace_item eq items x ≡ replace_item eq items x)
       × (find_item eq (replace_item eq items x) x ≡ Some x)
       × ((y : T) → is_member eq (replace_item eq items x) y ≡ (eq x y || is_member eq items y))
-  each_replace_item laws = (refl, find_item_replace_item eq items x x laws
+  each_replace_item laws = (
+    refl,
+    find_item_replace_item eq items x x laws
         ∙ ap (λ b. if b then Some x else find_item eq items x) ((of_lawful eq laws).refl x),
-        λ y. is_member_replace_item eq items x y laws)
+    λ y. is_member_replace_item eq items x y laws,
+  )
 
   pub each_take_item : Lawful eq → IsDistinct eq items
       → (take_item eq items x ≡ take_item eq items x)
       × (is_member eq (take_item eq items x) x ≡ false)
       × ((y : T) → is_member eq (take_item eq items x) y ≡ (not (eq x y) && is_member eq items y))
-  each_take_item laws distinct =
-      (refl, is_member_take_item eq items x x laws distinct
+  each_take_item laws distinct = (
+    refl,
+    is_member_take_item eq items x x laws distinct
         ∙ ap (λ b. not b && is_member eq items x) ((of_lawful eq laws).refl x),
-        λ y. is_member_take_item eq items x y laws distinct)
+    λ y. is_member_take_item eq items x y laws distinct,
+  )
 
 module _ {T : Type 0} (eq : T → T → Bool) (xs ys : List T) where
   pub each_put_all_items : Lawful eq
       → (put_all_items eq xs ys ≡ put_all_items eq xs ys)
       × ((y : T) → is_member eq (put_all_items eq xs ys) y
-        ≡ (is_member eq ys y || is_member eq xs y))
+      ≡ (is_member eq ys y || is_member eq xs y))
   each_put_all_items laws = (refl, λ y. is_member_put_all_items eq xs ys y laws)
 
   pub each_union : Lawful eq
@@ -286,25 +336,55 @@ module _ {T : Type 0} (eq : T → T → Bool) (xs ys : List T) where
   pub each_symmetric_difference : Lawful eq
       → (symmetric_difference eq xs ys ≡ symmetric_difference eq xs ys)
       × ((y : T) → is_member eq (symmetric_difference eq xs ys) y
-        ≡ (if is_member eq xs y then not (is_member eq ys y) else is_member eq ys y))
+      ≡ (if is_member eq xs y then not (is_member eq ys y) else is_member eq ys y))
   each_symmetric_difference laws = (refl, is_member-symmetric_difference (of_lawful eq laws) xs ys)
 
   pub each_difference : Lawful eq
       → (difference eq xs ys ≡ difference eq xs ys)
       × ((y : T) → is_member eq (difference eq xs ys) y
-        ≡ (is_member eq xs y && not (is_member eq ys y)))
+      ≡ (is_member eq xs y && not (is_member eq ys y)))
   each_difference laws = (refl, is_member-difference (of_lawful eq laws) xs ys)
 
   pub each_intersection : Lawful eq
       → (intersection eq xs ys ≡ intersection eq xs ys)
       × ((y : T) → is_member eq (intersection eq xs ys) y
-        ≡ (is_member eq xs y && is_member eq ys y))
+      ≡ (is_member eq xs y && is_member eq ys y))
   each_intersection laws = (refl, is_member-intersection (of_lawful eq laws) xs ys)
 
-pub ruleset set_laws = (put_item_new, not_fits, is_member_first, is_member_behind, take_item_first,
-      any_put_all_items, any_put_item, any_replace_item, any_take_item, find_put_item,
-      find_replace_item, find_take_item, length_put_item, length_replace_item, length_take_item,
-      items_take_item, unique_put_item, unique_replace_item, unique_take_item, put_item_back,
-      take_item_missing, remove_key_missing, length_remove_key, items_remove_key, each_put_item,
-      each_replace_item, each_take_item, each_put_all_items, each_union, each_symmetric_difference,
-      each_difference, each_intersection, is_member_walked, each_set_text, equalities)
+pub ruleset set_laws = (
+  put_item_new,
+  not_fits,
+  is_member_first,
+  is_member_behind,
+  take_item_first,
+  any_put_all_items,
+  any_put_item,
+  any_replace_item,
+  any_take_item,
+  find_put_item,
+  find_replace_item,
+  find_take_item,
+  length_put_item,
+  length_replace_item,
+  length_take_item,
+  items_take_item,
+  unique_put_item,
+  unique_replace_item,
+  unique_take_item,
+  put_item_back,
+  take_item_missing,
+  remove_key_missing,
+  length_remove_key,
+  items_remove_key,
+  each_put_item,
+  each_replace_item,
+  each_take_item,
+  each_put_all_items,
+  each_union,
+  each_symmetric_difference,
+  each_difference,
+  each_intersection,
+  is_member_walked,
+  each_set_text,
+  equalities,
+)

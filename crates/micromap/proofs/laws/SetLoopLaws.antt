@@ -49,10 +49,15 @@ module _ {T : Type 0} (eq : T → T → Bool) where
   put_all_items_union xs [] laws distinct = sym (append-nil xs)
   put_all_items_union xs (y ∷ ys) laws distinct =
       let next = put_all_items_union (put_item eq xs y) ys laws
-          (IsDistinct-tail eq y ys distinct) in
+      (IsDistinct-tail eq y ys distinct) in
       let apart = new_apart xs ys y laws (IsDistinct-head eq y ys distinct) in
-      grind (arith, next, apart, put_item_back eq xs y,
-            put_item_first_of_rest xs (difference eq ys xs) y)
+      grind (
+        arith,
+        next,
+        apart,
+        put_item_back eq xs y,
+        put_item_first_of_rest xs (difference eq ys xs) y,
+      )
 
   -- an item that is taken out is one that a difference leaves out
   left_out : (xs ys : List T) (x : T) → Lawful eq
@@ -69,7 +74,19 @@ module _ {T : Type 0} (eq : T → T → Bool) where
   difference_none [] = refl
   difference_none (x ∷ xs) = ap (λ l. x ∷ l) (difference_none xs)
 
-pub ruleset set_loop_laws =
-    (keys_put_item, keys_put_all_items, length-keys_of, copied_item_next, IsDistinct-filter,
-      not_fits, length_put_item, length_le_put_all_items, put_all_items_union, difference_take_item,
-      difference_none, each_left, length-append, equalities)
+pub ruleset set_loop_laws = (
+  keys_put_item,
+  keys_put_all_items,
+  length-keys_of,
+  copied_item_next,
+  IsDistinct-filter,
+  not_fits,
+  length_put_item,
+  length_le_put_all_items,
+  put_all_items_union,
+  difference_take_item,
+  difference_none,
+  each_left,
+  length-append,
+  equalities,
+)

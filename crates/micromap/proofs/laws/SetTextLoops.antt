@@ -36,8 +36,8 @@ module _ {T : Type 0} (see : T → List ℕ) where
         (bs ∷ ys) ≡ difference bytes_eq (items_by see (remove_key (λ x. bytes_eq bs (see x)) xs)) ys
     difference_remove_text bs distinct =
         sym (difference_take_item bytes_eq (items_by see xs) ys bs lawful_bytes
-              (unique_item_texts see xs distinct))
-            ∙ ap (λ l. difference bytes_eq l ys) (item_texts_remove_key see xs bs)
+        (unique_item_texts see xs distinct))
+        ∙ ap (λ l. difference bytes_eq l ys) (item_texts_remove_key see xs bs)
 
     pub difference_take_text : (eq : T → T → Bool) (x : T) → ComparesBy see eq
         → IsDistinct (on see bytes_eq) xs
@@ -45,8 +45,8 @@ module _ {T : Type 0} (see : T → List ℕ) where
         ≡ difference bytes_eq (items_by see xs) (see x ∷ ys)
     difference_take_text eq x compares distinct =
         ap (λ l. difference bytes_eq l ys) (item_texts_take_item see xs eq x compares)
-            ∙ difference_take_item bytes_eq (items_by see xs) ys (see x) lawful_bytes
-            (unique_item_texts see xs distinct)
+        ∙ difference_take_item bytes_eq (items_by see xs) ys (see x) lawful_bytes
+        (unique_item_texts see xs distinct)
 
   module _ (eq : T → T → Bool) where
     -- a text that is put between the items that are done and those that are left
@@ -55,7 +55,7 @@ module _ {T : Type 0} (see : T → List ℕ) where
         → items_by see (put_item eq done x) ++ rest ≡ items_by see done ++ see x ∷ rest
     item_texts_next done rest x compares distinct =
         ap (λ l. l ++ rest) (item_texts_put_item see done eq x compares)
-            ∙ copied_item_next bytes_eq (items_by see done) rest (see x) lawful_bytes distinct
+        ∙ copied_item_next bytes_eq (items_by see done) rest (see x) lawful_bytes distinct
 
     -- the items once these are put
     pub item_texts_put_all : (items xs : List T) → ComparesBy see eq
@@ -65,8 +65,8 @@ module _ {T : Type 0} (see : T → List ℕ) where
     item_texts_put_all items [] compares = refl
     item_texts_put_all items (x ∷ xs) compares =
         item_texts_put_all (put_item eq items x) xs compares
-            ∙ ap (λ l. put_all_items bytes_eq l (items_by see xs))
-            (item_texts_put_item see items eq x compares)
+        ∙ ap (λ l. put_all_items bytes_eq l (items_by see xs))
+        (item_texts_put_item see items eq x compares)
 
     pub item_texts_distinct : (xs : List T) → ComparesBy see eq
         → items_by see (distinct eq xs) ≡ distinct bytes_eq (items_by see xs)
@@ -87,28 +87,49 @@ module _ {T : Type 0} (see : T → List ℕ) where
       unfolding symmetric_difference
       symmetric_difference_texts compares =
           ap (λ e. items_by see (symmetric_difference e a b)) (compares_by see eq compares)
-              ∙ append_texts _ _ ∙ sym
-              (λ i. difference_texts see a b i ++ difference_texts see b a i)
+          ∙ append_texts _ _ ∙ sym
+          (λ i. difference_texts see a b i ++ difference_texts see b a i)
 
       pub unique_union_texts : ComparesBy see eq → IsDistinct eq (union eq a b)
           → IsDistinct bytes_eq (union bytes_eq (items_by see a) (items_by see b))
       unique_union_texts compares unique =
           subst (IsDistinct bytes_eq) (union_texts compares)
           (unique_item_texts see (union eq a b)
-            (subst (λ e. IsDistinct e (union eq a b)) (compares_by see eq compares) unique))
+          (subst (λ e. IsDistinct e (union eq a b)) (compares_by see eq compares) unique))
 
       pub unique_symmetric_texts : ComparesBy see eq → IsDistinct eq (symmetric_difference eq a b)
           → IsDistinct bytes_eq (symmetric_difference bytes_eq (items_by see a) (items_by see b))
       unique_symmetric_texts compares unique =
           subst (IsDistinct bytes_eq) (symmetric_difference_texts compares)
           (unique_item_texts see (symmetric_difference eq a b)
-            (subst (λ e. IsDistinct e (symmetric_difference eq a b)) (compares_by see eq compares)
-              unique))
+          (subst (λ e. IsDistinct e (symmetric_difference eq a b)) (compares_by see eq compares)
+          unique))
 
-pub ruleset set_text_loops =
-    (item_texts_empty, item_texts_first, item_texts_end, item_texts_next, item_texts_put_item,
-      is_member_made, unique_item_texts, unique_union_texts, unique_symmetric_texts,
-      IsDistinct-filter, union_texts, difference_texts, intersection_texts,
-      symmetric_difference_texts, difference_take_text, difference_remove_text, difference_none,
-      each_left_map, keys_texts, not_fits, length_item_texts, length_put_item, length-keys_of,
-      length-append, starts_text, equalities)
+pub ruleset set_text_loops = (
+  item_texts_empty,
+  item_texts_first,
+  item_texts_end,
+  item_texts_next,
+  item_texts_put_item,
+  is_member_made,
+  unique_item_texts,
+  unique_union_texts,
+  unique_symmetric_texts,
+  IsDistinct-filter,
+  union_texts,
+  difference_texts,
+  intersection_texts,
+  symmetric_difference_texts,
+  difference_take_text,
+  difference_remove_text,
+  difference_none,
+  each_left_map,
+  keys_texts,
+  not_fits,
+  length_item_texts,
+  length_put_item,
+  length-keys_of,
+  length-append,
+  starts_text,
+  equalities,
+)

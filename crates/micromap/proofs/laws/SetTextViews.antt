@@ -90,17 +90,23 @@ module _ {T : Type 0} (see : T → List ℕ) where
       pub matched_item_texts :
           (is_member bytes_eq (items_by see items) bs ≡ is_member bytes_eq (items_by see items) bs)
           × (is_some (find (λ x. bytes_eq bs (see x)) items)
-            ≡ is_member bytes_eq (items_by see items) bs)
-      matched_item_texts = (refl, sym (any-find (λ x. bytes_eq bs (see x)) items)
-            ∙ sym is_member_item_texts)
+          ≡ is_member bytes_eq (items_by see items) bs)
+      matched_item_texts = (
+        refl,
+        sym (any-find (λ x. bytes_eq bs (see x)) items)
+            ∙ sym is_member_item_texts,
+      )
 
       -- an item that is made of a text is known by its bytes alone
       pub is_member_made : (x : T) → see x ≡ bs
           → (is_member bytes_eq (items_by see items) bs
-            ≡ is_member bytes_eq (items_by see items) bs)
+          ≡ is_member bytes_eq (items_by see items) bs)
           × (is_member (on see bytes_eq) items x ≡ is_member bytes_eq (items_by see items) bs)
-      is_member_made x is = (refl, ap (λ bs. list_any (λ y. bytes_eq bs (see y)) items) is
-            ∙ sym is_member_item_texts)
+      is_member_made x is = (
+        refl,
+        ap (λ bs. list_any (λ y. bytes_eq bs (see y)) items) is
+            ∙ sym is_member_item_texts,
+      )
 
     module _ (eq : T → T → Bool) (x : T) where
       pub item_texts_put_item : ComparesBy see eq
@@ -108,7 +114,7 @@ module _ {T : Type 0} (see : T → List ℕ) where
       unfolding items_by put_item
       item_texts_put_item compares =
           ap (λ e. items_by see (put_item e items x)) (compares_by see eq compares)
-              ∙ grind (arith, any-map see (bytes_eq (see x)) items, map-append see items (x ∷ []))
+          ∙ grind (arith, any-map see (bytes_eq (see x)) items, map-append see items (x ∷ []))
 
       pub item_texts_replace_item : ComparesBy see eq
           → items_by see (replace_item eq items x) ≡ replace_item bytes_eq (items_by see items)
@@ -116,8 +122,12 @@ module _ {T : Type 0} (see : T → List ℕ) where
       unfolding items_by replace_item
       item_texts_replace_item compares =
           ap (λ e. items_by see (replace_item e items x)) (compares_by see eq compares)
-          ∙ grind (arith, any-map see (bytes_eq (see x)) items,
-                swap_key-map see (bytes_eq (see x)) items x, map-append see items (x ∷ []))
+          ∙ grind (
+            arith,
+            any-map see (bytes_eq (see x)) items,
+            swap_key-map see (bytes_eq (see x)) items x,
+            map-append see items (x ∷ []),
+          )
 
       pub item_texts_take_item : ComparesBy see eq
           → items_by see (take_item eq items x) ≡ take_item bytes_eq (items_by see items) (see x)
@@ -136,7 +146,7 @@ module _ {T : Type 0} (see : T → List ℕ) where
     same_texts_members : have_equal_items bytes_eq (items_by see a) (items_by see b) ≡ true
         → HaveEquals bytes_eq (items_by see a) (items_by see b)
     same_texts_members = (same_members (of_lawful bytes_eq lawful_bytes) (items_by see a)
-          (items_by see b)).0
+        (items_by see b)).0
 
     pub equal_text : have_equal_items (on see bytes_eq) a b ≡ true → (bs : List ℕ)
         → is_member bytes_eq (items_by see a) bs ≡ is_member bytes_eq (items_by see b) bs
@@ -157,7 +167,7 @@ module _ {T : Type 0} (see : T → List ℕ) where
         ∙ by_items test (a ++ b) _
         (λ none. grind (arith, none, list_any-append test a b))
         (λ x matches. subst (λ test. list_any test a ≡ list_any test b)
-              (sym (same_test (on see bytes_eq) test p.alike_keys p.equal_keys x matches)) (each x))
+        (sym (same_test (on see bytes_eq) test p.alike_keys p.equal_keys x matches)) (each x))
         ∙ sym (is_member_item_texts b bs)
 
     by_item : HaveEquals bytes_eq (items_by see a) (items_by see b)
@@ -198,8 +208,13 @@ module _ {T : Type 0} (see : T → List ℕ) where
     texts_apart each bs there = by_items (λ x. bytes_eq bs (see x)) a _
         (λ none. grind (arith, is_member_item_texts a bs, none, there))
         (λ x matches. let is = sym ((bytes_eq-Decides bs (see x)).0 matches) in
-              grind (arith, (is_member_made a bs x is).1, (is_member_made b bs x is).1, each x,
-                there))
+        grind (
+          arith,
+          (is_member_made a bs x is).1,
+          (is_member_made b bs x is).1,
+          each x,
+          there,
+        ))
 
     apart : IsDisjoint bytes_eq (items_by see a) (items_by see b) → IsDisjoint (on see bytes_eq) a b
     apart each x there = (is_member_made b _ x refl).1
@@ -225,17 +240,19 @@ module _ {T : Type 0} (see : T → List ℕ) where
         → items_by see new ≡ filter test (items_by see items)
     item_texts_retained long told kept pure =
         ap (items_by see) (retained_items R f q bs items new (λ x. test (see x)) long told kept
-          pure) ∙ item_texts_filter items test
+        pure) ∙ item_texts_filter items test
 
   -- what is printed of texts: the text that a set prints is that of its texts, and is known
   pub text_of_item_texts : (items : List T)
       → (set_text (λ name. Some name) (items_by see items) ≡ set_text (λ x. Some (see x)) items)
       × (is_some (set_text (λ x. Some (see x)) items) ≡ true)
   unfolding items_by
-  text_of_item_texts items =
-      (ap (λ text. Some (codes "{") ++? text ++? Some (codes "}"))
-        (printed-map see (λ name. Some name) [] items), set_text_known (λ x. Some (see x))
-        (λ x. refl) items)
+  text_of_item_texts items = (
+    ap (λ text. Some (codes "{") ++? text ++? Some (codes "}"))
+        (printed-map see (λ name. Some name) [] items),
+    set_text_known (λ x. Some (see x))
+        (λ x. refl) items,
+  )
 
 -- from the texts of two sets to their items, for a search: of `String`, and of `&str`
 module _ {Z : Type 0} (a b : List (String Z)) where
@@ -274,16 +291,43 @@ module _ (a b : List (Bor (List ℕ))) where
   str_disjoint = apart (λ s. s.now) a b
 
 -- `each_item_text`, `each_text_item` and `each_str_item` are tried at each two sets, so `caller` has `set_texts`
-pub ruleset set_texts = (item_texts_empty, item_texts_first, is_member_item_texts,
-      unique_item_texts, item_texts_replace_item, item_texts_front, item_texts_drop,
-      length_item_texts, item_texts_put_item, item_texts_take_item, item_texts_clone,
-      item_texts_remove_key, find_item_item_texts, matched_item_texts, is_member_made,
-      same_item_texts, equal_text, equal_by_text, equal_by_str, item_texts_retained,
-      text_of_item_texts, put_item_back, length_put_item, equalities)
+pub ruleset set_texts = (
+  item_texts_empty,
+  item_texts_first,
+  is_member_item_texts,
+  unique_item_texts,
+  item_texts_replace_item,
+  item_texts_front,
+  item_texts_drop,
+  length_item_texts,
+  item_texts_put_item,
+  item_texts_take_item,
+  item_texts_clone,
+  item_texts_remove_key,
+  find_item_item_texts,
+  matched_item_texts,
+  is_member_made,
+  same_item_texts,
+  equal_text,
+  equal_by_text,
+  equal_by_str,
+  item_texts_retained,
+  text_of_item_texts,
+  put_item_back,
+  length_put_item,
+  equalities,
+)
 
 pub ruleset set_text_views = (set_texts, each_item_text, each_text_item, each_str_item)
 
 -- after `is_subset`, `is_disjoint`, `sub` and `bitand`
-pub ruleset set_text_operations =
-    (subset_texts, disjoint_text, text_disjoint, disjoint_str, str_disjoint, difference_clone,
-      intersection_clone, equalities)
+pub ruleset set_text_operations = (
+  subset_texts,
+  disjoint_text,
+  text_disjoint,
+  disjoint_str,
+  str_disjoint,
+  difference_clone,
+  intersection_clone,
+  equalities,
+)

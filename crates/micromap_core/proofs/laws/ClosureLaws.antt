@@ -19,14 +19,14 @@ module _ {F K V : Type 0} (T : F → K → V → Bool → V → F → Type 0) (f
     (test : K × V → Bool) where
   pub retained : RetainsPairs T f pairs new
       → ((k : K) (v : V) (b : Bool) (w : V) (t : F) → T f k v b w t
-        → (b ≡ test (k, v)) × (w ≡ v) × (t ≡ f)) → new ≡ filter test pairs
+      → (b ≡ test (k, v)) × (w ≡ v) × (t ≡ f)) → new ≡ filter test pairs
   retained calls pure = filter_same_pairs T test f pure pairs new calls
 
 module _ {F K V : Type 0} (see : K → List ℕ) (T : F → K → V → Bool → V → F → Type 0) (f : F)
     (pairs new : List (K × V)) (test : List ℕ × V → Bool) where
   pub texts_retained : RetainsPairs T f pairs new
       → ((k : K) (v : V) (b : Bool) (w : V) (t : F) → T f k v b w t
-        → (b ≡ test (see k, v)) × (w ≡ v) × (t ≡ f))
+      → (b ≡ test (see k, v)) × (w ≡ v) × (t ≡ f))
       → texts_by see (λ v. v) new ≡ filter test (texts_by see (λ v. v) pairs)
   texts_retained calls pure =
       ap (texts_by see (λ v. v)) (retained T f pairs new (λ p. test (see p.0, p.1)) calls pure)
@@ -44,7 +44,7 @@ module _ {F K V R : Type 0} (g : Mut F (Bor K × (MutBor V × Unit {0})) (R × (
     (f last : F) (pairs new : List (K × V)) (h : K × V → K × V) where
   pub updated : FoldsTo (UpdateAllTurn g) (f, []) pairs (last, new)
       → ((k : K) (v : V) (r : R) (w : V) (t : F) → CalledOnPair g f k v r w t
-        → ((k, w) ≡ h (k, v)) × (t ≡ f)) → new ≡ map h pairs
+      → ((k, w) ≡ h (k, v)) × (t ≡ f)) → new ≡ map h pairs
   updated turns pure = sym (map-id new) ∙ seen g f last pairs new (λ p. p) h turns pure
 
 module _ {F K V R : Type 0} (see : K → List ℕ)
@@ -52,7 +52,7 @@ module _ {F K V R : Type 0} (see : K → List ℕ)
     (pairs new : List (K × V)) (h : List ℕ × V → List ℕ × V) where
   pub texts_updated : FoldsTo (UpdateAllTurn g) (f, []) pairs (last, new)
       → ((k : K) (v : V) (r : R) (w : V) (t : F) → CalledOnPair g f k v r w t
-        → ((see k, w) ≡ h (see k, v)) × (t ≡ f))
+      → ((see k, w) ≡ h (see k, v)) × (t ≡ f))
       → texts_by see (λ v. v) new ≡ map h (texts_by see (λ v. v) pairs)
   unfolding texts_by
   texts_updated turns pure = seen g f last pairs new (λ p. (see p.0, p.1)) h turns pure
@@ -64,7 +64,7 @@ module _ {F K V R : Type 0} (eq : K → K → Bool)
     (pairs new : List (K × V)) (keys : List K) (h : ℕ → V → V) where
   pub updated_keys : FoldsTo (UpdateDisjointTurn eq g) (f, pairs) (enumerate_from 0 keys)
       (last, new) → ((i : ℕ) (v : V) (r : R) (w : V) (t : F) → CalledOnValue g f i v r w t
-        → (w ≡ h i v) × (t ≡ f)) → new ≡ updated_disjoint eq h pairs keys
+      → (w ≡ h i v) × (t ≡ f)) → new ≡ updated_disjoint eq h pairs keys
   updated_keys turns pure = updated_at_keys h (record { last = last; turns = turns }) pure
 
 pub ruleset closure_laws =

@@ -95,6 +95,18 @@ probes_str bytes = probes_by (λ s. s.now) bytes
 pub lawful_on : {K J : Type 0} (f : K → J) (eq : J → J → Bool) → Lawful eq → Lawful (on f eq)
 lawful_on f eq laws = lawful (on f eq) (on_equiv f (of_lawful eq laws))
 
-pub ruleset equalities = (probes_key, lawful_nat, lawful_int, lawful_bool, lawful_string,
-      probes_string, probes_text, lawful_bytes, probes_bytes, bytes_turned, lawful_str, probes_str,
-      lawful_on)
+pub ruleset equalities = (
+  probes_key,
+  lawful_nat,
+  lawful_int,
+  lawful_bool,
+  lawful_string,
+  probes_string,
+  probes_text,
+  lawful_bytes,
+  probes_bytes,
+  bytes_turned,
+  lawful_str,
+  probes_str,
+  lawful_on,
+)

@@ -51,7 +51,7 @@ module _ {T : Type 0} (eq : T → T → Bool) (equality : Lawful eq) where
         → HaveEqualItems eq xs ys
     equal_items_from_one_side long all =
         both_true all (members_turned (of_lawful eq equality) xs ys distinct all
-          (omega (arith, long)))
+        (omega (arith, long)))
 
 -- of pairs
 module _ {K V : Type 0} (eq : K → K → Bool) (equality : Lawful eq) where
@@ -60,8 +60,8 @@ module _ {K V : Type 0} (eq : K → K → Bool) (equality : Lawful eq) where
       → length second < length first → (k : K) × (has eq first k ≡ true) × (has eq second k ≡ false)
   longer_has_key first second unique longer =
       let key = longer_has_item eq equality (keys_of first)
-          (keys_of second) unique
-          (omega (arith, longer, length-keys_of first, length-keys_of second)) in
+      (keys_of second) unique
+      (omega (arith, longer, length-keys_of first, length-keys_of second)) in
       (key.0, is_some-lookup (eq key.0) first ∙ key.1, is_some-lookup (eq key.0) second ∙ key.2)
 
   module _ (same : V → V → Bool) (values : Lawful same) where
@@ -87,18 +87,18 @@ module _ {K V : Type 0} (eq : K → K → Bool) (equality : Lawful eq) where
       -- they are the same exactly where no key is in one alone, and none has unequal values
       pub same_iff_filters : Same eq same first second
           ↔ ((filter (λ p. not (has eq second p.0)) first ≡ [])
-            × (filter (λ p. not (has eq first p.0)) second ≡ [])
-            × (filter (λ p. has eq second p.0 && not (has_value eq same second p)) first ≡ []))
+          × (filter (λ p. not (has eq first p.0)) second ≡ [])
+          × (filter (λ p. has eq second p.0 && not (has_value eq same second p)) first ≡ []))
       same_iff_filters =
           let keys = of_lawful eq equality in
           let equal = of_lawful same values in (
             λ are.
                 let one = filters_empty eq same keys equal first second unique_first unique_second
-                    first (values_within eq same keys equal first second unique_second
-                      (first_so _ _ are)) in
+                first (values_within eq same keys equal first second unique_second
+                (first_so _ _ are)) in
                 let other = filters_empty eq same keys equal second first unique_second unique_first
-                    second (values_within eq same keys equal second first unique_first
-                      (second_so _ _ are)) in
+                second (values_within eq same keys equal second first unique_first
+                (second_so _ _ are)) in
                 (one.0, other.0, one.1),
             λ none. same_from_filters eq same keys equal first second unique_first unique_second
                 none.0 none.1 none.2,

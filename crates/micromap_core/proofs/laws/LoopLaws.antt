@@ -44,8 +44,8 @@ module _ {K V : Type 0} (eq : K → K → Bool) where
       → has eq done p.0 ≡ false
   has_done done rest p laws unique =
       is_some-lookup (eq p.0) done
-          ∙ new_behind (of_lawful eq laws) (keys_of done) p.0 (keys_of rest)
-          (subst (IsDistinct eq) (map-append (λ (q : K × V). q.0) done (p ∷ rest)) unique)
+      ∙ new_behind (of_lawful eq laws) (keys_of done) p.0 (keys_of rest)
+      (subst (IsDistinct eq) (map-append (λ (q : K × V). q.0) done (p ∷ rest)) unique)
 
   pub copied_next : (done rest : List (K × V)) (k : K) (v : V) → Lawful eq
       → IsUnique eq (done ++ (k, v) ∷ rest) → put eq done k v ++ rest ≡ done ++ (k, v) ∷ rest
@@ -83,10 +83,24 @@ module _ {X : Type 0} (items : List X) (i : ℕ) where
       → (map read (drop i items) ≡ map read (drop i items))
       × (length items ≤ i → map read (drop i items) ≡ [])
       × ((d : X) → i < length items
-        → map read (drop i items) ≡ read (get_or items i d) ∷ map read (drop (i + 1) items))
-  each_left_map read = (refl, (λ past. ap (map read) (each_left.1 past)),
-        λ d within. ap (map read) (each_left.2 d within))
+      → map read (drop i items) ≡ read (get_or items i d) ∷ map read (drop (i + 1) items))
+  each_left_map read = (
+    refl,
+    (λ past. ap (map read) (each_left.1 past)),
+    λ d within. ap (map read) (each_left.2 d within),
+  )
 
-pub ruleset loop_laws = (has_first, has_drop, fits_room, not_fits, copied_next, unique_map,
-      IsDistinct-keys_filter, build_unique, length_put, length_le_put_all, length-append,
-      equalities)
+pub ruleset loop_laws = (
+  has_first,
+  has_drop,
+  fits_room,
+  not_fits,
+  copied_next,
+  unique_map,
+  IsDistinct-keys_filter,
+  build_unique,
+  length_put,
+  length_le_put_all,
+  length-append,
+  equalities,
+)

@@ -37,8 +37,10 @@ use Rattle.micromap_core.specs.Probe.{is_text}
 module _ {K V : Type 0} (eq : K → K → Bool) (test : K → Bool) where
   pub pair_put : (pairs : List (K × V)) (k : K) (v : V) → Probes eq test
       → lookup_entry test (put eq pairs k v)
-      ≡ (if test k then Some (option_map_or (λ e. e.0) (pair eq pairs k) k,
-          v) else lookup_entry test pairs)
+      ≡ (if test k then Some (
+        option_map_or (λ e. e.0) (pair eq pairs k) k,
+        v,
+      ) else lookup_entry test pairs)
   unfolding put
   pair_put pairs k v probes = let p = of_probes eq test probes in
       grind (arith, entry_set eq test p k v pairs, entry_push eq test p k v pairs)
@@ -46,22 +48,34 @@ module _ {K V : Type 0} (eq : K → K → Bool) (test : K → Bool) where
   pub lookup_put : (pairs : List (K × V)) (k : K) (v : V) → Probes eq test
       → lookup test (put eq pairs k v) ≡ (if test k then Some v else lookup test pairs)
   lookup_put pairs k v probes =
-      grind (arith, lookup-entry test (put eq pairs k v), pair_put pairs k v probes,
-        lookup-entry test pairs)
+      grind (
+        arith,
+        lookup-entry test (put eq pairs k v),
+        pair_put pairs k v probes,
+        lookup-entry test pairs,
+      )
 
   pub pair_put_key : (pairs : List (K × V)) (k : K) (v : V) → Probes eq test
       → lookup_entry test (put_key eq pairs k v)
       ≡ (if test k then Some (k, v) else lookup_entry test pairs)
   unfolding put_key
   pair_put_key pairs k v probes = let p = of_probes eq test probes in
-      grind (arith, entry_set_key eq test p k v pairs, entry_push eq test p k v pairs,
-        entry_new eq k pairs)
+      grind (
+        arith,
+        entry_set_key eq test p k v pairs,
+        entry_push eq test p k v pairs,
+        entry_new eq k pairs,
+      )
 
   pub lookup_put_key : (pairs : List (K × V)) (k : K) (v : V) → Probes eq test
       → lookup test (put_key eq pairs k v) ≡ (if test k then Some v else lookup test pairs)
   lookup_put_key pairs k v probes =
-      grind (arith, lookup-entry test (put_key eq pairs k v), pair_put_key pairs k v probes,
-        lookup-entry test pairs)
+      grind (
+        arith,
+        lookup-entry test (put_key eq pairs k v),
+        pair_put_key pairs k v probes,
+        lookup-entry test pairs,
+      )
 
   pub pair_take_out : (pairs : List (K × V)) (k : K) → Probes eq test → IsUnique eq pairs
       → lookup_entry test (take_out eq pairs k) ≡ (if test k then None else lookup_entry test pairs)
@@ -70,14 +84,23 @@ module _ {K V : Type 0} (eq : K → K → Bool) (test : K → Bool) where
   pair_take_out (e ∷ es) k probes unique =
       let p = of_probes eq test probes in
       let apart = unique.0 in
-      grind (arith, pair_take_out es k probes unique.1, none_apart eq test p e.0 es,
-            p.alike_keys k e.0, p.equal_keys k e.0)
+      grind (
+        arith,
+        pair_take_out es k probes unique.1,
+        none_apart eq test p e.0 es,
+        p.alike_keys k e.0,
+        p.equal_keys k e.0,
+      )
 
   pub lookup_take_out : (pairs : List (K × V)) (k : K) → Probes eq test → IsUnique eq pairs
       → lookup test (take_out eq pairs k) ≡ (if test k then None else lookup test pairs)
   lookup_take_out pairs k probes unique =
-      grind (arith, lookup-entry test (take_out eq pairs k), pair_take_out pairs k probes unique,
-        lookup-entry test pairs)
+      grind (
+        arith,
+        lookup-entry test (take_out eq pairs k),
+        pair_take_out pairs k probes unique,
+        lookup-entry test pairs,
+      )
 
   pub pair_filter : (keep : K × V → Bool) (pairs : List (K × V)) → Probes eq test
       → IsUnique eq pairs → lookup_entry test (filter keep pairs)
@@ -85,8 +108,11 @@ module _ {K V : Type 0} (eq : K → K → Bool) (test : K → Bool) where
   unfolding IsDistinct
   pair_filter keep [] probes unique = refl
   pair_filter keep (e ∷ es) probes unique = let apart = unique.0 in
-      grind (arith, pair_filter keep es probes unique.1,
-        none_apart eq test (of_probes eq test probes) e.0 es)
+      grind (
+        arith,
+        pair_filter keep es probes unique.1,
+        none_apart eq test (of_probes eq test probes) e.0 es,
+      )
 
   pub lookup_filter : (keep : K × V → Bool) (pairs : List (K × V)) → Probes eq test
       → IsUnique eq pairs → lookup test (filter keep pairs) ≡ option_map (λ e. e.1)
@@ -100,9 +126,13 @@ module _ {K V : Type 0} (eq : K → K → Bool) (test : K → Bool) where
       (lookup test pairs)
   lookup_put_all pairs [] probes = refl
   lookup_put_all pairs (e ∷ items) probes =
-      grind (arith, lookup_put_all (put eq pairs e.0 e.1) items probes,
-        lookup_put pairs e.0 e.1 probes, reverse-append (e ∷ []) items,
-        lookup-append test (reverse items) (e ∷ []))
+      grind (
+        arith,
+        lookup_put_all (put eq pairs e.0 e.1) items probes,
+        lookup_put pairs e.0 e.1 probes,
+        reverse-append (e ∷ []) items,
+        lookup-append test (reverse items) (e ∷ []),
+      )
 
   pub lookup_build : (items : List (K × V)) → Probes eq test
       → lookup test (build eq items) ≡ lookup test (reverse items)
@@ -113,8 +143,8 @@ module _ {K V : Type 0} (eq : K → K → Bool) (test : K → Bool) where
       → lookup test (put_all eq pairs items) ≡ option_or (lookup test items) (lookup test pairs)
   lookup_put_all_unequal pairs items probes unequal =
       lookup_put_all pairs items probes
-          ∙ ap (λ o. option_or o (lookup test pairs))
-          (lookup-reverse eq test (of_probes eq test probes) items unequal)
+      ∙ ap (λ o. option_or o (lookup test pairs))
+      (lookup-reverse eq test (of_probes eq test probes) items unequal)
 
   -- the key that was put first stays, and the value that was put last
   entry_built : (items old : List (K × V)) → Probes eq test
@@ -125,11 +155,17 @@ module _ {K V : Type 0} (eq : K → K → Bool) (test : K → Bool) where
   entry_built (e ∷ items) old probes =
       let p = of_probes eq test probes in
       let same : test e.0 ≡ true
-          → pair eq old e.0 ≡ lookup_entry test old =
-          λ is. ap (λ t. lookup_entry t old)
-          (sym (same_test eq test p.alike_keys p.equal_keys e.0 is)) in
-      grind (arith, entry_built items (put eq old e.0 e.1) probes, pair_put old e.0 e.1 probes,
-            same, reverse-append (e ∷ []) items, lookup-append test (reverse items) (e ∷ []))
+      → pair eq old e.0 ≡ lookup_entry test old =
+      λ is. ap (λ t. lookup_entry t old)
+      (sym (same_test eq test p.alike_keys p.equal_keys e.0 is)) in
+      grind (
+        arith,
+        entry_built items (put eq old e.0 e.1) probes,
+        pair_put old e.0 e.1 probes,
+        same,
+        reverse-append (e ∷ []) items,
+        lookup-append test (reverse items) (e ∷ []),
+      )
 
   pub pair_build : (items : List (K × V)) → Probes eq test
       → lookup_entry test (build eq items)
@@ -211,22 +247,33 @@ module _ {K V : Type 0} (eq : K → K → Bool) where
       → has eq (put_all eq pairs items) q ≡ (has eq items q || has eq pairs q)
   has_put_all pairs [] q laws = refl
   has_put_all pairs (e ∷ items) q laws =
-      grind (arith, has_put_all (put eq pairs e.0 e.1) items q laws, has_put pairs e.0 e.1 q laws,
-        (of_lawful eq laws).symm q e.0)
+      grind (
+        arith,
+        has_put_all (put eq pairs e.0 e.1) items q laws,
+        has_put pairs e.0 e.1 q laws,
+        (of_lawful eq laws).symm q e.0,
+      )
 
   -- how many pairs there are
   pub length_put : (pairs : List (K × V)) (k : K) (v : V)
       → length (put eq pairs k v) ≡ (if has eq pairs k then length pairs else length pairs + 1)
   unfolding put
-  length_put pairs k v = grind (arith, length-set_value (eq k) pairs v,
-        length-append pairs ((k, v) ∷ []))
+  length_put pairs k v = grind (
+    arith,
+    length-set_value (eq k) pairs v,
+    length-append pairs ((k, v) ∷ []),
+  )
 
   pub length_put_key : (pairs : List (K × V)) (k : K) (v : V)
       → length (put_key eq pairs k v) ≡ (if has eq pairs k then length pairs else length pairs + 1)
   unfolding put_key
   length_put_key pairs k v =
-      grind (arith, length-set_key (eq k) (set_value (eq k) pairs v) k,
-        length-set_value (eq k) pairs v, length-append pairs ((k, v) ∷ []))
+      grind (
+        arith,
+        length-set_key (eq k) (set_value (eq k) pairs v) k,
+        length-set_value (eq k) pairs v,
+        length-append pairs ((k, v) ∷ []),
+      )
 
   pub length_take_out : (pairs : List (K × V)) (k : K)
       → length (take_out eq pairs k) + (if has eq pairs k then 1 else 0) ≡ length pairs
@@ -251,18 +298,18 @@ module _ {K V : Type 0} (eq : K → K → Bool) where
   unique_put pairs k v laws unique =
       by_test (eq k) pairs (IsUnique eq (put eq pairs k v))
       (λ n. subst (IsUnique eq) (push-put eq k pairs n v)
-            (IsUnique-push eq (of_lawful eq laws) pairs unique k v n))
+      (IsUnique-push eq (of_lawful eq laws) pairs unique k v n))
       (λ i f. subst (IsUnique eq) (sym (put_stored eq pairs k v (ap is_some f.value) ∙ f.written v))
-            (IsUnique-set eq (of_lawful eq laws) pairs unique i f.pair v f.here))
+      (IsUnique-set eq (of_lawful eq laws) pairs unique i f.pair v f.here))
 
   pub unique_put_key : (pairs : List (K × V)) (k : K) (v : V) → Lawful eq → IsUnique eq pairs
       → IsUnique eq (put_key eq pairs k v)
   unique_put_key pairs k v laws unique =
       by_test (eq k) pairs (IsUnique eq (put_key eq pairs k v))
       (λ n. subst (IsUnique eq) (push-put_key eq k pairs n v)
-            (IsUnique-push eq (of_lawful eq laws) pairs unique k v n))
+      (IsUnique-push eq (of_lawful eq laws) pairs unique k v n))
       (λ i f. subst (IsUnique eq) (slice_set-put_key eq k pairs i f v)
-            (IsUnique-set_key eq (of_lawful eq laws) pairs unique i f.pair k v f.here f.passes))
+      (IsUnique-set_key eq (of_lawful eq laws) pairs unique i f.pair k v f.here f.passes))
 
   pub unique_take_out : (pairs : List (K × V)) (k : K) → Lawful eq → IsUnique eq pairs
       → IsUnique eq (take_out eq pairs k)
@@ -279,8 +326,8 @@ module _ {K V : Type 0} (eq : K → K → Bool) where
   pair_key [] k p found = cc
   pair_key (e ∷ pairs) k p found = elim (cases_Bool (eq k e.0)) [
     | inl here ↦ (let same : Some e ≡ Some p =
-          sym (ap (λ b. if b then Some e else pair eq pairs k) here) ∙ found in let is : e ≡ p =
-          cc in subst (λ q. eq k q.0 ≡ true) is here)
+        sym (ap (λ b. if b then Some e else pair eq pairs k) here) ∙ found in let is : e ≡ p =
+        cc in subst (λ q. eq k q.0 ≡ true) is here)
     | inr not_here ↦ pair_key pairs k p
         (sym (ap (λ b. if b then Some e else pair eq pairs k) not_here) ∙ found)
   ]
@@ -312,7 +359,7 @@ module _ {K V : Type 0} (eq : K → K → Bool) where
       → put eq (put eq pairs k v) k w ≡ put eq pairs k w
   put_again pairs k v w laws =
       put_stored eq (put eq pairs k v) k w (ap is_some (at_put_same pairs k v laws))
-          ∙ set_put eq k v w ((of_lawful eq laws).refl k) pairs
+      ∙ set_put eq k v w ((of_lawful eq laws).refl k) pairs
 
 -- the first pair: its key finds it, no key behind it is equal, and a removal at it leaves what is behind
 module _ {K V : Type 0} (eq : K → K → Bool) where
@@ -359,8 +406,8 @@ module _ {K V : Type 0} (test : K → Bool) (pairs : List (K × V)) where
         by_test test pairs (lookup test (remove_entry test pairs) ≡ None)
         (λ n. ap (lookup test) n.taken ∙ n.value)
         (λ i f. subst (λ t. lookup t (remove_entry t pairs) ≡ None)
-              (sym (matched_test f.pair.0 probes f.passes))
-              (at_take_out_same eq pairs f.pair.0 (lawful eq p.laws) unique))
+        (sym (matched_test f.pair.0 probes f.passes))
+        (at_take_out_same eq pairs f.pair.0 (lawful eq p.laws) unique))
 
     pub unique_set_value : (v : V) → IsUnique eq pairs → IsUnique eq (set_value test pairs v)
     unique_set_value v unique = subst (IsDistinct eq) (sym (keys-set_value test pairs v)) unique
@@ -371,7 +418,7 @@ module _ {K V : Type 0} (test : K → Bool) (pairs : List (K × V)) where
         by_test test pairs (IsUnique eq (remove_entry test pairs))
         (λ n. subst (IsUnique eq) (sym n.taken) unique)
         (λ i f. subst (IsUnique eq) (sym f.taken)
-              (IsUnique-remove eq (of_lawful eq laws) pairs unique i f.pair f.here))
+        (IsUnique-remove eq (of_lawful eq laws) pairs unique i f.pair f.here))
 
 -- a value that is written at a key which is then removed
 module _ {K V : Type 0} (test : K → Bool) where
@@ -395,16 +442,16 @@ module _ {K V : Type 0} (eq : K → K → Bool) where
       ∙ list_all-from_AllPass (has_value eq same pairs) pairs (λ i d within.
       let p = get_or pairs i d in
       ap (λ o. option_eq same o (Some p.1))
-          (lookup_from_place (of_lawful eq laws) pairs i p.0 p.1 unique
-            (slice_get-get_or pairs i d within)) ∙ (of_lawful same values).refl p.1)
+      (lookup_from_place (of_lawful eq laws) pairs i p.0 p.1 unique
+      (slice_get-get_or pairs i d within)) ∙ (of_lawful same values).refl p.1)
 
   pub has_walked : (pairs : List (K × V)) (left : List K) → left ≡ keys_of pairs → Lawful eq
       → list_all (has eq pairs) left ≡ true
   has_walked pairs left all laws =
       ap (list_all (has eq pairs)) all
       ∙ list_all-from_AllPass (has eq pairs) (keys_of pairs)
-          (λ i d within. is_some-lookup (eq (get_or (keys_of pairs) i d)) pairs
-            ∙ All-is_member (of_lawful eq laws) (keys_of pairs) i d within)
+      (λ i d within. is_some-lookup (eq (get_or (keys_of pairs) i d)) pairs
+      ∙ All-is_member (of_lawful eq laws) (keys_of pairs) i d within)
 
 -- what each key finds, by the word alone: for a search that doesn't see the equality in what it computes to, nor that a
 -- key of one's own equals itself
@@ -417,8 +464,11 @@ module _ {K V : Type 0} (eq : K → K → Bool) (pairs : List (K × V)) (k : K) 
   pub each_put_key : (v : V) → Lawful eq
       → (put_key eq pairs k v ≡ put_key eq pairs k v) × (at eq (put_key eq pairs k v) k ≡ Some v)
       × ((q : K) → at eq (put_key eq pairs k v) q ≡ (if eq k q then Some v else at eq pairs q))
-  each_put_key v laws = (refl, at_put_key_same eq pairs k v laws,
-        λ q. at_put_key eq pairs k v q laws)
+  each_put_key v laws = (
+    refl,
+    at_put_key_same eq pairs k v laws,
+    λ q. at_put_key eq pairs k v q laws,
+  )
 
   pub each_take_out : Lawful eq → IsUnique eq pairs
       → (take_out eq pairs k ≡ take_out eq pairs k) × (at eq (take_out eq pairs k) k ≡ None)
@@ -430,21 +480,69 @@ module _ {K V : Type 0} (eq : K → K → Bool) (pairs items : List (K × V)) wh
   pub each_put_all : Lawful eq
       → (put_all eq pairs items ≡ put_all eq pairs items)
       × ((q : K) → at eq (put_all eq pairs items) q
-        ≡ option_or (at eq (reverse items) q) (at eq pairs q))
+      ≡ option_or (at eq (reverse items) q) (at eq pairs q))
       × (IsUnique eq items → (q : K)
-        → at eq (put_all eq pairs items) q ≡ option_or (at eq items q) (at eq pairs q))
+      → at eq (put_all eq pairs items) q ≡ option_or (at eq items q) (at eq pairs q))
       × ((q : K) → has eq (put_all eq pairs items) q ≡ (has eq items q || has eq pairs q))
-  each_put_all laws = (refl, λ q. at_put_all eq pairs items q laws,
-        λ unequal q. at_put_all_unequal eq pairs items q laws unequal,
-        λ q. has_put_all eq pairs items q laws)
+  each_put_all laws = (
+    refl,
+    λ q. at_put_all eq pairs items q laws,
+    λ unequal q. at_put_all_unequal eq pairs items q laws unequal,
+    λ q. has_put_all eq pairs items q laws,
+  )
 
-pub ruleset map_laws = (pair_key, keys_put, put_new, put_stored, not_fits, at_first, has_behind,
-      take_out_first, lookup_put_all, lookup_put_all_unequal, is_some-lookup, pair_put, lookup_put,
-      pair_put_key, lookup_put_key, pair_take_out, lookup_take_out, pair_build, lookup_build,
-      pair_filter, lookup_filter, length_put, length_put_key, length_take_out, keys_take_out,
-      length_build, unique_put, unique_put_key, unique_take_out, unique_build,
-      IsDistinct-keys_filter, put_back, put_again, take_out_missing, set_value_missing,
-      remove_entry_missing, length-set_value, length-remove_entry, lookup-set, keys_remove_entry,
-      lookup_remove_entry, lookup_remove_text, remove_entry_set_value, unique_set_value,
-      unique_remove_entry, each_put, each_put_key, each_take_out, each_put_all, at_walked,
-      has_walked, each_map_text, equalities)
+pub ruleset map_laws = (
+  pair_key,
+  keys_put,
+  put_new,
+  put_stored,
+  not_fits,
+  at_first,
+  has_behind,
+  take_out_first,
+  lookup_put_all,
+  lookup_put_all_unequal,
+  is_some-lookup,
+  pair_put,
+  lookup_put,
+  pair_put_key,
+  lookup_put_key,
+  pair_take_out,
+  lookup_take_out,
+  pair_build,
+  lookup_build,
+  pair_filter,
+  lookup_filter,
+  length_put,
+  length_put_key,
+  length_take_out,
+  keys_take_out,
+  length_build,
+  unique_put,
+  unique_put_key,
+  unique_take_out,
+  unique_build,
+  IsDistinct-keys_filter,
+  put_back,
+  put_again,
+  take_out_missing,
+  set_value_missing,
+  remove_entry_missing,
+  length-set_value,
+  length-remove_entry,
+  lookup-set,
+  keys_remove_entry,
+  lookup_remove_entry,
+  lookup_remove_text,
+  remove_entry_set_value,
+  unique_set_value,
+  unique_remove_entry,
+  each_put,
+  each_put_key,
+  each_take_out,
+  each_put_all,
+  at_walked,
+  has_walked,
+  each_map_text,
+  equalities,
+)

@@ -59,18 +59,25 @@ module _ {K V W : Type 0} (eq : K → K → Bool) (step : Option V → W → V) 
   at_merged pairs [] q laws = refl
   at_merged pairs (item ∷ items) q laws =
       let alike : eq item.0 q ≡ true
-          → at eq pairs item.0 ≡ at eq pairs q = at_alike eq item.0 q pairs laws in
-      grind (arith, at_merged (merge_pair eq step pairs item) items q laws,
-            at_put eq pairs item.0 (step (at eq pairs item.0) item.1) q laws, alike)
+      → at eq pairs item.0 ≡ at eq pairs q = at_alike eq item.0 q pairs laws in
+      grind (
+        arith,
+        at_merged (merge_pair eq step pairs item) items q laws,
+        at_put eq pairs item.0 (step (at eq pairs item.0) item.1) q laws,
+        alike,
+      )
 
   pub has_merged : (pairs : List (K × V)) (items : List (K × W)) (q : K) → Lawful eq
       → has eq (merged eq step pairs items) q ≡ (has eq items q || has eq pairs q)
   unfolding merged
   has_merged pairs [] q laws = refl
   has_merged pairs (item ∷ items) q laws =
-      grind (arith, has_merged (merge_pair eq step pairs item) items q laws,
+      grind (
+        arith,
+        has_merged (merge_pair eq step pairs item) items q laws,
         has_put eq pairs item.0 (step (at eq pairs item.0) item.1) q laws,
-        (of_lawful eq laws).symm q item.0)
+        (of_lawful eq laws).symm q item.0,
+      )
 
   pub unique_merged : (pairs : List (K × V)) (items : List (K × W)) → Lawful eq → IsUnique eq pairs
       → IsUnique eq (merged eq step pairs items)
@@ -96,7 +103,7 @@ module _ {K V W : Type 0} (eq : K → K → Bool) (step : Option V → W → V) 
       let keys = keys-fold (of_lawful eq laws) (merges_keyed 0) pairs items unique in
       sym (length-keys_of (merged eq step pairs items))
       ∙ length-from_keys (of_lawful eq laws) _ (keys_of pairs ++ keys_of items) keys.0
-          (λ q. keys.1 q ∙ sym (list_any-append (eq q) (keys_of pairs) (keys_of items)))
+      (λ q. keys.1 q ∙ sym (list_any-append (eq q) (keys_of pairs) (keys_of items)))
 
   -- with more items there are no fewer
   pub merged_grows : (pairs : List (K × V)) (items : List (K × W)) (i : ℕ) → Lawful eq
@@ -104,14 +111,18 @@ module _ {K V W : Type 0} (eq : K → K → Bool) (step : Option V → W → V) 
       (merged eq step pairs items)
   merged_grows pairs items i laws unique =
       let all : keys_of (take i items) ++ keys_of (drop i items) ≡ keys_of items =
-          sym (map-append (λ (e : K × W). e.0) (take i items) (drop i items))
-          ∙ ap keys_of (take-append-drop i items) in
-      omega (arith, length_merged pairs (take i items) laws unique,
-            length_merged pairs items laws unique,
-            distinct_grows eq (keys_of pairs ++ keys_of (take i items))
-            (keys_of (drop i items)) laws, ap (distinct_count eq)
+      sym (map-append (λ (e : K × W). e.0) (take i items) (drop i items))
+      ∙ ap keys_of (take-append-drop i items) in
+      omega (
+        arith,
+        length_merged pairs (take i items) laws unique,
+        length_merged pairs items laws unique,
+        distinct_grows eq (keys_of pairs ++ keys_of (take i items))
+            (keys_of (drop i items)) laws,
+        ap (distinct_count eq)
             (append_assoc (keys_of pairs) (keys_of (take i items)) (keys_of (drop i items))
-              ∙ ap (λ l. keys_of pairs ++ l) all))
+            ∙ ap (λ l. keys_of pairs ++ l) all),
+      )
 
   -- an item that is merged when its key is new is one more
   pub merged_beyond : (pairs : List (K × V)) (items : List (K × W)) (i : ℕ) (d : K × W)
@@ -122,7 +133,7 @@ module _ {K V W : Type 0} (eq : K → K → Bool) (step : Option V → W → V) 
       let now = merged eq step pairs (take i items) in
       let item = get_or items i d in
       let more = ap length (merged_take pairs items i d within)
-          ∙ length_put eq now item.0 (step (at eq now item.0) item.1) in
+      ∙ length_put eq now item.0 (step (at eq now item.0) item.1) in
       let grown = merged_grows pairs items (i + 1) laws unique in
       grind (arith, new, more, grown)
 
@@ -155,7 +166,7 @@ module _ {K V W : Type 0} (eq : K → K → Bool) (step : Option V → W → V) 
     all_merge_take : (items : List (K × W)) (i : ℕ) (d : K × W) → i < length items
         → all_merge eq step test pairs (take (i + 1) items)
         ≡ (all_merge eq step test pairs (take i items)
-          && test (merged eq step pairs (take i items)) (get_or items i d))
+        && test (merged eq step pairs (take i items)) (get_or items i d))
     all_merge_take items i d within = ap (all_merge eq step test pairs) (take_more items i d within)
         ∙ all_merge_push (take i items) (get_or items i d)
 
@@ -167,8 +178,11 @@ module _ {K V W : Type 0} (eq : K → K → Bool) (step : Option V → W → V) 
     pub merged_run : steps t None u → now ≡ merged eq step pairs items
         → WholeRun steps it (λ p. now ≡ merged eq step pairs p.items)
     merged_run ends made = subst (λ s. WholeRun steps s (λ p. now ≡ merged eq step pairs p.items))
-        begins (total_runs steps _ _ (λ items. now ≡ merged eq step pairs items) (items,
-            λ _. (u, (t, gave, ends)), made) (tt {0}))
+        begins (total_runs steps _ _ (λ items. now ≡ merged eq step pairs items) (
+          items,
+          λ _. (u, (t, gave, ends)),
+          made,
+        ) (tt {0}))
 
     module _ (x : K × W) (position : ℕ) (turns : steps t (Some x) u)
         (counted : position ≡ length items) where
@@ -183,7 +197,7 @@ module _ {K V W : Type 0} (eq : K → K → Bool) (step : Option V → W → V) 
 
       pub merged_run_before : now ≡ merged eq step pairs items
           → SomeRun steps it (λ p. (p.len ≡ position + 1)
-            × (now ≡ merged eq step pairs (take position p.items)))
+          × (now ≡ merged eq step pairs (take position p.items)))
       merged_run_before made =
           let r = ran in
           (r.0, r.1, (r.2.0, made ∙ sym (ap (merged eq step pairs) (before r.0.items r.2.1))))
@@ -191,30 +205,39 @@ module _ {K V W : Type 0} (eq : K → K → Bool) (step : Option V → W → V) 
       pub merged_run_stops : (test : List (K × V) → K × W → Bool) → now ≡ merged eq step pairs items
           → IsTrue (all_merge eq step test pairs items) → test now x ≡ false
           → SomeRun steps it (λ p. (p.len ≡ position + 1)
-            × MergeStopsAt eq step test pairs p.items position)
+          × MergeStopsAt eq step test pairs p.items position)
       merged_run_stops test made passed fails =
           let r = ran in
           let whole : take (position + 1) r.0.items ≡ items ++ x ∷ [] =
-              ap (take (position + 1)) r.2.1
-              ∙ take_all (position + 1) (items ++ x ∷ [])
-              (omega (arith, length_push items x, counted)) in
+          ap (take (position + 1)) r.2.1
+          ∙ take_all (position + 1) (items ++ x ∷ [])
+          (omega (arith, length_push items x, counted)) in
           let last : test (merged eq step pairs items) x ≡ false = ap (λ l. test l x) (sym made)
-              ∙ fails in
+          ∙ fails in
           let stops : IsTrue (not (all_merge eq step test pairs (items ++ x ∷ []))) =
-              grind (arith, all_merge_push test pairs items x, last) in
-          (r.0, r.1, (r.2.0, (ap (all_merge eq step test pairs) (before r.0.items r.2.1)
-                    ∙ passed, ap (λ l. not (all_merge eq step test pairs l)) whole ∙ stops)))
+          grind (arith, all_merge_push test pairs items x, last) in (
+            r.0,
+            r.1,
+            (
+              r.2.0,
+              (
+                ap (all_merge eq step test pairs) (before r.0.items r.2.1)
+                    ∙ passed,
+                ap (λ l. not (all_merge eq step test pairs l)) whole ∙ stops,
+              ),
+            ),
+          )
 
   -- what a search needs, at once: of all items, and of the first so many, also where a function reads them
   pub each_merged : (pairs : List (K × V)) (items : List (K × W)) → Lawful eq
       → (merged eq step pairs items ≡ merged eq step pairs items)
       × ((q : K) → at eq (merged eq step pairs items) q
-        ≡ fold (λ o w. Some (step o w)) (at eq pairs q)
-        (values_of (filter (λ item. eq item.0 q) items)))
+      ≡ fold (λ o w. Some (step o w)) (at eq pairs q)
+      (values_of (filter (λ item. eq item.0 q) items)))
       × ((q : K) → has eq (merged eq step pairs items) q ≡ (has eq items q || has eq pairs q))
       × (IsUnique eq pairs → IsUnique eq (merged eq step pairs items))
       × (IsUnique eq pairs → length (merged eq step pairs items)
-        ≡ distinct_count eq (keys_of pairs ++ keys_of items))
+      ≡ distinct_count eq (keys_of pairs ++ keys_of items))
   each_merged pairs items laws = (
     refl,
     λ q. at_merged pairs items q laws,
@@ -234,11 +257,11 @@ module _ {K V W : Type 0} (eq : K → K → Bool) (step : Option V → W → V) 
       → (merged eq step pairs (take i items) ≡ merged eq step pairs (take i items))
       × (length items ≤ i → merged eq step pairs (take i items) ≡ merged eq step pairs items)
       × ((d : K × W) → i < length items
-        → merged eq step pairs (take (i + 1) items)
-        ≡ merge_pair eq step (merged eq step pairs (take i items)) (get_or items i d))
+      → merged eq step pairs (take (i + 1) items)
+      ≡ merge_pair eq step (merged eq step pairs (take i items)) (get_or items i d))
       × (Lawful eq → IsUnique eq pairs → (d : K × W) → i < length items
-        → has eq (merged eq step pairs (take i items)) (get_or items i d).0 ≡ false
-        → length (merged eq step pairs (take i items)) < length (merged eq step pairs items))
+      → has eq (merged eq step pairs (take i items)) (get_or items i d).0 ≡ false
+      → length (merged eq step pairs (take i items)) < length (merged eq step pairs items))
   each_merged_take pairs items i = (
     refl,
     λ over. ap (merged eq step pairs) (take_all i items over),
@@ -249,39 +272,53 @@ module _ {K V W : Type 0} (eq : K → K → Bool) (step : Option V → W → V) 
   pub each_merged_take_map :
       {X : Type 0} (read : X → K × W) (pairs : List (K × V)) (items : List X) (i : ℕ)
       → (merged eq step pairs (map read (take i items))
-        ≡ merged eq step pairs (map read (take i items)))
+      ≡ merged eq step pairs (map read (take i items)))
       × (length items ≤ i → merged eq step pairs (map read (take i items))
-        ≡ merged eq step pairs (map read items))
+      ≡ merged eq step pairs (map read items))
       × ((d : X) → i < length items
-        → merged eq step pairs (map read (take (i + 1) items))
-        ≡ merge_pair eq step (merged eq step pairs (map read (take i items)))
-        (read (get_or items i d)))
+      → merged eq step pairs (map read (take (i + 1) items))
+      ≡ merge_pair eq step (merged eq step pairs (map read (take i items)))
+      (read (get_or items i d)))
       × (Lawful eq → IsUnique eq pairs → (d : X) → i < length items
-        → has eq (merged eq step pairs (map read (take i items)))
-        (read (get_or items i d)).0 ≡ false
-        → length (merged eq step pairs (map read (take i items))) < length
-        (merged eq step pairs (map read items)))
+      → has eq (merged eq step pairs (map read (take i items)))
+      (read (get_or items i d)).0 ≡ false
+      → length (merged eq step pairs (map read (take i items))) < length
+      (merged eq step pairs (map read items)))
   each_merged_take_map read pairs items i =
       let all = each_merged_take pairs (map read items) i in
       let first = take-map read i items in
       let long = length-map items read in (
         refl,
         λ over. grind (arith, common_steps, all.1, first, long, over),
-        λ d within. grind (arith, common_steps, all.2 (read d), first, take-map read (i + 1) items,
-              long, within),
-        λ laws unique d within new. grind (arith, common_steps, all.3 laws unique (read d), first,
-              long, within, new),
+        λ d within. grind (
+          arith,
+          common_steps,
+          all.2 (read d),
+          first,
+          take-map read (i + 1) items,
+          long,
+          within,
+        ),
+        λ laws unique d within new. grind (
+          arith,
+          common_steps,
+          all.3 laws unique (read d),
+          first,
+          long,
+          within,
+          new,
+        ),
       )
 
   pub each_all_merge_take :
       (test : List (K × V) → K × W → Bool) (pairs : List (K × V)) (items : List (K × W)) (i : ℕ)
       → (all_merge eq step test pairs (take i items) ≡ all_merge eq step test pairs (take i items))
       × (length items ≤ i → all_merge eq step test pairs (take i items)
-        ≡ all_merge eq step test pairs items)
+      ≡ all_merge eq step test pairs items)
       × ((d : K × W) → i < length items
-        → all_merge eq step test pairs (take (i + 1) items)
-        ≡ (all_merge eq step test pairs (take i items)
-          && test (merged eq step pairs (take i items)) (get_or items i d)))
+      → all_merge eq step test pairs (take (i + 1) items)
+      ≡ (all_merge eq step test pairs (take i items)
+      && test (merged eq step pairs (take i items)) (get_or items i d)))
   each_all_merge_take test pairs items i = (
     refl,
     λ over. ap (all_merge eq step test pairs) (take_all i items over),
@@ -292,21 +329,28 @@ module _ {K V W : Type 0} (eq : K → K → Bool) (step : Option V → W → V) 
       {X : Type 0} (read : X → K × W) (test : List (K × V) → K × W → Bool) (pairs : List (K × V))
       (items : List X) (i : ℕ)
       → (all_merge eq step test pairs (map read (take i items))
-        ≡ all_merge eq step test pairs (map read (take i items)))
+      ≡ all_merge eq step test pairs (map read (take i items)))
       × (length items ≤ i → all_merge eq step test pairs (map read (take i items))
-        ≡ all_merge eq step test pairs (map read items))
+      ≡ all_merge eq step test pairs (map read items))
       × ((d : X) → i < length items
-        → all_merge eq step test pairs (map read (take (i + 1) items))
-        ≡ (all_merge eq step test pairs (map read (take i items))
-          && test (merged eq step pairs (map read (take i items))) (read (get_or items i d))))
+      → all_merge eq step test pairs (map read (take (i + 1) items))
+      ≡ (all_merge eq step test pairs (map read (take i items))
+      && test (merged eq step pairs (map read (take i items))) (read (get_or items i d))))
   each_all_merge_take_map read test pairs items i =
       let all = each_all_merge_take test pairs (map read items) i in
       let first = take-map read i items in
       let long = length-map items read in (
         refl,
         λ over. grind (arith, common_steps, all.1, first, long, over),
-        λ d within. grind (arith, common_steps, all.2 (read d), first, take-map read (i + 1) items,
-              long, within),
+        λ d within. grind (
+          arith,
+          common_steps,
+          all.2 (read d),
+          first,
+          take-map read (i + 1) items,
+          long,
+          within,
+        ),
       )
 
 -- a counter
@@ -316,7 +360,20 @@ module _ {K : Type 0} (eq : K → K → Bool) where
   unfolding merged counts
   merged_counts items = sym (fold-map (count_one eq) (λ item. item.0) [] items)
 
-pub ruleset merge_laws = (merged_none, merged_first, merged_append, merged_push, merged_push_map,
-      all_merge_none, all_merge_first, all_merge_push, each_merged, each_merged_end,
-      each_merged_take, each_merged_take_map, each_all_merge_take, each_all_merge_take_map,
-      unique_empty)
+pub ruleset merge_laws = (
+  merged_none,
+  merged_first,
+  merged_append,
+  merged_push,
+  merged_push_map,
+  all_merge_none,
+  all_merge_first,
+  all_merge_push,
+  each_merged,
+  each_merged_end,
+  each_merged_take,
+  each_merged_take_map,
+  each_all_merge_take,
+  each_all_merge_take_map,
+  unique_empty,
+)

@@ -25,12 +25,12 @@ use Rattle.micromap_core.proofs.laws.Equalities.{of_lawful}
 -- what a run took of a list that it reads from the front
 run_taken : {S A : Type 0} {steps : S → Option A → S → Type 0} (p : Run steps) (xs : List A)
     → p.len ≤ length xs → ((k : ℕ) (d : A) → k < p.len
-      → option_map (λ y. y) (p.at k) ≡ Some (slice_index_or xs k d)) → p.items ≡ take p.len xs
+    → option_map (λ y. y) (p.at k) ≡ Some (slice_index_or xs k d)) → p.items ≡ take p.len xs
 run_taken p xs few reads =
     same_lists p.items (take p.len xs) (grind (arith, common_steps, p.long, few)) (λ k d l.
     let within : k < p.len = omega (arith, p.long, l) in
     let same : Some (slice_index_or p.items k d) ≡ Some (slice_index_or xs k d) =
-        sym (p.reads k d within) ∙ reads k d within in
+    sym (p.reads k d within) ∙ reads k d within in
     grind (arith, common_steps, same, within))
 
 -- an iterator that copies the elements of another one
@@ -70,7 +70,7 @@ module _ {C X S : Type 0} (fits : C → X → Bool) (put : C → X → C) (conte
       let shown = reads p p.seen in
       let are : rest p.from ≡ xs = ap rest from ∙ left in
       let taken : p.items ≡ take p.len xs =
-          subst (λ l. p.items ≡ take p.len l) are (run_taken p (rest p.from) shown.0 shown.2) in
+      subst (λ l. p.items ≡ take p.len l) are (run_taken p (rest p.from) shown.0 shown.2) in
       (grind (arith, common_steps, taken, long), grind (arith, common_steps, taken, long))
 
   stops_in : (at : ℕ) (p : Run steps) → p.from ≡ s → EveryRun steps (λ q. ItemsAre q (rest q.from))
@@ -83,7 +83,7 @@ module _ {C X S : Type 0} (fits : C → X → Bool) (put : C → X → C) (conte
   pub misfit_in : {E Y : Type 0} (at : E → ℕ) (r : Result Y E)
       → EveryRun steps (λ q. ItemsAre q (rest q.from)) → rest s ≡ xs
       → IfErr r (λ e. SomeRun steps s (λ p. (p.len ≡ at e + 1)
-          × StopsAt fits put content p.items (at e)))
+      × StopsAt fits put content p.items (at e)))
       → IfErr r (λ e. StopsAt fits put content xs (at e))
   misfit_in at (Ok y) reads left stops = tt
   misfit_in at (Err e) reads left stops =
@@ -93,12 +93,14 @@ module _ {C X S : Type 0} (fits : C → X → Bool) (put : C → X → C) (conte
   pub put_before_in : {E Y : Type 0} (new : C) (at : E → ℕ) (r : Result Y E)
       → EveryRun steps (λ q. ItemsAre q (rest q.from)) → rest s ≡ xs
       → IfErr r (λ e. SomeRun steps s (λ p. (p.len ≡ at e + 1)
-          × PutsUpTo fits put content new p.items (at e)))
+      × PutsUpTo fits put content new p.items (at e)))
       → IfErr r (λ e. PutsUpTo fits put content new xs (at e))
   put_before_in new at (Ok y) reads left stops = tt
-  put_before_in new at (Err e) reads left stops =
-      (stops_in (at e) stops.0 stops.1 reads left stops.2.0 stops.2.1.0, stops.2.1.1
-            ∙ ap (fold put content) (first_in (at e) stops.0 stops.1 reads left stops.2.0).0)
+  put_before_in new at (Err e) reads left stops = (
+    stops_in (at e) stops.0 stops.1 reads left stops.2.0 stops.2.1.0,
+    stops.2.1.1
+        ∙ ap (fold put content) (first_in (at e) stops.0 stops.1 reads left stops.2.0).0,
+  )
 
   -- if no item is refused, by `try_from_iter` or `try_extend`. The facts are as those of `misfit_in`, with the call's `runs`
   put_all_in : (new : C) → EveryRun steps (λ q. ItemsAre q (rest q.from)) → rest s ≡ xs
@@ -125,11 +127,15 @@ module _ {K V : Type 0} (eq : K → K → Bool) (N : ℕ) where
       → N < distinct_count eq (keys_of items)
   misfit_many items at laws misfit =
       let many : N < distinct_count eq (keys_of (take (at + 1) items)) =
-          many_prefix (of_lawful eq laws) (pairs_keyed eq N) (take (at + 1) items) misfit.1 in
+      many_prefix (of_lawful eq laws) (pairs_keyed eq N) (take (at + 1) items) misfit.1 in
       let same : keys_of (take (at + 1) items) ≡ take (at + 1) (keys_of items) =
-          sym (take-map (λ p. p.0) (at + 1) items) in
-      omega (arith, many, ap (distinct_count eq) same,
-            distinct_prefix eq (keys_of items) (at + 1) laws)
+      sym (take-map (λ p. p.0) (at + 1) items) in
+      omega (
+        arith,
+        many,
+        ap (distinct_count eq) same,
+        distinct_prefix eq (keys_of items) (at + 1) laws,
+      )
 
   -- the facts are those of `misfit_in`, and that the equality is lawful
   pub many_in : {S E Y : Type 0} {steps : S → Option (K × V) → S → Type 0} (rest : S → List (K × V))
@@ -151,17 +157,21 @@ module _ {K V : Type 0} {eq : K → K → Bool} {N : ℕ} {pairs : List (K × V)
   stopped_many items at stops =
       let first = take (at + 1) items in
       let fit = each_fits-count (of_lawful eq content.lawful)
-          (pairs_keyed eq N) pairs first content.unique
-          (omega (arith, length-keys_of pairs, content.bounded)) in
+      (pairs_keyed eq N) pairs first content.unique
+      (omega (arith, length-keys_of pairs, content.bounded)) in
       let many = leb-false _ N (sym fit ∙ not-true _ stops.1) in
-      omega (arith, many, length-keys_of (put_all eq pairs first),
-            put_all_grows eq pairs items (at + 1) content.lawful content.unique)
+      omega (
+        arith,
+        many,
+        length-keys_of (put_all eq pairs first),
+        put_all_grows eq pairs items (at + 1) content.lawful content.unique,
+      )
 
   pub refused_is_many : {S E Y : Type 0} {steps : S → Option (K × V) → S → Type 0}
       (rest : S → List (K × V)) {s : S} {xs : List (K × V)} (new : List (K × V)) (at : E → ℕ)
       (r : Result Y E) → EveryRun steps (λ q. ItemsAre q (rest q.from)) → rest s ≡ xs
       → IfErr r (λ e. SomeRun steps s (λ p. (p.len ≡ at e + 1)
-          × PutsBefore eq N pairs new p.items (at e)))
+      × PutsBefore eq N pairs new p.items (at e)))
       → IfErr r (λ e. N < length (put_all eq pairs xs))
   refused_is_many rest {xs = xs} new at r reads left stops =
       IfErr-weaker r (λ e. PutsBefore eq N pairs new xs (at e))

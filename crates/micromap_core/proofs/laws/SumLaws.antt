@@ -12,8 +12,12 @@ module _ {K V : Type 0} (f : V → ℕ) (eq : K → K → Bool) (pairs : List (K
   pub sum_by_put : (v : V) → sum_by f (values_of (put eq pairs k v)) + unwrap_or
       (option_map f (at eq pairs k)) 0 ≡ sum_by f (values_of pairs) + f v
   unfolding put
-  sum_by_put v = grind (arith, map_push (λ (e : K × V). e.1) pairs (k, v),
-        sum_by_push f (values_of pairs) v, λ (u : V). sum_by-set_value f (eq k) pairs u v)
+  sum_by_put v = grind (
+    arith,
+    map_push (λ (e : K × V). e.1) pairs (k, v),
+    sum_by_push f (values_of pairs) v,
+    λ (u : V). sum_by-set_value f (eq k) pairs u v,
+  )
 
   pub sum_by_take_out : sum_by f (values_of (take_out eq pairs k)) + unwrap_or
       (option_map f (at eq pairs k)) 0 ≡ sum_by f (values_of pairs)

@@ -20,7 +20,7 @@ module _ {X : Type 0} (text : X → Option (List ℕ)) (known : (x : X) → is_s
 
   pub set_text_known : (items : List X) → is_some (set_text text items) ≡ true
   set_text_known items = both_known (Some (codes "{")) _ refl
-        (both_known _ (Some (codes "}")) (items_known [] items) refl)
+      (both_known _ (Some (codes "}")) (items_known [] items) refl)
 
 -- by the word alone, for a search
 pub each_set_text : {X : Type 0} (text : X → Option (List ℕ)) (items : List X)
@@ -34,13 +34,13 @@ module _ {K V : Type 0} (key_text : K → Option (List ℕ)) (value_text : V →
   pub map_text_known : (pairs : List (K × V)) → is_some (map_text key_text value_text pairs) ≡ true
   map_text_known = set_text_known (pair_text key_text value_text)
       (λ p. both_known (key_text p.0) _ (keys p.0)
-        (both_known (Some (codes ": ")) _ refl (values p.1)))
+      (both_known (Some (codes ": ")) _ refl (values p.1)))
 
 -- by the word alone, for a search
 pub each_map_text : {K V : Type 0} (key_text : K → Option (List ℕ))
     (value_text : V → Option (List ℕ)) (pairs : List (K × V))
     → (map_text key_text value_text pairs ≡ map_text key_text value_text pairs)
     × (((k : K) → is_some (key_text k) ≡ true) → ((v : V) → is_some (value_text v) ≡ true)
-      → is_some (map_text key_text value_text pairs) ≡ true)
+    → is_some (map_text key_text value_text pairs) ≡ true)
 each_map_text key_text value_text pairs =
     (refl, λ keys values. map_text_known key_text value_text keys values pairs)

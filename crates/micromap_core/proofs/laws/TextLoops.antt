@@ -34,8 +34,8 @@ module _ {K V W : Type 0} (see : K → List ℕ) (read : V → W) where
   texts_put_all eq pairs [] compares = refl
   texts_put_all eq pairs (e ∷ items) compares =
       texts_put_all eq (put eq pairs e.0 e.1) items compares
-          ∙ ap (λ l. put_all bytes_eq l (texts_by see read items))
-          (texts_put see read e.0 eq pairs e.1 compares)
+      ∙ ap (λ l. put_all bytes_eq l (texts_by see read items))
+      (texts_put see read e.0 eq pairs e.1 compares)
 
   pub texts_build : (eq : K → K → Bool) (items : List (K × V)) → ComparesBy see eq
       → texts_by see read (build eq items) ≡ build bytes_eq (texts_by see read items)
@@ -51,7 +51,7 @@ module _ {K V : Type 0} (see : K → List ℕ) (eq : K → K → Bool) where
       ≡ texts_by see (λ v. v) done ++ (see k, v) ∷ rest
   texts_next done rest k v compares unique =
       ap (λ l. l ++ rest) (texts_put see (λ v. v) k eq done v compares)
-          ∙ copied_next bytes_eq (texts_by see (λ v. v) done) rest (see k) v lawful_bytes unique
+      ∙ copied_next bytes_eq (texts_by see (λ v. v) done) rest (see k) v lawful_bytes unique
 
   -- the pairs once these are merged
   pub texts_merged : {W : Type 0} (step : Option V → W → V) (pairs : List (K × V))
@@ -64,9 +64,9 @@ module _ {K V : Type 0} (see : K → List ℕ) (eq : K → K → Bool) where
       texts_merged step (merge_pair eq step pairs e) items compares
       ∙ ap (λ l. merged bytes_eq step l (texts_by see (λ w. w) items))
       (texts_put see (λ v. v) e.0 eq pairs _ compares
-            ∙ ap (λ o. put bytes_eq (texts_by see (λ v. v) pairs) (see e.0) (step o e.1))
-            (ap (λ f. at f pairs e.0) (compares_by see eq compares)
-              ∙ sym (at_key_texts see pairs (see e.0))))
+      ∙ ap (λ o. put bytes_eq (texts_by see (λ v. v) pairs) (see e.0) (step o e.1))
+      (ap (λ f. at f pairs e.0) (compares_by see eq compares)
+      ∙ sym (at_key_texts see pairs (see e.0))))
 
 module _ {K V : Type 0} (see : K → List ℕ) where
   -- the pairs that pass a test of the text and the value, and of the value alone
@@ -97,7 +97,26 @@ pub at_str : {V : Type 0} (pairs : List (Bor (List ℕ) × V)) (k : Bor (List �
     → at str_eq pairs k ≡ at bytes_eq (key_strs pairs) k.now
 at_str pairs k = sym (at_key_texts (λ s. s.now) pairs k.now)
 
-pub ruleset text_loops = (texts_empty, texts_first, texts_end, texts_next, texts_put, has_texts,
-      at_key, at_str, values_texts, texts_filter, texts_map, unique_texts, unique_map,
-      IsDistinct-keys_filter, not_fits, length_texts, length_put, length_le_put_all, length-append,
-      starts_text, equalities)
+pub ruleset text_loops = (
+  texts_empty,
+  texts_first,
+  texts_end,
+  texts_next,
+  texts_put,
+  has_texts,
+  at_key,
+  at_str,
+  values_texts,
+  texts_filter,
+  texts_map,
+  unique_texts,
+  unique_map,
+  IsDistinct-keys_filter,
+  not_fits,
+  length_texts,
+  length_put,
+  length_le_put_all,
+  length-append,
+  starts_text,
+  equalities,
+)

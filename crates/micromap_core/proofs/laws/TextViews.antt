@@ -73,10 +73,10 @@ module _ {K V W : Type 0} (see : K → List ℕ) (read : V → W) where
     pub matched_texts : (pairs : List (K × V))
         → (at bytes_eq (texts_by see read pairs) bs ≡ at bytes_eq (texts_by see read pairs) bs)
         × (is_some (lookup (λ k. bytes_eq bs (see k)) pairs)
-          ≡ has bytes_eq (texts_by see read pairs) bs)
+        ≡ has bytes_eq (texts_by see read pairs) bs)
         × ((w : V) → is_some (lookup (λ k. bytes_eq bs (see k)) pairs) ≡ true
-          → texts_by see read (set_value (λ k. bytes_eq bs (see k)) pairs w)
-          ≡ put bytes_eq (texts_by see read pairs) bs (read w))
+        → texts_by see read (set_value (λ k. bytes_eq bs (see k)) pairs w)
+        ≡ put bytes_eq (texts_by see read pairs) bs (read w))
     matched_texts pairs = (refl, sym (found pairs), put_matched pairs)
 
     pub texts_take_out_matched : (pairs : List (K × V))
@@ -112,15 +112,21 @@ module _ {K V W : Type 0} (see : K → List ℕ) (read : V → W) where
     pub has_texts : (pairs : List (K × V)) (bs : List ℕ) → see k ≡ bs
         → (at bytes_eq (texts_by see read pairs) bs ≡ at bytes_eq (texts_by see read pairs) bs)
         × (has (on see bytes_eq) pairs k ≡ has bytes_eq (texts_by see read pairs) bs)
-    has_texts pairs bs is = (refl, sym (found (see k) pairs)
-          ∙ ap (has bytes_eq (texts_by see read pairs)) is)
+    has_texts pairs bs is = (
+      refl,
+      sym (found (see k) pairs)
+          ∙ ap (has bytes_eq (texts_by see read pairs)) is,
+    )
 
     pub at_made : (pairs : List (K × V)) (bs : List ℕ) → see k ≡ bs
         → (at bytes_eq (texts_by see read pairs) bs ≡ at bytes_eq (texts_by see read pairs) bs)
         × (option_map read (at (on see bytes_eq) pairs k)
-          ≡ at bytes_eq (texts_by see read pairs) bs)
-    at_made pairs bs is = (refl, sym (at_texts (see k) pairs)
-          ∙ ap (at bytes_eq (texts_by see read pairs)) is)
+        ≡ at bytes_eq (texts_by see read pairs) bs)
+    at_made pairs bs is = (
+      refl,
+      sym (at_texts (see k) pairs)
+          ∙ ap (at bytes_eq (texts_by see read pairs)) is,
+    )
 
   module _ (pairs : List (K × V)) where
     -- the keys
@@ -174,14 +180,14 @@ module _ {K V : Type 0} (see : K → List ℕ) (pairs : List (K × V)) where
 
   -- the pair that a text finds has that text as its key, and the value that the text finds
   matched : (bs : List ℕ) → (lookup_entry (λ k. bytes_eq bs (see k)) pairs
-        ≡ lookup_entry (λ k. bytes_eq bs (see k)) pairs)
+      ≡ lookup_entry (λ k. bytes_eq bs (see k)) pairs)
       × ((p : K × V) → lookup_entry (λ k. bytes_eq bs (see k)) pairs ≡ Some p → see p.0 ≡ bs)
       × (lookup (λ k. bytes_eq bs (see k)) pairs
-        ≡ option_map (λ (e : K × V). e.1) (lookup_entry (λ k. bytes_eq bs (see k)) pairs))
+      ≡ option_map (λ (e : K × V). e.1) (lookup_entry (λ k. bytes_eq bs (see k)) pairs))
   matched bs = (
     refl,
     λ p found. sym ((bytes_eq-Decides bs (see p.0)).0
-          (pair_key (λ k key. bytes_eq bs (see key)) pairs p.0 p found)),
+        (pair_key (λ k key. bytes_eq bs (see key)) pairs p.0 p found)),
     lookup-entry (λ k. bytes_eq bs (see k)) pairs,
   )
 
@@ -189,14 +195,14 @@ pub pair_matched : {Z V : Type 0} (bs : List ℕ) (pairs : List (String Z × V))
     → (lookup_entry (is_text bs) pairs ≡ lookup_entry (is_text bs) pairs)
     × ((p : String Z × V) → lookup_entry (is_text bs) pairs ≡ Some p → string_bytes p.0 ≡ bs)
     × (lookup (is_text bs) pairs
-      ≡ option_map (λ (e : String Z × V). e.1) (lookup_entry (is_text bs) pairs))
+    ≡ option_map (λ (e : String Z × V). e.1) (lookup_entry (is_text bs) pairs))
 pair_matched bs pairs = matched string_bytes pairs bs
 
 pub pair_matched_str : {V : Type 0} (bs : List ℕ) (pairs : List (Bor (List ℕ) × V))
     → (lookup_entry (is_str bs) pairs ≡ lookup_entry (is_str bs) pairs)
     × ((p : Bor (List ℕ) × V) → lookup_entry (is_str bs) pairs ≡ Some p → p.0.now ≡ bs)
     × (lookup (is_str bs) pairs
-      ≡ option_map (λ (e : Bor (List ℕ) × V). e.1) (lookup_entry (is_str bs) pairs))
+    ≡ option_map (λ (e : Bor (List ℕ) × V). e.1) (lookup_entry (is_str bs) pairs))
 pair_matched_str bs pairs = matched (λ s. s.now) pairs bs
 
 -- two maps are the same exactly if their texts are, where the values are compared as `read` sees them
@@ -220,21 +226,21 @@ module _ {K V W : Type 0} (see : K → List ℕ) (read : V → W) (same : W → 
       (lookup (λ k. bytes_eq bs (see k)) b) ≡ true
   found_at_key bs k matches are =
       subst (λ test. option_eq (λ v w. same (read v) (read w)) (lookup test a) (lookup test b)
-            ≡ true) (sym (matched_test (λ k. bytes_eq bs (see k)) a (on see bytes_eq) k
-              (probes_by see bs) matches)) are
+      ≡ true) (sym (matched_test (λ k. bytes_eq bs (see k)) a (on see bytes_eq) k
+      (probes_by see bs) matches)) are
 
   at_each_text : ((k : K) → IsTrue
-        (same_at (on see bytes_eq) (λ v w. same (read v) (read w)) a b k)) → (bs : List ℕ)
+      (same_at (on see bytes_eq) (λ v w. same (read v) (read w)) a b k)) → (bs : List ℕ)
       → IsTrue (same_at bytes_eq same (texts_by see read a) (texts_by see read b) bs)
   at_each_text each bs =
       let test = λ (k : K). bytes_eq bs (see k) in
       found_both bs ∙ by_test test a _
       (λ n. by_test test b _ (λ m. grind (arith, n.value, m.value))
-            (λ i f. found_at_key bs f.pair.0 f.passes (each f.pair.0)))
+      (λ i f. found_at_key bs f.pair.0 f.passes (each f.pair.0)))
       (λ i f. found_at_key bs f.pair.0 f.passes (each f.pair.0))
 
   at_each_key : ((bs : List ℕ)
-        → IsTrue (same_at bytes_eq same (texts_by see read a) (texts_by see read b) bs)) → (k : K)
+      → IsTrue (same_at bytes_eq same (texts_by see read a) (texts_by see read b) bs)) → (k : K)
       → IsTrue (same_at (on see bytes_eq) (λ v w. same (read v) (read w)) a b k)
   at_each_key each k = sym (found_both (see k)) ∙ each (see k)
 
@@ -295,9 +301,9 @@ module _ {K V W : Type 0} (see : K → List ℕ) (read : V → W) (same : W → 
 module _ {K V W : Type 0} (see : K → List ℕ) (read : V → W) (value_text : W → Option (List ℕ))
     (pairs : List (K × V)) where
   pub text_of_texts : (map_text (λ name. Some name) value_text (texts_by see read pairs)
-        ≡ map_text (λ k. Some (see k)) (λ v. value_text (read v)) pairs)
+      ≡ map_text (λ k. Some (see k)) (λ v. value_text (read v)) pairs)
       × (((v : V) → is_some (value_text (read v)) ≡ true)
-        → is_some (map_text (λ k. Some (see k)) (λ v. value_text (read v)) pairs) ≡ true)
+      → is_some (map_text (λ k. Some (see k)) (λ v. value_text (read v)) pairs) ≡ true)
   unfolding texts_by
   text_of_texts = (
     ap (λ items. Some (codes "{") ++? items ++? Some (codes "}"))
@@ -305,8 +311,31 @@ module _ {K V W : Type 0} (see : K → List ℕ) (read : V → W) (value_text : 
     λ known. map_text_known (λ k. Some (see k)) (λ v. value_text (read v)) (λ k. refl) known pairs,
   )
 
-pub ruleset text_views = (texts_empty, at_key_texts, at_texts, pair_texts, pair_matched,
-      pair_matched_str, matched_texts, texts_take_out_matched, texts_put, texts_take_out, has_texts,
-      at_made, unique_texts, texts_front, texts_drop, length_texts, same_texts, differs_texts,
-      each_text, each_key, each_str_text, each_str, each_both_text, each_both_key, text_of_texts,
-      values_texts)
+pub ruleset text_views = (
+  texts_empty,
+  at_key_texts,
+  at_texts,
+  pair_texts,
+  pair_matched,
+  pair_matched_str,
+  matched_texts,
+  texts_take_out_matched,
+  texts_put,
+  texts_take_out,
+  has_texts,
+  at_made,
+  unique_texts,
+  texts_front,
+  texts_drop,
+  length_texts,
+  same_texts,
+  differs_texts,
+  each_text,
+  each_key,
+  each_str_text,
+  each_str,
+  each_both_text,
+  each_both_key,
+  text_of_texts,
+  values_texts,
+)

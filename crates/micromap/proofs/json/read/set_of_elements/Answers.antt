@@ -10,16 +10,18 @@ use Rattle.micromap.proofs.laws.SetTextViews.{item_texts_empty, length_item_text
 use Rattle.micromap.proofs.json.read.set_of_elements.Goals as goal
 
 pub loop-element-init : goal.loop-element-init
-loop-element-init g c = rw (c.into_iter-element-iterator.ensures.into_iter_gives.0,
-      c.new-set.ensures.answer,
-      item_texts_empty) (none_read (put_item bytes_eq) g.row.N
-      (all_texts (items_view c.args.elements.items)))
+loop-element-init g c = rw (
+  c.into_iter-element-iterator.ensures.into_iter_gives.0,
+  c.new-set.ensures.answer,
+  item_texts_empty,
+) (none_read (put_item bytes_eq) g.row.N
+    (all_texts (items_view c.args.elements.items)))
 
 pub returns-in_default-clause-fault : goal.returns-in_default-clause-fault
 returns-in_default-clause-fault g c =
     ap (λ o. and_then (ok_or o NotText) (λ texts. items_for g.row.N (distinct bytes_eq texts)))
-        (not_read c.loop-element.invariant (λ t. t) _ _
-          (ap (λ vs. all_texts (items_view vs)) c.in-Some.ensures.steps.0) (search rules))
+    (not_read c.loop-element.invariant (λ t. t) _ _
+    (ap (λ vs. all_texts (items_view vs)) c.in-Some.ensures.steps.0) (search rules))
 
 pub loop-element-preserved : goal.loop-element-preserved
 loop-element-preserved g c =
@@ -29,17 +31,20 @@ loop-element-preserved g c =
 pub returns-then-all_fit-clause-texts : goal.returns-then-all_fit-clause-texts
 returns-then-all_fit-clause-texts g c =
     read_whole c.loop-element.invariant
-        (ap (λ vs. all_texts (items_view vs))
-          (nil_from_length c.loop-element.element-iterator.rest.items
-            (sym c.loop-element.element-iterator.rest.ok.0 ∙ c.in-None.ensures.steps.0))) NotText
-        c.if-all_fit.true
-    (omega (arith, c.len-content.ensures.content.bounded,
-            length_item_texts string_bytes c.loop-element.set))
+    (ap (λ vs. all_texts (items_view vs))
+    (nil_from_length c.loop-element.element-iterator.rest.items
+    (sym c.loop-element.element-iterator.rest.ok.0 ∙ c.in-None.ensures.steps.0))) NotText
+    c.if-all_fit.true
+    (omega (
+      arith,
+      c.len-content.ensures.content.bounded,
+      length_item_texts string_bytes c.loop-element.set,
+    ))
 
 pub returns-else-all_fit-clause-fault : goal.returns-else-all_fit-clause-fault
 returns-else-all_fit-clause-fault g c =
     read_beyond c.loop-element.invariant
     (ap (λ vs. all_texts (items_view vs))
-      (nil_from_length c.loop-element.element-iterator.rest.items
-        (sym c.loop-element.element-iterator.rest.ok.0 ∙ c.in-None.ensures.steps.0))) NotText
+    (nil_from_length c.loop-element.element-iterator.rest.items
+    (sym c.loop-element.element-iterator.rest.ok.0 ∙ c.in-None.ensures.steps.0))) NotText
     c.if-all_fit.false

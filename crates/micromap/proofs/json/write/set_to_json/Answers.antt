@@ -22,15 +22,15 @@ returns g c =
     let items = c.loop-text.elements.items in
     let text = string_bytes c.in_ok-to_string.field-0 in
     let all = subst (λ rest. map view items ++ as_data rest ≡ as_data c.args.set.now)
-        c.in-None.ensures.steps.0 c.loop-text.invariant in
+    c.in-None.ensures.steps.0 c.loop-text.invariant in
     let reads_back = subst (λ d. depth d ≤ max_depth → read text ≡ Some d)
-        (view-Array c.loop-text.elements) c.in_ok-to_string.ensures.reads_back in
+    (view-Array c.loop-text.elements) c.in_ok-to_string.ensures.reads_back in
     record {
       array = elements_read items c.args.set.now text all reads_back;
       again = elements_again items c.args.set.now text all reads_back
           c.len-content.ensures.content.unique;
       text = elements_text items c.args.set.now text all (subst (λ d. has_float d ≡ false
-              → text ≡ compact_text d) (view-Array c.loop-text.elements)
-            c.in_ok-to_string.ensures.text);
+          → text ≡ compact_text d) (view-Array c.loop-text.elements)
+          c.in_ok-to_string.ensures.text);
       fault = tt;
     }

@@ -11,9 +11,11 @@ returns-in_err-map-clause-succeeds g c =
     let pairs = c.self.inside.map in
     let every : All g.T.Clone.is_infallible (keys_of pairs) = rw c.self.view_is all in
     absurd (false≢true (c.in_err-map.ensures.succeeds
-            (λ i p within. (subst g.T.Clone.is_infallible
-                (get_or-map (λ e. e.0) pairs i p p.0 within) (every i p.0 (rw length-map within)),
-                tt {0}))))
+    (λ i p within. (
+      subst g.T.Clone.is_infallible
+          (get_or-map (λ e. e.0) pairs i p p.0 within) (every i p.0 (rw length-map within)),
+      tt {0},
+    ))))
 
 pub returns : goal.returns
 returns g c = record {

@@ -7,13 +7,13 @@ pub returns-then-len : goal.returns-then-len
 returns-then-len g c =
     let long : length c.args.self.now ≡ length c.args.other.now = search rules in
     let sides = both_sides g.met.T.Eq.laws c.args.self.now c.args.other.now
-        c.len.ensures.content.unique c.len-2.ensures.content.unique long in
+    c.len.ensures.content.unique c.len-2.ensures.content.unique long in
     assumption (members_answered g.met.T.Eq.laws _ _ _ (c.is_subset.ensures.answer ∙ sides))
 
 pub returns-else-len : goal.returns-else-len
 returns-else-len g c =
     let apart : length c.args.self.now ≢ length c.args.other.now = search rules in
     let sides = not_both_sides g.met.T.Eq.laws c.args.self.now c.args.other.now
-        c.len.ensures.content.unique c.len-2.ensures.content.unique apart in
+    c.len.ensures.content.unique c.len-2.ensures.content.unique apart in
     assumption (members_answered g.met.T.Eq.laws _ _ _
-          (ne_eqb c.len.result c.len-2.result c.if-len.false ∙ sym sides))
+    (ne_eqb c.len.result c.len-2.result c.if-len.false ∙ sym sides))

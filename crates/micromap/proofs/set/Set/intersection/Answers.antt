@@ -13,12 +13,16 @@ unfolding intersection_left
 returns g c =
     let eq = g.T.PartialEq.eq in
     let unique = IsDistinct-filter eq (is_member eq c.args.other.now) c.args.self.now
-        c.len-content.ensures.content.unique in
+    c.len-content.ensures.content.unique in
     record {
       walk = λ i. record { rest = c.iter.ensures.answer i; other = c.args.other.now };
       items = ap (λ l. intersection eq l c.args.other.now) c.iter.ensures.answer;
-      bounded = omega (arith, c.len-content.ensures.content.bounded,
-            ap length c.iter.ensures.answer, length-parts eq c.iter.result c.args.other.now);
+      bounded = omega (
+        arith,
+        c.len-content.ensures.content.bounded,
+        ap length c.iter.ensures.answer,
+        length-parts eq c.iter.result c.args.other.now,
+      );
       unique = unique;
       builds = added_all g.met.T.Eq.laws _ unique;
       turned = intersection_turned g.met.T.Eq.laws c.args.self.now c.args.other.now;

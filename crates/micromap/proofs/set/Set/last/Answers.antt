@@ -6,5 +6,10 @@ use Rattle.micromap.proofs.set.Set.last.Goals as goal
 pub returns : goal.returns
 returns g c =
     let pairs = c.self.inside.map in
-    rw (← c.self.view_is, length-keys_of pairs, slice_get-map (λ e. e.0) pairs (length pairs - 1),
-          ← c.last.ensures, c.in_ok-item.was) refl
+    rw (
+      ← c.self.view_is,
+      length-keys_of pairs,
+      slice_get-map (λ e. e.0) pairs (length pairs - 1),
+      ← c.last.ensures,
+      c.in_ok-item.was,
+    ) refl

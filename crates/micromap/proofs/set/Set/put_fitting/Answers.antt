@@ -6,8 +6,13 @@ use Rattle.micromap.proofs.set.Set.put_fitting.Goals as goal
 pub loop-x-init : goal.loop-x-init
 loop-x-init g c =
     rw c.into_iter-x-iterator.ensures.into_iter_gives
-        (record { content = c.len-content.ensures.content; can = c.requires.can; finite =
-            c.requires.ends; put = record { all = refl; made = refl } })
+    (record {
+      content = c.len-content.ensures.content;
+      can = c.requires.can;
+      finite =
+          c.requires.ends;
+      put = record { all = refl; made = refl };
+    })
 
 pub loop-x-preserved-then-not-put : goal.loop-x-preserved-then-not-put
 loop-x-preserved-then-not-put g c =
@@ -19,7 +24,7 @@ loop-x-preserved-then-not-put g c =
       put = has_put_fitting (item_fits g.T.PartialEq.eq g.row.N)
           (put_item g.T.PartialEq.eq) c.args.self.now l.yielded l.all_fit l.self c.put.new.self
           c.in-Some.x false l.invariant.put c.put.ensures.items (sym c.put.ensures.answer
-            ∙ c.if-not-put.true);
+          ∙ c.if-not-put.true);
       content = c.put.ensures.content.1;
     }
 
@@ -33,6 +38,6 @@ loop-x-preserved g c =
       put = has_put_fitting (item_fits g.T.PartialEq.eq g.row.N)
           (put_item g.T.PartialEq.eq) c.args.self.now l.yielded l.all_fit l.self c.put.new.self
           c.in-Some.x true l.invariant.put c.put.ensures.items (sym c.put.ensures.answer
-            ∙ c.if-not-put.false);
+          ∙ c.if-not-put.false);
       content = c.put.ensures.content.1;
     }

@@ -11,17 +11,21 @@ retain-requires g c = (
   omega arith,
   let may = callable_inner _ (CalledAt g.F.FnMut) (λ f. f.0.now) (λ f x v b w t said. search rules)
       (TakesAt g.F.FnMut) _ _ (rw (← c.self.view_is) at c.requires) in
-      record { at = λ before after s x v parts calls key shows value is. may.at before after s x v
-            parts calls key shows },
+      record {
+        at = λ before after s x v parts calls key shows value is. may.at before after s x v
+            parts calls key shows;
+      },
 )
 
 pub returns : goal.returns
 returns g c = record {
   items = rw (← c.self.view_is)
       (retained_keys (CalledAt g.F.FnMut) (λ f. f.0.now) (λ f x v b w t said. search rules) _ _ _
-        c.retain.ensures.pairs);
+      c.retain.ensures.pairs);
   order = rw (← c.self.view_is) c.retain.ensures.order;
   shorter = rw (← c.self.view_is) (length-sublist _ _ c.retain.ensures.order);
-  content = (content_items c.self.view_is c.retain.ensures.content.0,
-        content_items refl c.retain.ensures.content.1);
+  content = (
+    content_items c.self.view_is c.retain.ensures.content.0,
+    content_items refl c.retain.ensures.content.1,
+  );
 }

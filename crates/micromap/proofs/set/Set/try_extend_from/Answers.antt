@@ -10,19 +10,23 @@ returns-clause-items g c =
     let call = c.try_extend_from in
     rw (← c.self.view_is, ← c.other.view_is)
     (extended-keys eq c.self.inside.map c.other.inside.map call.new.self call.result
-          call.ensures.pairs)
+    call.ensures.pairs)
 
 pub returns-clause-many : goal.returns-clause-many
 returns-clause-many g c =
     let eq = g.T.PartialEq.eq in
     let keys = keys_put_all_items eq c.self.inside.map c.other.inside.map in
     let all = put_all eq c.self.inside.map c.other.inside.map in
-    rw (← c.self.view_is, ← c.other.view_is, ← keys,
-          length-keys_of all) c.try_extend_from.ensures.many
+    rw (
+      ← c.self.view_is,
+      ← c.other.view_is,
+      ← keys,
+      length-keys_of all,
+    ) c.try_extend_from.ensures.many
 
 pub returns-clause-stops : goal.returns-clause-stops
 returns-clause-stops g c =
     let misfit = misfit-keys g.T.PartialEq.eq g.row.N c.self.inside.map c.other.inside.map in
     let call = c.try_extend_from in
     rw (← c.self.view_is, ← c.other.view_is)
-        (IfErr-weaker call.result _ _ (λ e. misfit e.at) call.ensures.stops)
+    (IfErr-weaker call.result _ _ (λ e. misfit e.at) call.ensures.stops)

@@ -11,13 +11,17 @@ unfolding union union_left
 returns g c =
     let eq = g.T.PartialEq.eq in
     let unique = IsDistinct-union g.met.T.Eq.laws c.args.self.now c.args.other.now
-        c.len-content.ensures.content.unique c.difference.ensures.unique in
+    c.len-content.ensures.content.unique c.difference.ensures.unique in
     record {
       walk = λ i. record { others = c.iter.ensures.answer i; beyond = c.difference.ensures.walk i };
       items = λ i. c.iter.ensures.answer i ++ c.difference.ensures.items i;
-      bounded = omega (arith, c.len-content.ensures.content.bounded,
-            ap length c.iter.ensures.answer, c.difference.ensures.bounded,
-            length-append c.iter.result (difference_left eq c.difference.result));
+      bounded = omega (
+        arith,
+        c.len-content.ensures.content.bounded,
+        ap length c.iter.ensures.answer,
+        c.difference.ensures.bounded,
+        length-append c.iter.result (difference_left eq c.difference.result),
+      );
       unique = unique;
       builds = added_all g.met.T.Eq.laws _ unique;
       turned = union_turned g.met.T.Eq.laws _ _;

@@ -13,6 +13,6 @@ loop-x-preserved g c =
       removed = c.remove.ensures.items
           ∙ ap (λ kept. take_item g.T.PartialEq.eq kept c.in-Some.x.now) l.invariant.removed
           ∙ sym (fold_push (λ kept x. take_item g.T.PartialEq.eq kept x.now) c.args.set l.yielded
-            c.in-Some.x);
+          c.in-Some.x);
       content = c.remove.ensures.content.1;
     }

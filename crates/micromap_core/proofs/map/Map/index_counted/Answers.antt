@@ -14,22 +14,41 @@ loop-stored-init g c = record {
 -- the key that is looked at was not counted yet
 pub same-requires : goal.same-requires
 same-requires g c =
-    omega (arith, c.requires, c.loop-stored.invariant.count, c.loop-stored.invariant.scan.counted,
-          ap length c.in-Some.ensures.steps, length-keys_of c.args.self.now)
+    omega (
+      arith,
+      c.requires,
+      c.loop-stored.invariant.count,
+      c.loop-stored.invariant.scan.counted,
+      ap length c.in-Some.ensures.steps,
+      length-keys_of c.args.self.now,
+    )
 
 pub overflow_add-index : goal.overflow_add-index
 overflow_add-index g c =
-    omega (arith, c.loop-stored.invariant.scan.counted, ap length c.in-Some.ensures.steps,
-          length-keys_of c.args.self.now, ap length c.keys-keys.ensures.answer,
-          c.len-bounded.ensures, c.len-bounded.type_inv)
+    omega (
+      arith,
+      c.loop-stored.invariant.scan.counted,
+      ap length c.in-Some.ensures.steps,
+      length-keys_of c.args.self.now,
+      ap length c.keys-keys.ensures.answer,
+      c.len-bounded.ensures,
+      c.len-bounded.type_inv,
+    )
 
 pub returns-then-same : goal.returns-then-same
 returns-then-same g c =
     let at = not_yet-found c.loop-stored.invariant.scan c.in-Some.ensures.steps
-        (sym c.if-same.ensures.answer) in
-    record { index = sym at; count =
-          omega (arith, c.loop-stored.invariant.count, c.same.ensures.count,
-            ap (λ o. option_map_or suc o (length c.args.self.now)) at) }
+    (sym c.if-same.ensures.answer) in
+    record {
+      index = sym at;
+      count =
+          omega (
+            arith,
+            c.loop-stored.invariant.count,
+            c.same.ensures.count,
+            ap (λ o. option_map_or suc o (length c.args.self.now)) at,
+          );
+    }
 
 pub loop-stored-preserved : goal.loop-stored-preserved
 loop-stored-preserved g c = record {
@@ -43,7 +62,12 @@ returns g c =
     let none = not_yet-missing c.loop-stored.invariant.scan c.in-None.ensures.steps.0 in
     record {
       index = sym none;
-      count = omega (arith, c.loop-stored.invariant.count, c.loop-stored.invariant.scan.counted,
-            ap length c.in-None.ensures.steps.0, length-keys_of c.args.self.now,
-            ap (λ o. option_map_or suc o (length c.args.self.now)) none);
+      count = omega (
+        arith,
+        c.loop-stored.invariant.count,
+        c.loop-stored.invariant.scan.counted,
+        ap length c.in-None.ensures.steps.0,
+        length-keys_of c.args.self.now,
+        ap (λ o. option_map_or suc o (length c.args.self.now)) none,
+      );
     }

@@ -6,6 +6,10 @@ use Rattle.micromap_core.proofs.map.Map.index_mut.Goals as goal
 pub returns : goal.returns
 returns g c = (
   (refl, λ w. sym (put_stored g.K.PartialEq.eq c.args.self.now c.args.key.now w c.requires)),
-  record { writes_back = tt; answer = c.index_mut_by.ensures.answer; content =
-        c.index_mut_by.ensures.content },
+  record {
+    writes_back = tt;
+    answer = c.index_mut_by.ensures.answer;
+    content =
+        c.index_mut_by.ensures.content;
+  },
 )

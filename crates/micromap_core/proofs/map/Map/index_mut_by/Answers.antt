@@ -7,6 +7,10 @@ pub returns : goal.returns
 returns g c =
     let found = c.in-Some.ensures.found in (
       (refl, λ w. written_at _ c.args.self.now c.in-Some.index found w),
-      record { writes_back = tt; answer = found.value ∙ sym (ap (option_map (λ p. p.1)) found.here)
-            ∙ c.value_at.ensures.value; content = c.in-Some.ensures.content },
+      record {
+        writes_back = tt;
+        answer = found.value ∙ sym (ap (option_map (λ p. p.1)) found.here)
+            ∙ c.value_at.ensures.value;
+        content = c.in-Some.ensures.content;
+      },
     )

@@ -4,23 +4,35 @@ use Rattle.micromap_core.proofs.MapLemmas.{found_at, not_found, not_yet-start, n
 use Rattle.micromap_core.proofs.map.Map.index_of.Goals as goal
 
 pub loop-key-init : goal.loop-key-init
-loop-key-init g c = rw (c.into_iter-key-iterator.ensures.into_iter_gives,
-      c.keys-keys.ensures.answer) (not_yet-start _ _)
+loop-key-init g c = rw (
+  c.into_iter-key-iterator.ensures.into_iter_gives,
+  c.keys-keys.ensures.answer,
+) (not_yet-start _ _)
 
 pub returns-then-matches : goal.returns-then-matches
 returns-then-matches g c =
     let at = not_yet-found c.loop-key.invariant c.in-Some.ensures.steps
-        (sym c.if-matches.ensures) in
-    record { answer = sym at; found =
+    (sym c.if-matches.ensures) in
+    record {
+      answer = sym at;
+      found =
           found_at (g.P.Probe.matches c.args.probe.now) c.args.self.now c.loop-key.index at;
-          missing = tt; content = c.len-content.ensures.content }
+      missing = tt;
+      content = c.len-content.ensures.content;
+    }
 
 -- the key that is looked at was not counted yet
 pub overflow_add-index : goal.overflow_add-index
 overflow_add-index g c =
-    omega (arith, c.loop-key.invariant.counted, ap length c.in-Some.ensures.steps,
-          length-keys_of c.args.self.now, ap length c.keys-keys.ensures.answer,
-          c.len-content.ensures.answer, c.len-content.type_inv)
+    omega (
+      arith,
+      c.loop-key.invariant.counted,
+      ap length c.in-Some.ensures.steps,
+      length-keys_of c.args.self.now,
+      ap length c.keys-keys.ensures.answer,
+      c.len-content.ensures.answer,
+      c.len-content.type_inv,
+    )
 
 pub loop-key-preserved : goal.loop-key-preserved
 loop-key-preserved g c = not_yet-on c.loop-key.invariant c.in-Some.ensures.steps
@@ -29,6 +41,11 @@ loop-key-preserved g c = not_yet-on c.loop-key.invariant c.in-Some.ensures.steps
 pub returns : goal.returns
 returns g c =
     let none = not_yet-missing c.loop-key.invariant c.in-None.ensures.steps.0 in
-    record { answer = sym none; found = tt; missing =
-          not_found (g.P.Probe.matches c.args.probe.now) c.args.self.now none; content =
-          c.len-content.ensures.content }
+    record {
+      answer = sym none;
+      found = tt;
+      missing =
+          not_found (g.P.Probe.matches c.args.probe.now) c.args.self.now none;
+      content =
+          c.len-content.ensures.content;
+    }

@@ -4,26 +4,42 @@ use Rattle.micromap_core.proofs.map.Map.is_within_counted.Goals as goal
 
 pub loop-key-init : goal.loop-key-init
 loop-key-init g c = rw c.into_iter-key-iterator.ensures.into_iter_gives.0
-    (record { answer = refl; count = refl; bounded =
-        omega (arith, most_steps-product c.args.self.now (length c.args.other.now)) })
+    (record {
+      answer = refl;
+      count = refl;
+      bounded =
+          omega (arith, most_steps-product c.args.self.now (length c.args.other.now));
+    })
 
 pub returns-then-not-has_value_counted : goal.returns-then-not-has_value_counted
 returns-then-not-has_value_counted g c = record {
   answer = sym (all_step g.K.PartialEq.eq g.V.PartialEq.eq c.args.other.now c.in-Some.ensures.steps
-        c.if-not-has_value_counted.ensures.answer) ∙ c.loop-key.invariant.answer;
-  count = omega (arith, c.loop-key.invariant.count, c.has_value_counted.ensures.count,
-        walk_step g.K.PartialEq.eq g.V.PartialEq.eq c.args.other.now c.in-Some.ensures.steps
-        c.if-not-has_value_counted.ensures.answer);
+      c.if-not-has_value_counted.ensures.answer) ∙ c.loop-key.invariant.answer;
+  count = omega (
+    arith,
+    c.loop-key.invariant.count,
+    c.has_value_counted.ensures.count,
+    walk_step g.K.PartialEq.eq g.V.PartialEq.eq c.args.other.now c.in-Some.ensures.steps
+        c.if-not-has_value_counted.ensures.answer,
+  );
 }
 
 pub loop-key-preserved : goal.loop-key-preserved
 loop-key-preserved g c = record {
   answer = sym (all_step g.K.PartialEq.eq g.V.PartialEq.eq c.args.other.now c.in-Some.ensures.steps
-        c.if-not-has_value_counted.ensures.answer) ∙ c.loop-key.invariant.answer;
-  count = omega (arith, c.loop-key.invariant.count, c.has_value_counted.ensures.count,
-        walk_step g.K.PartialEq.eq g.V.PartialEq.eq c.args.other.now c.in-Some.ensures.steps
-        c.if-not-has_value_counted.ensures.answer);
-  bounded = omega (arith, c.loop-key.invariant.bounded, c.has_value_counted.ensures.count,
-        look_up_steps-bound g.K.PartialEq.eq c.args.other.now c.in-Some.key.now,
-        ap (λ l. most_steps l (length c.args.other.now)) c.in-Some.ensures.steps);
+      c.if-not-has_value_counted.ensures.answer) ∙ c.loop-key.invariant.answer;
+  count = omega (
+    arith,
+    c.loop-key.invariant.count,
+    c.has_value_counted.ensures.count,
+    walk_step g.K.PartialEq.eq g.V.PartialEq.eq c.args.other.now c.in-Some.ensures.steps
+        c.if-not-has_value_counted.ensures.answer,
+  );
+  bounded = omega (
+    arith,
+    c.loop-key.invariant.bounded,
+    c.has_value_counted.ensures.count,
+    look_up_steps-bound g.K.PartialEq.eq c.args.other.now c.in-Some.key.now,
+    ap (λ l. most_steps l (length c.args.other.now)) c.in-Some.ensures.steps,
+  );
 }

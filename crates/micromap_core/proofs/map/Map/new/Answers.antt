@@ -8,5 +8,9 @@ invariant_of-result g c = rw c.new.ensures (unique_empty g.row.V.Denot g.K.Parti
 
 pub returns-clause-content : goal.returns-clause-content
 returns-clause-content g c =
-    rw c.new.ensures (record { unique = unique_empty g.row.V.Denot g.K.PartialEq.eq; bounded =
-        search rules; lawful = lawful g.K.PartialEq.eq g.met.K.Eq.laws })
+    rw c.new.ensures (record {
+      unique = unique_empty g.row.V.Denot g.K.PartialEq.eq;
+      bounded =
+          search rules;
+      lawful = lawful g.K.PartialEq.eq g.met.K.Eq.laws;
+    })

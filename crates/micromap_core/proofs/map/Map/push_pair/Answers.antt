@@ -4,15 +4,17 @@ use Rattle.micromap_core.proofs.MapLemmas.{not_found, IsUnique-push, push-put, p
 use Rattle.micromap_core.proofs.map.Map.push_pair.Goals as goal
 
 pub push-requires : goal.push-requires
-push-requires g c = (columns_fit g.row.K g.row.V g.row.N g.K.PartialEq.eq assumption,
-      rw c.self.view_is c.requires.room)
+push-requires g c = (
+  columns_fit g.row.K g.row.V g.row.N g.K.PartialEq.eq assumption,
+  rw c.self.view_is c.requires.room,
+)
 
 pub invariant_of-self : goal.invariant_of-self
 invariant_of-self g c =
     rw c.push.ensures (IsUnique-push g.K.PartialEq.eq g.met.K.Eq.laws c.self.inside.pairs
-          c.self.invariant c.args.key c.args.value
-          (not_found (g.K.PartialEq.eq c.args.key) c.self.inside.pairs
-            (rw c.self.view_is c.requires.new)))
+    c.self.invariant c.args.key c.args.value
+    (not_found (g.K.PartialEq.eq c.args.key) c.self.inside.pairs
+    (rw c.self.view_is c.requires.new)))
 
 pub returns : goal.returns
 returns g c =

@@ -10,10 +10,14 @@ remove-pair-requires g c =
 pub invariant_of-self : goal.invariant_of-self
 invariant_of-self g c =
     rw c.remove-pair.ensures.pairs
-        (IsUnique-remove g.K.PartialEq.eq g.met.K.Eq.laws c.self.inside.pairs c.self.invariant
-          c.args.index c.remove-pair.result c.remove-pair.ensures.answer)
+    (IsUnique-remove g.K.PartialEq.eq g.met.K.Eq.laws c.self.inside.pairs c.self.invariant
+    c.args.index c.remove-pair.result c.remove-pair.ensures.answer)
 
 pub returns : goal.returns
 unfolding without_at
-returns g c = record { answer = rw (← c.self.view_is) c.remove-pair.ensures.answer; pairs =
-      rw (← c.self.view_is) c.remove-pair.ensures.pairs; content = c.len-content.ensures.content }
+returns g c = record {
+  answer = rw (← c.self.view_is) c.remove-pair.ensures.answer;
+  pairs =
+      rw (← c.self.view_is) c.remove-pair.ensures.pairs;
+  content = c.len-content.ensures.content;
+}

@@ -7,9 +7,15 @@ use Rattle.micromap_core.proofs.map.Map.try_extend.Goals as goal
 pub loop-key-init : goal.loop-key-init
 loop-key-init g c =
     rw c.into_iter-key-iterator.ensures.into_iter_gives
-        (record { content = c.len-content.ensures.content; can = c.requires.can; finite =
-            c.requires.ends.0; counted = omega (arith, c.requires.ends.1); put =
-            record { fit = refl; made = refl; position_is = refl } })
+    (record {
+      content = c.len-content.ensures.content;
+      can = c.requires.can;
+      finite =
+          c.requires.ends.0;
+      counted = omega (arith, c.requires.ends.1);
+      put =
+          record { fit = refl; made = refl; position_is = refl };
+    })
 
 pub loop-key-preserved : goal.loop-key-preserved
 loop-key-preserved g c =
@@ -21,10 +27,12 @@ loop-key-preserved g c =
       counted = omega (arith, goes.2, l.invariant.counted);
       put = has_put_more (pair_fits g.K.PartialEq.eq g.row.N)
           (put_pair g.K.PartialEq.eq) c.args.self.now l.yielded l.at l.self
-          c.checked_insert.new.self (c.in-Some.key,
-            c.in-Some.value) l.invariant.put c.checked_insert.ensures.pairs
+          c.checked_insert.new.self (
+            c.in-Some.key,
+            c.in-Some.value,
+          ) l.invariant.put c.checked_insert.ensures.pairs
           (fits_checked g.K.PartialEq.eq g.row.N l.self c.in-Some.key
-            c.checked_insert.ensures.answer c.if-is_none.ensures);
+          c.checked_insert.ensures.answer c.if-is_none.ensures);
       content = c.checked_insert.ensures.content.1;
     }
 
@@ -33,21 +41,26 @@ pub returns-then-is_none : goal.returns-then-is_none
 returns-then-is_none g c =
     let l = c.loop-key in
     let misfit = fits_checked g.K.PartialEq.eq g.row.N l.self c.in-Some.key
-        c.checked_insert.ensures.answer c.if-is_none.ensures in
+    c.checked_insert.ensures.answer c.if-is_none.ensures in
     let kept : c.checked_insert.new.self ≡ l.self = rw misfit at c.checked_insert.ensures.pairs in
     let full = ap length kept
-        ∙ full_is (has g.K.PartialEq.eq l.self c.in-Some.key)
-        (length l.self) g.row.N misfit (c.loop-key.invariant.content.bounded) in
+    ∙ full_is (has g.K.PartialEq.eq l.self c.in-Some.key)
+    (length l.self) g.row.N misfit (c.loop-key.invariant.content.bounded) in
     record {
       runs = tt;
       stops =
           run_stops (pair_fits g.K.PartialEq.eq g.row.N)
-              (put_pair g.K.PartialEq.eq) c.args.self.now l.yielded l.at l.self
-              c.checked_insert.new.self (c.in-Some.key,
-                c.in-Some.value) l.invariant.put c.checked_insert.ensures.pairs
-              g.I.Iterator.next_gives c.args.items c.next.new.self misfit
-          (rw (← c.into_iter-key-iterator.ensures.into_iter_gives) (l.key-iterator, l.yielded_by,
-                  c.in-Some.ensures.steps));
+          (put_pair g.K.PartialEq.eq) c.args.self.now l.yielded l.at l.self
+          c.checked_insert.new.self (
+            c.in-Some.key,
+            c.in-Some.value,
+          ) l.invariant.put c.checked_insert.ensures.pairs
+          g.I.Iterator.next_gives c.args.items c.next.new.self misfit
+          (rw (← c.into_iter-key-iterator.ensures.into_iter_gives) (
+            l.key-iterator,
+            l.yielded_by,
+            c.in-Some.ensures.steps,
+          ));
       full = full;
       content = (c.len-content.ensures.content, c.checked_insert.ensures.content.1);
     }
@@ -58,18 +71,23 @@ returns g c =
     record {
       runs =
           run_puts (pair_fits g.K.PartialEq.eq g.row.N)
-              (put_pair g.K.PartialEq.eq) g.I.Iterator.next_gives c.args.items c.args.self.now
-              l.self l.yielded l.at l.invariant.put
-          (rw (← c.into_iter-key-iterator.ensures.into_iter_gives) (c.next.new.self,
-                  (l.key-iterator, l.yielded_by, c.in-None.ensures.steps)));
+          (put_pair g.K.PartialEq.eq) g.I.Iterator.next_gives c.args.items c.args.self.now
+          l.self l.yielded l.at l.invariant.put
+          (rw (← c.into_iter-key-iterator.ensures.into_iter_gives) (
+            c.next.new.self,
+            (l.key-iterator, l.yielded_by, c.in-None.ensures.steps),
+          ));
       stops = tt;
       full = tt;
       content = (c.len-content.ensures.content, l.invariant.content);
     }
 
 pub overflow_add-at : goal.overflow_add-at
-overflow_add-at g c = omega (arith, (c.in-Some.ensures.goes.on c.loop-key.invariant.finite).2,
-      c.loop-key.invariant.counted)
+overflow_add-at g c = omega (
+  arith,
+  (c.in-Some.ensures.goes.on c.loop-key.invariant.finite).2,
+  c.loop-key.invariant.counted,
+)
 
 pub loop-key-smaller : goal.loop-key-smaller
 loop-key-smaller g c = (c.in-Some.ensures.goes.on c.loop-key.invariant.finite).2

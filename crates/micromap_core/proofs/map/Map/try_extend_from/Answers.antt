@@ -19,11 +19,13 @@ loop-key-preserved g c =
     let key = c.in-Some.key.now in
     let put = c.checked_insert.ensures in
     let fit = fits_checked g.K.PartialEq.eq g.row.N c.loop-key.all key put.answer
-        c.if-is_none.ensures in
+    c.if-is_none.ensures in
     let so_far = c.loop-key.invariant.put in
     record {
-      put = put_goes_on _ _ so_far (key,
-            c.in-Some.value.now) _ c.in-Some.ensures.steps _ put.pairs fit;
+      put = put_goes_on _ _ so_far (
+        key,
+        c.in-Some.value.now,
+      ) _ c.in-Some.ensures.steps _ put.pairs fit;
       content = put.content.1;
     }
 
@@ -39,7 +41,7 @@ returns-then-is_none g c =
     let key = c.in-Some.key.now in
     let answer = c.checked_insert.ensures.answer in
     let misfit = fits_checked g.K.PartialEq.eq g.row.N c.loop-key.all key answer
-        c.if-is_none.ensures in
+    c.if-is_none.ensures in
     let so_far = c.loop-key.invariant.put in
     let stops = put_stops _ _ so_far (key, c.in-Some.value.now) _ c.in-Some.ensures.steps misfit in
     let content = c.len-content.ensures.content in
@@ -58,8 +60,10 @@ returns g c =
     let content = c.loop-key.invariant.content in
     record {
       pairs = put;
-      many = (λ no. absurd (false≢true no),
-            λ many. absurd (omega (arith, many, ap length put, content.bounded)));
+      many = (
+        λ no. absurd (false≢true no),
+        λ many. absurd (omega (arith, many, ap length put, content.bounded)),
+      );
       stops = tt;
       unchanged = tt;
       content = (c.len-content.ensures.content, content);

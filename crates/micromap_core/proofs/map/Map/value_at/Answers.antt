@@ -9,14 +9,20 @@ invariant_of-self-lent g c w =
     c.args.index w
 
 pub value_at-requires : goal.value_at-requires
-value_at-requires g c = (columns_fit g.row.K g.row.V g.row.N g.K.PartialEq.eq assumption,
-      rw c.self.view_is c.requires)
+value_at-requires g c = (
+  columns_fit g.row.K g.row.V g.row.N g.K.PartialEq.eq assumption,
+  rw c.self.view_is c.requires,
+)
 
 pub returns : goal.returns
 returns g c = (
   (refl, λ w. rw (← c.self.view_is) refl),
-  record { writes_back = tt; value = rw (← c.self.view_is) c.value_at.ensures.value; content =
+  record {
+    writes_back = tt;
+    value = rw (← c.self.view_is) c.value_at.ensures.value;
+    content =
         λ v. rw (← c.self.view_is)
         (IsContent-with_value_at c.self.inside.pairs c.args.index v g.K.PartialEq.eq g.row.N
-          c.len-content.ensures.content) },
+        c.len-content.ensures.content);
+  },
 )

@@ -13,7 +13,7 @@ loop-key-preserved-in-Some g c =
       removed = c.remove.ensures.pairs
           ∙ ap (λ pairs. take_out g.K.PartialEq.eq pairs c.in-Some.key.now) l.invariant.removed
           ∙ sym (fold_push (λ pairs x. take_out g.K.PartialEq.eq pairs x.now) c.args.map l.yielded
-            c.in-Some.key);
+          c.in-Some.key);
       content = c.remove.ensures.content.1;
     }
 
@@ -27,6 +27,6 @@ loop-key-preserved g c =
       removed = c.remove.ensures.pairs
           ∙ ap (λ pairs. take_out g.K.PartialEq.eq pairs c.in-Some.key.now) l.invariant.removed
           ∙ sym (fold_push (λ pairs x. take_out g.K.PartialEq.eq pairs x.now) c.args.map l.yielded
-            c.in-Some.key);
+          c.in-Some.key);
       content = c.remove.ensures.content.1;
     }

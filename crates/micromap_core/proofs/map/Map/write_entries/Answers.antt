@@ -4,8 +4,11 @@ use Rattle.micromap_core.proofs.StreamLemmas.{still_faultless, writing_begins, w
 use Rattle.micromap_core.proofs.map.Map.write_entries.Goals as goal
 
 pub loop-key-init : goal.loop-key-init
-loop-key-init g c = record { faultless = record { count = refl; last = refl }; writing =
-      rw c.into_iter-key-iterator.ensures.into_iter_gives.0 (writing_begins _ _) }
+loop-key-init g c = record {
+  faultless = record { count = refl; last = refl };
+  writing =
+      rw c.into_iter-key-iterator.ensures.into_iter_gives.0 (writing_begins _ _);
+}
 
 pub loop-key-preserved : goal.loop-key-preserved
 loop-key-preserved g c = record {
@@ -17,8 +20,8 @@ loop-key-preserved g c = record {
 pub returns-in_err-entry-clause-beginning : goal.returns-in_err-entry-clause-beginning
 returns-in_err-entry-clause-beginning g c =
     MatchResult-from_err _ _ _ c.from_residual.ensures.0
-        (λ _. writing_fails c.loop-key.invariant.writing c.in-Some.ensures.steps
-          c.in_err-entry.ensures.kept)
+    (λ _. writing_fails c.loop-key.invariant.writing c.in-Some.ensures.steps
+    c.in_err-entry.ensures.kept)
 
 pub returns : goal.returns
 returns g c = assumption (writing_ends c.loop-key.invariant.writing c.in-None.ensures.steps.0)

@@ -11,13 +11,13 @@ loop-item-preserved g c =
     let item = c.in-Some.item.now in
     let later = c.as_slice-later-items.result.now in
     let none : list_any (λ q. eq item.0 q.0) later ≡ false =
-        ap (list_any (λ q. eq item.0 q.0))
-        (sym (take_all c.loop-later.later-index later c.loop-later-test.false))
-        ∙ sym c.loop-later.invariant ∙ c.if-repeated.false in
+    ap (list_any (λ q. eq item.0 q.0))
+    (sym (take_all c.loop-later.later-index later c.loop-later-test.false))
+    ∙ sym c.loop-later.invariant ∙ c.if-repeated.false in
     λ unique. c.loop-item.invariant
-        (rw c.in-Some.ensures.steps
-          (unique_before eq item c.next.new.self.rest.now
-            (rw c.as_slice-later-items.ensures.value at none) unique))
+    (rw c.in-Some.ensures.steps
+    (unique_before eq item c.next.new.self.rest.now
+    (rw c.as_slice-later-items.ensures.value at none) unique))
 
 pub loop-later-preserved : goal.loop-later-preserved
 loop-later-preserved g c =
@@ -27,11 +27,11 @@ loop-later-preserved g c =
     let index = c.loop-later.later-index in
     ap (λ b. b || c.eq-repeated.result) c.loop-later.invariant
     ∙ ap (λ b. list_any (λ q. eq item.0 q.0) (take index later) || b)
-        (c.eq-repeated.ensures ∙ ap (λ q. eq item.0 q.0) c.later-item.is)
+    (c.eq-repeated.ensures ∙ ap (λ q. eq item.0 q.0) c.later-item.is)
     ∙ sym (list_any_more (λ q. eq item.0 q.0) later index c.later-item.result
-          c.loop-later-test.true)
+    c.loop-later-test.true)
 
 pub returns : goal.returns
 returns g c = λ _. c.loop-item.invariant
     (rw (nil_from_length c.loop-item.rest.rest.now c.in_default.ensures.steps.0)
-      (IsDistinct-nil g.K.PartialEq.eq))
+    (IsDistinct-nil g.K.PartialEq.eq))

@@ -17,13 +17,17 @@ pub push-requires : goal.push-requires
 push-requires g c =
     let filled = c.into_array_vec-filled.result.items in
     let all : drain_items c.drain-slot-items.result ≡ filled = c.drain-slot-items.ensures.rest
-        ∙ take_all (length filled - 0) filled (omega arith) in
+    ∙ take_all (length filled - 0) filled (omega arith) in
     let long : length filled ≤ g.row.M =
-        rw (← length_filled _ c.into_array_vec-filled.ensures.filled,
-          c.into_array_vec-filled.ensures.items) c.requires in
-    (search rules, room_left _ _ _ (c.loop-slot.invariant.moved
-            ∙ ap drain_items c.into_iter-slot-iterator.ensures.into_iter_gives
-            ∙ all) _ _ _ c.in-Some.ensures.steps.0 long)
+    rw (
+      ← length_filled _ c.into_array_vec-filled.ensures.filled,
+      c.into_array_vec-filled.ensures.items,
+    ) c.requires in (
+      search rules,
+      room_left _ _ _ (c.loop-slot.invariant.moved
+          ∙ ap drain_items c.into_iter-slot-iterator.ensures.into_iter_gives
+          ∙ all) _ _ _ c.in-Some.ensures.steps.0 long,
+    )
 
 pub loop-slot-preserved : goal.loop-slot-preserved
 loop-slot-preserved g c = record {
@@ -37,20 +41,20 @@ pub invariant_of-result : goal.invariant_of-result
 invariant_of-result g c =
     let filled = c.into_array_vec-filled.result.items in
     let all : drain_items c.drain-slot-items.result ≡ filled = c.drain-slot-items.ensures.rest
-        ∙ take_all (length filled - 0) filled (omega arith) in
+    ∙ take_all (length filled - 0) filled (omega arith) in
     let moved : c.loop-slot.slots.items ≡ filled =
-        all_moved _ _ _ (c.loop-slot.invariant.moved
-          ∙ ap drain_items c.into_iter-slot-iterator.ensures.into_iter_gives
-          ∙ all) c.in-None.ensures.steps.0 in
+    all_moved _ _ _ (c.loop-slot.invariant.moved
+    ∙ ap drain_items c.into_iter-slot-iterator.ensures.into_iter_gives
+    ∙ all) c.in-None.ensures.steps.0 in
     rw moved c.into_array_vec-filled.ensures.filled
 
 pub returns : goal.returns
 returns g c =
     let filled = c.into_array_vec-filled.result.items in
     let all : drain_items c.drain-slot-items.result ≡ filled = c.drain-slot-items.ensures.rest
-        ∙ take_all (length filled - 0) filled (omega arith) in
+    ∙ take_all (length filled - 0) filled (omega arith) in
     let moved : c.loop-slot.slots.items ≡ filled =
-        all_moved _ _ _ (c.loop-slot.invariant.moved
-          ∙ ap drain_items c.into_iter-slot-iterator.ensures.into_iter_gives
-          ∙ all) c.in-None.ensures.steps.0 in
+    all_moved _ _ _ (c.loop-slot.invariant.moved
+    ∙ ap drain_items c.into_iter-slot-iterator.ensures.into_iter_gives
+    ∙ all) c.in-None.ensures.steps.0 in
     rw moved c.into_array_vec-filled.ensures.items

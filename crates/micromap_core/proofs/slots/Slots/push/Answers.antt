@@ -4,12 +4,18 @@ use Rattle.micromap_core.proofs.slots.Slots.push.Goals as goal
 
 pub invariant_of-self : goal.invariant_of-self
 invariant_of-self g c = AreFilled-from _ _ (c.push.ensures.items
-      ∙ push_filled _ c.self.invariant c.args.item)
+    ∙ push_filled _ c.self.invariant c.args.item)
 
 pub returns : goal.returns
-returns g c = rw (c.push.ensures.items, push_filled _ c.self.invariant c.args.item, items_of-map,
-      c.self.view_is) refl
+returns g c = rw (
+  c.push.ensures.items,
+  push_filled _ c.self.invariant c.args.item,
+  items_of-map,
+  c.self.view_is,
+) refl
 
 pub push-requires : goal.push-requires
-push-requires g c = (search rules,
-      rw (← length_filled _ c.self.invariant, c.self.view_is) c.requires)
+push-requires g c = (
+  search rules,
+  rw (← length_filled _ c.self.invariant, c.self.view_is) c.requires,
+)

@@ -13,9 +13,13 @@ written slots shown new a b is long swapped = rw (← is) (refill-same shown new
 pub invariant_of-self : goal.invariant_of-self
 invariant_of-self g c =
     AreFilled-from _ _ (written _ _ _ _ _ c.as_mut_slice.ensures.value c.swap.ensures.len
-          c.swap.ensures.after ∙ swap_filled _ c.self.invariant c.args.a c.args.b)
+    c.swap.ensures.after ∙ swap_filled _ c.self.invariant c.args.a c.args.b)
 
 pub returns : goal.returns
 returns g c =
-    rw (written _ _ _ _ _ c.as_mut_slice.ensures.value c.swap.ensures.len c.swap.ensures.after,
-          swap_filled _ c.self.invariant c.args.a c.args.b, items_of-map, c.self.view_is) refl
+    rw (
+      written _ _ _ _ _ c.as_mut_slice.ensures.value c.swap.ensures.len c.swap.ensures.after,
+      swap_filled _ c.self.invariant c.args.a c.args.b,
+      items_of-map,
+      c.self.view_is,
+    ) refl

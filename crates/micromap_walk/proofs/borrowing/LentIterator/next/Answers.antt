@@ -9,7 +9,7 @@ use Rattle.micromap_walk.proofs.borrowing.LentIterator.next.Goals as goal
 pub returns-in_err-slot-clause-steps : goal.returns-in_err-slot-clause-steps
 returns-in_err-slot-clause-steps g c =
     let none : c.args.self.now ≡ [] = sym c.self.view_is
-        ∙ ap items_of (nil_from_length _ c.in_err-slot.ensures.steps.0) in
+    ∙ ap items_of (nil_from_length _ c.in_err-slot.ensures.steps.0) in
     rw (c.from_residual.ensures, c.in_err-slot.ensures.steps.1) (none, c.self.view_is ∙ none)
 
 pub returns-in_err-slot-clause-goes : goal.returns-in_err-slot-clause-goes

@@ -5,7 +5,7 @@ use Rattle.micromap_walk.proofs.owning.IntoIterIterator.next.Goals as goal
 pub returns-then-index-len-clause-steps : goal.returns-then-index-len-clause-steps
 returns-then-index-len-clause-steps g c =
     let none : length c.self.inside.keys.items ≤ c.self.inside.given =
-        omega (arith, c.len.ensures.value) in
+    omega (arith, c.len.ensures.value) in
     rw (← c.self.view_is, drop_of_length-le c.self.inside.keys.items none) (refl, refl)
 
 pub returns-then-index-len-clause-goes : goal.returns-then-index-len-clause-goes

@@ -12,8 +12,8 @@ insert-requires g c =
     let eq = g.T.PartialEq.eq in
     let item = c.index-items-index.result in
     let fit : item_fits eq g.row.N l.set (get_or c.args.items l.index item) ≡ true =
-        array_fits_at g.met.T.Eq.laws (items_keyed eq g.row.N) c.args.items (search rules) l.index
-        item l.set c.loop-index-test.true l.invariant in
+    array_fits_at g.met.T.Eq.laws (items_keyed eq g.row.N) c.args.items (search rules) l.index
+    item l.set c.loop-index-test.true l.invariant in
     search rules
 
 pub loop-index-preserved : goal.loop-index-preserved
@@ -21,8 +21,8 @@ loop-index-preserved g c =
     let l = c.loop-index in
     let eq = g.T.PartialEq.eq in
     put_at (item_fits eq g.row.N)
-        (put_item eq) [] c.args.items l.index c.index-items-index.result l.set (search rules)
-        l.invariant _ c.insert.ensures.items
+    (put_item eq) [] c.args.items l.index c.index-items-index.result l.set (search rules)
+    l.invariant _ c.insert.ensures.items
 
 pub returns : goal.returns
 returns g c =
@@ -30,8 +30,15 @@ returns g c =
     let laws = g.met.T.Eq.laws in
     let keyed = items_keyed eq g.row.N in
     let made = c.loop-index.invariant
-        ∙ ap (distinct eq) (take_all c.loop-index.index c.args.items (search rules)) in
-    let fit = array_fits laws keyed c.args.items (search rules) in
-    (made, fit, subst (IsItems eq g.row.N) (sym made)
-          (record { unique = (keys-built laws keyed c.args.items).0; bounded =
-              bounded-built laws keyed c.args.items fit; lawful = lawful eq laws }))
+    ∙ ap (distinct eq) (take_all c.loop-index.index c.args.items (search rules)) in
+    let fit = array_fits laws keyed c.args.items (search rules) in (
+      made,
+      fit,
+      subst (IsItems eq g.row.N) (sym made)
+          (record {
+            unique = (keys-built laws keyed c.args.items).0;
+            bounded =
+                bounded-built laws keyed c.args.items fit;
+            lawful = lawful eq laws;
+          }),
+    )

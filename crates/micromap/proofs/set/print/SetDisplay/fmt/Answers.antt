@@ -10,11 +10,11 @@ loop-item-init g c =
     let spec = formatter_spec c.args.f.now in
     let opens = c.in_ok-write_str.ensures in
     let plain = printing_begins (DisplaysOnOk took) g.T.Display.output (plain_append took)
-        c.args.f.now c.write_str.new.self c.args.self.now opens.writes in
+    c.args.f.now c.write_str.new.self c.args.self.now opens.writes in
     let styled = printing_begins (WritesAs took c.args.f.now)
-        (λ x. g.T.Display.styled_output x spec)
-        (styled_append took c.args.f.now) c.args.f.now c.write_str.new.self c.args.self.now
-        (λ same. opens.styled) in
+    (λ x. g.T.Display.styled_output x spec)
+    (styled_append took c.args.f.now) c.args.f.now c.write_str.new.self c.args.self.now
+    (λ same. opens.styled) in
     record {
       utf8 = search rules;
       plain = rw c.into_iter-item-iterator.ensures.into_iter_gives.0 plain;
@@ -30,11 +30,11 @@ loop-item-preserved g c =
     let between = c.write_str-in-loop-item.new.self in
     let leads = c.in_ok-write_str-2.ensures in
     let plain = plain_append took l.f between c.fmt.new.f (Ok tt) (Some l.lead.now)
-        (g.T.Display.output x) leads.writes c.in_ok-fmt.ensures.writes in
+    (g.T.Display.output x) leads.writes c.in_ok-fmt.ensures.writes in
     let styled = styled_append took c.args.f.now l.f between c.fmt.new.f (Ok tt) (Some l.lead.now)
-        (g.T.Display.styled_output x spec) (λ same. leads.styled)
+    (g.T.Display.styled_output x spec) (λ same. leads.styled)
     (with_options took c.args.f.now between c.fmt.new.f (Ok tt) (g.T.Display.styled_output x)
-          c.in_ok-fmt.ensures.styled) in
+    c.in_ok-fmt.ensures.styled) in
     record {
       utf8 = search rules;
       plain = printing_more (DisplaysOnOk took) g.T.Display.output (plain_append took) _ _ _ _ _ _ _
@@ -47,7 +47,7 @@ loop-item-preserved g c =
 pub returns-clause-writes : goal.returns-clause-writes
 returns-clause-writes g c =
     printing_ends (DisplaysOnOk g.W.Write.write_str_gives) g.T.Display.output _ _ _ _ _ _ _
-        c.loop-item.invariant.plain (search rules) c.write_str-2.ensures.writes
+    c.loop-item.invariant.plain (search rules) c.write_str-2.ensures.writes
 
 pub returns-clause-styled : goal.returns-clause-styled
 returns-clause-styled g c =
@@ -55,25 +55,34 @@ returns-clause-styled g c =
     let spec = formatter_spec c.args.f.now in
     styled_from took c.args.f.now _ _ _
     (printing_ends (WritesAs took c.args.f.now) (λ x. g.T.Display.styled_output x spec) _ _ _ _ _ _
-          _ c.loop-item.invariant.styled (search rules) (λ same. c.write_str-2.ensures.styled))
+    _ c.loop-item.invariant.styled (search rules) (λ same. c.write_str-2.ensures.styled))
 
 -- a failed call says nothing of a text
 pub returns-in_err-write_str : goal.returns-in_err-write_str
 returns-in_err-write_str g c =
-    record { writes = failed_plain g.W.Write.write_str_gives c.args.f.now _ _ _
-      c.from_residual.ensures.0; styled =
-      failed_styled g.W.Write.write_str_gives c.args.f.now _ _ _ c.from_residual.ensures.0 }
+    record {
+      writes = failed_plain g.W.Write.write_str_gives c.args.f.now _ _ _
+          c.from_residual.ensures.0;
+      styled =
+          failed_styled g.W.Write.write_str_gives c.args.f.now _ _ _ c.from_residual.ensures.0;
+    }
 
 pub returns-in_err-fmt : goal.returns-in_err-fmt
-returns-in_err-fmt g c = record { writes =
+returns-in_err-fmt g c = record {
+  writes =
       failed_plain g.W.Write.write_str_gives c.args.f.now _ _ _
-      c.from_residual-in_err-fmt.ensures.0; styled =
+      c.from_residual-in_err-fmt.ensures.0;
+  styled =
       failed_styled g.W.Write.write_str_gives c.args.f.now _ _ _
-      c.from_residual-in_err-fmt.ensures.0 }
+      c.from_residual-in_err-fmt.ensures.0;
+}
 
 pub returns-in_err-write_str-2 : goal.returns-in_err-write_str-2
 returns-in_err-write_str-2 g c =
-    record { writes = failed_plain g.W.Write.write_str_gives c.args.f.now _ _ _
-      c.from_residual-in_err-write_str-2.ensures.0; styled =
-      failed_styled g.W.Write.write_str_gives c.args.f.now _ _ _
-      c.from_residual-in_err-write_str-2.ensures.0 }
+    record {
+      writes = failed_plain g.W.Write.write_str_gives c.args.f.now _ _ _
+          c.from_residual-in_err-write_str-2.ensures.0;
+      styled =
+          failed_styled g.W.Write.write_str_gives c.args.f.now _ _ _
+          c.from_residual-in_err-write_str-2.ensures.0;
+    }

@@ -13,10 +13,17 @@ returns-in-Occupied g c =
     let v = c.f.new.arg2 in
     let here = slice_get_some o.map.now o.index (rw c.in-Occupied.is at c.requires.sound) in
     let written = occupied_written g.K.PartialEq.eq v (with_entry_value o v).map o here.0 here.1
-        refl refl in
+    refl refl in
     let did : MayWrite g.F.FnOnce c.args.f c.get_mut.result.now v
-    = record { lent = c.get_mut.result; result = c.f.result; left = _; before = refl; met =
-          c.f.ensures; after = refl } in
+    = record {
+      lent = c.get_mut.result;
+      result = c.f.result;
+      left = _;
+      before = refl;
+      met =
+          c.f.ensures;
+      after = refl;
+    } in
     rw c.in-Occupied.is (record {
       modified = record {
         same_map = written.same_map;

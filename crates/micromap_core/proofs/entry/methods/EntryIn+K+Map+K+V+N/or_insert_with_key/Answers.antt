@@ -7,16 +7,26 @@ use Rattle.micromap_core.proofs.entry.methods.EntryIn+K+Map+K+V+N.or_insert_with
 pub returns-in-Vacant : goal.returns-in-Vacant
 returns-in-Vacant g c =
     let of-held : AnswersOfKey g.F.FnOnce c.args.default (Some c.in-Vacant.entry.key)
-        c.insert.result.now =
-    rw c.insert.ensures.answer (_, c.default-value.ensures, sym (same_Some _ _ c.key.ensures)) in
-    ((refl, λ w. rw c.in-Vacant.is refl),
-          record { writes_back = tt; answer = rw c.in-Vacant.is of-held; content =
-            λ w. rw c.in-Vacant.is (c.insert.ensures.content w) })
+    c.insert.result.now =
+    rw c.insert.ensures.answer (_, c.default-value.ensures, sym (same_Some _ _ c.key.ensures)) in (
+      (refl, λ w. rw c.in-Vacant.is refl),
+      record {
+        writes_back = tt;
+        answer = rw c.in-Vacant.is of-held;
+        content =
+            λ w. rw c.in-Vacant.is (c.insert.ensures.content w);
+      },
+    )
 
 -- the stored value is lent
 pub returns-in-Occupied : goal.returns-in-Occupied
-returns-in-Occupied g c =
-    ((refl, λ w. rw c.in-Occupied.is refl),
-          record { writes_back = tt; answer =
-            rw (c.in-Occupied.is, c.into_mut.ensures.answer) refl; content =
-            λ w. rw c.in-Occupied.is (c.into_mut.ensures.content w) })
+returns-in-Occupied g c = (
+  (refl, λ w. rw c.in-Occupied.is refl),
+  record {
+    writes_back = tt;
+    answer =
+        rw (c.in-Occupied.is, c.into_mut.ensures.answer) refl;
+    content =
+        λ w. rw c.in-Occupied.is (c.into_mut.ensures.content w);
+  },
+)

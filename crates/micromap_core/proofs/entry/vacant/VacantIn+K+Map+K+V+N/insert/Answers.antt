@@ -12,8 +12,14 @@ returns g c =
     let self = c.args.self in
     let new = record self.map { now = c.push_pair.new.self } in
     let written = vacant_written g.K.PartialEq.eq c.args.value new self c.len-index.result
-        c.len-index.ensures.answer refl c.push_pair.ensures.pairs in
-    ((refl, written.puts), record { writes_back = tt; answer =
-            same_Some _ _ (sym c.value_at.ensures.value ∙ written.value); content =
+    c.len-index.ensures.answer refl c.push_pair.ensures.pairs in (
+      (refl, written.puts),
+      record {
+        writes_back = tt;
+        answer =
+            same_Some _ _ (sym c.value_at.ensures.value ∙ written.value);
+        content =
             λ w. subst (IsContent g.K.PartialEq.eq g.row.N) (written.puts w)
-            (c.value_at.ensures.content w) })
+            (c.value_at.ensures.content w);
+      },
+    )

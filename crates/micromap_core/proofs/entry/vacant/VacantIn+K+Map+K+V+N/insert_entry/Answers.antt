@@ -5,4 +5,4 @@ use Rattle.micromap_core.proofs.entry.vacant.VacantIn+K+Map+K+V+N.insert_entry.G
 pub returns-clause-written : goal.returns-clause-written
 returns-clause-written g c =
     vacant_written g.K.PartialEq.eq c.args.value _ c.args.self c.len-index.result
-        c.len-index.ensures.answer refl c.push_pair.ensures.pairs
+    c.len-index.ensures.answer refl c.push_pair.ensures.pairs

@@ -7,6 +7,12 @@ into_capacity-requires g c =
     (search rules, omega (arith, as_long _ _ _ c.self.invariant c.self.view_is, c.requires))
 
 pub into_capacity-requires-2 : goal.into_capacity-requires-2
-into_capacity-requires-2 g c =
-    (search rules, omega (arith, as_long _ _ _ c.self.invariant c.self.view_is, c.requires,
-            c.self.invariant))
+into_capacity-requires-2 g c = (
+  search rules,
+  omega (
+    arith,
+    as_long _ _ _ c.self.invariant c.self.view_is,
+    c.requires,
+    c.self.invariant,
+  ),
+)

@@ -6,8 +6,8 @@ pub returns : goal.returns
 returns g c = record {
   old = rw (← c.self.view_is)
       (get_zip _ _ c.args.index _ _ (c.item_at_mut.ensures.answer
-          ∙ ap Some (sym c.replace.ensures.value)) (c.item_at_mut-2.ensures.answer
-          ∙ ap Some (sym c.replace-2.ensures.value)));
+      ∙ ap Some (sym c.replace.ensures.value)) (c.item_at_mut-2.ensures.answer
+      ∙ ap Some (sym c.replace-2.ensures.value)));
   pairs = rw (c.replace.ensures.after, c.replace-2.ensures.after, ← c.self.view_is)
       (set_zip _ _ c.args.index c.args.key c.args.value c.self.invariant);
 }

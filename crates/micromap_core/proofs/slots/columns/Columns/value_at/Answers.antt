@@ -5,7 +5,10 @@ use Rattle.micromap_core.proofs.slots.columns.Columns.value_at.Goals as goal
 pub returns : goal.returns
 returns g c = (
   (refl, λ w. rw (← c.self.view_is) (set_value_zip _ _ c.args.index w c.self.invariant)),
-  record { writes_back = tt; value =
+  record {
+    writes_back = tt;
+    value =
         rw (← c.self.view_is) (value_zip _ _ c.args.index c.self.invariant
-          ∙ c.item_at_mut.ensures.answer) },
+        ∙ c.item_at_mut.ensures.answer);
+  },
 )

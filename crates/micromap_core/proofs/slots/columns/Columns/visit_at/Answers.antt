@@ -6,13 +6,13 @@ use Rattle.micromap_core.proofs.slots.columns.Columns.visit_at.Goals as goal
 pub visit-requires : goal.visit-requires
 visit-requires g c =
     let here : slice_get c.args.self.now c.args.index
-        ≡ Some (c.item_at.result.now, c.item_at_mut.result.now) =
-        rw (← c.self.view_is) (get_zip _ _ c.args.index _ _ c.item_at.ensures
-          c.item_at_mut.ensures.answer) in
+    ≡ Some (c.item_at.result.now, c.item_at_mut.result.now) =
+    rw (← c.self.view_is) (get_zip _ _ c.args.index _ _ c.item_at.ensures
+    c.item_at_mut.ensures.answer) in
     let callable : AcceptsPair g.F.FnMut c.args.visit.now c.item_at.result.now
-        c.item_at_mut.result.now =
-        subst (λ o. IfSome o (λ p. AcceptsPair g.F.FnMut c.args.visit.now p.0 p.1)) here
-        c.requires.callable in
+    c.item_at_mut.result.now =
+    subst (λ o. IfSome o (λ p. AcceptsPair g.F.FnMut c.args.visit.now p.0 p.1)) here
+    c.requires.callable in
     callable c.item_at.result refl c.item_at_mut.result refl
 
 pub returns : goal.returns
@@ -22,8 +22,12 @@ returns g c =
       pair = (c.item_at.result.now, c.item_at_mut.result.now);
       here = rw (← c.self.view_is) here;
       value = c.visit.new.arg3;
-      called = record { key = _; shows = refl; called =
-            record { value = _; shows = refl; left = _; called = c.visit.ensures; leaves = refl } };
+      called = record {
+        key = _;
+        shows = refl;
+        called =
+            record { value = _; shows = refl; left = _; called = c.visit.ensures; leaves = refl };
+      };
       pairs = rw (← c.self.view_is)
           (set_value_zip _ _ c.args.index c.visit.new.arg3 c.self.invariant ∙ rw here refl);
     }

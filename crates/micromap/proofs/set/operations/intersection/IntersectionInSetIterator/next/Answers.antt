@@ -11,7 +11,7 @@ pub returns-then-contains-clause-steps : goal.returns-then-contains-clause-steps
 unfolding intersection_left intersection_on
 returns-then-contains-clause-steps g c =
     rw (← c.self.view_is) (walk_gives _ _ c.loop-x.invariant {x =
-        c.in-Some.x} c.in-Some.ensures.steps (sym c.contains.ensures ∙ c.if-contains.true))
+    c.in-Some.x} c.in-Some.ensures.steps (sym c.contains.ensures ∙ c.if-contains.true))
 
 pub returns-then-contains-clause-goes : goal.returns-then-contains-clause-goes
 returns-then-contains-clause-goes g c =
@@ -26,4 +26,4 @@ pub returns-clause-steps : goal.returns-clause-steps
 unfolding intersection_left intersection_on
 returns-clause-steps g c =
     rw (← c.self.view_is) (walk_ends _ _ c.loop-x.invariant c.in_default.ensures.steps.0
-      c.in_default.ensures.steps.1)
+    c.in_default.ensures.steps.1)

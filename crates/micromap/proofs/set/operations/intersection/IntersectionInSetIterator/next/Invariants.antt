@@ -7,8 +7,8 @@ use Rattle.micromap.proofs.set.operations.intersection.IntersectionInSetIterator
 abbrev pub invariant-loop-x : goal.invariant-loop-x
 invariant-loop-x g l =
     MeetsNone g.T.PartialEq.eq (is_member g.T.PartialEq.eq)
-        (record { rest = l.initial.self-inside.rest; other = l.initial.self-inside.other.now })
-        (record { rest = l.self-inside.rest; other = l.self-inside.other.now })
+    (record { rest = l.initial.self-inside.rest; other = l.initial.self-inside.other.now })
+    (record { rest = l.self-inside.rest; other = l.self-inside.other.now })
 
 abbrev pub decreases-loop-x : goal.decreases-loop-x
 decreases-loop-x g l = length l.self-inside.rest
