@@ -100,7 +100,7 @@ make a map with `String` keys of a list, as far as they fit | results::spelled |
 count how often each word comes | | gathered::counted, words::counted
 make a map of names and amounts | | gathered::amounts_of, words::numbers_of
 make a set of names | | spelled::set_of
-keep the pairs whose name another map lacks | uses_tests/changed::keep_missing, uses_tests/changed::keep_missing_any |
+keep the pairs whose name another map lacks | uses_tests/changed::keep_missing |
 find the first name at which two maps differ | uses_tests/words::first_changed |
 add up the values, if the sum fits | texts::total | texts::total
 ask whether a key passes, or count the values that pass | texts::any_long, texts::count_large |

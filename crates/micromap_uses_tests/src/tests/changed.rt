@@ -13,14 +13,7 @@ use super::built::add_all;
 use micromap::Map;
 
 // Keeps the pairs whose name another map lacks.
-fn keep_missing(settings: &mut Map<String, u8, 16>, other: &Map<String, u8, 8>)
-    ensures { key_texts settings.new ≡ filter (λ p. not (has bytes_eq (key_texts other.now) p.0)) (key_texts settings.old) }
-{
-    settings.retain(|name, _| !other.contains_key(name));
-}
-
-// The same of maps of any capacity.
-fn keep_missing_any<const N: usize, const M: usize>(
+fn keep_missing<const N: usize, const M: usize>(
     settings: &mut Map<String, u8, N>,
     other: &Map<String, u8, M>,
 )
