@@ -1,13 +1,12 @@
-//! Building a set from an array or an iterator, extending it, and taking the items of an iterator out of it. Of equal
-//! items the first is stored. Items are in the order in which they first came.
+//! Building a set from an array or an iterator, and extending it. Of equal items the first is stored. Items are in the
+//! order in which they first came.
 ghost use Rattle.std.specs.Prelude.{◌≡◌, ◌<◌, ◌≤◌, List, [], fold, length, Option, Some, IfSome, IfOk, OnOk, IfErr, OnErr, IsTrue, ⊤};
 ghost use Rattle.std.specs.Bool.{then_some};
-ghost use Rattle.std.specs.Borrow.{Bor};
 ghost use Rattle.std.specs.Iterator.{Drains, IsFinite, UpTo};
 ghost use Rattle.std.specs.Set.{distinct_count};
 ghost use Rattle.micromap.specs.Build.{most_items, AllItems, ItemsUpTo};
 ghost use Rattle.micromap.specs.Extend.{all_items_fit, distinct, put_item_or_refuse, ItemMisfitIn, PutsAllItems, PutsItemsBefore};
-ghost use Rattle.micromap.specs.Items.{AreItems, IsItems, put_item_if_fits, take_item};
+ghost use Rattle.micromap.specs.Items.{AreItems, IsItems, put_item_if_fits};
 
 use super::Set;
 use crate::Overfull;
@@ -164,30 +163,6 @@ impl<T: Eq + Drop, const N: usize> Set<T, N> {
         ensures content { AreItems T.eq N set result }
     {
         set.put_fitting(items);
-        set
-    }
-
-    /// Returns the set without the items of an iterator, each removed as `remove` does.
-    ///
-    /// Requires that the iterator ends. An item that is no member changes nothing. Makes one scan for each item.
-    ///
-    /// ```
-    /// let left = Set::without_all([2, 3].iter(), Set::from([1, 2, 3, 4]));
-    /// assert!(rt; left.iter().eq(&[1, 4]));
-    /// ```
-    pub fn without_all<'a, I: Iterator<Item = &'a T>>(items: I, mut set: Self) -> Self
-    where
-        T: 'a,
-        requires can { I.can_next items }
-        requires ends { IsFinite (I.remaining items) }
-        ensures ran { (xs : List (Bor T)) × (⊤ → Drains I.next_gives items xs)
-            × (result ≡ fold (λ kept x. take_item T.eq kept x.now) set xs) }
-        ensures content { AreItems T.eq N set result }
-    {
-        let _content = set.len();
-        for x in items {
-            set.remove(x);
-        }
         set
     }
 }

@@ -1,9 +1,7 @@
 //! Removing a pair.
 #![tactic(auto, using(crate::proofs::Opened::opened_map))]
 
-ghost use Rattle.std.specs.Prelude.{◌≡◌, List, drop, fold, slice_get, ⊤};
-ghost use Rattle.std.specs.Borrow.{Bor};
-ghost use Rattle.std.specs.Iterator.{Drains, IsFinite};
+ghost use Rattle.std.specs.Prelude.{◌≡◌, drop, slice_get};
 ghost use Rattle.micromap_core.specs.Pairs.{AreContents, at, pair, take_out};
 
 use super::Map;
@@ -50,23 +48,5 @@ impl<K: Eq + Drop, V: Drop, const N: usize> Map<K, V, N> {
             0 => None,
             _ => Some(self.take_at(0)),
         }
-    }
-    /// Returns the map without the pairs of an iterator's keys, each removed as `remove` does.
-    ///
-    /// Requires that the iterator ends. A key that is missing changes nothing. Makes one scan for each key.
-    pub fn without_keys<'a, I: Iterator<Item = &'a K>>(keys: I, mut map: Self) -> Self
-    where
-        K: 'a,
-        requires can { I.can_next keys }
-        requires ends { IsFinite (I.remaining keys) }
-        ensures ran { (xs : List (Bor K)) × (⊤ → Drains I.next_gives keys xs)
-            × (result ≡ fold (λ pairs x. take_out K.eq pairs x.now) map xs) }
-        ensures content { AreContents K.eq N map result }
-    {
-        let _content = map.len();
-        for key in keys {
-            map.remove(key);
-        }
-        map
     }
 }
