@@ -108,7 +108,7 @@ fn items_that_fit_make_a_map(rt: HostRuntime) {
 fn a_map_goes_on_with_items(rt: HostRuntime) {
     let start: Map<u8, char, 2> = Map::of_fitting([(1, 'a')].into_iter());
     let map = Map::with_fitting([(1, 'b'), (2, 'c'), (3, 'd')].into_iter(), start);
-    assert!(rt; map.iter().eq([(&1, &'b'), (&2, &'c')]));
+    assert!(rt; map.copied().into_iter().eq([(1, 'b'), (2, 'c')]));
     let map = Map::with_all([(2, 'e')].into_iter(), map);
     let map = map.and_then(|map| Map::with_all([(3, 'f'), (1, 'g')].into_iter(), map));
     assert!(rt; map.is_none());
