@@ -27,7 +27,7 @@ count the members of an operation on two sets | reads::count_union, reads::count
 add up the values, if the sum fits | reads::total | map_tests/walks::total
 add up the values of a map by value | reads::total_of |
 count the pairs of a map by value that pass | reads::count_of |
-add up the values, the pairs or the items in a wider type, however many there are | sums::total_wide, sums::total_of_pairs, sums::total_of_items |
+add up the values, the pairs or the items in a wider type, by a bound on the number of values, of pairs or of items | sums::total_wide, sums::total_of_pairs, sums::total_of_items |
 add up the members of an operation on two sets, if the sum fits | | set_tests/operations::total
 find the greatest value | reads::greatest |
 find the least key | reads::least_key |
