@@ -11,3 +11,6 @@ pub mod OperationLaws
 pub mod OperationSteps
 pub mod RetainItems
 pub mod Rules
+pub use Rattle.micromap_core.proofs.ClosureLemmas
+pub use Rattle.micromap_core.proofs.DistinctLemmas
+pub use Rattle.micromap_core.proofs.FairLemmas

@@ -8,11 +8,8 @@ pub mod SetLoopLaws
 pub mod SetTextLoops
 pub mod SetTextViews
 pub use Rattle.micromap_core.proofs.laws.ClosureLaws
-pub use Rattle.micromap_core.proofs.ClosureLemmas
 pub use Rattle.micromap_core.proofs.laws.ComparisonLaws
 pub use Rattle.micromap_core.proofs.laws.CountLaws
-pub use Rattle.micromap_core.proofs.DistinctLemmas
-pub use Rattle.micromap_core.proofs.FairLemmas
 pub use Rattle.micromap_core.proofs.laws.Equalities
 pub use Rattle.micromap_core.proofs.laws.Laws
 pub use Rattle.micromap_core.proofs.laws.LoopLaws
