@@ -16,13 +16,13 @@ pub fn can_scale(amounts: &Map<u8, u32, 16>, factor: u32) -> bool
 }
 
 /// Drops the pairs whose values are at most a limit, and returns how many.
-pub fn expire<const N: usize>(sessions: &mut Map<u8, u32, N>, now: u32) -> usize
-    ensures pairs { sessions.new ≡ filter (λ p. nat_lt now p.1) sessions.old }
-    ensures answer { result ≡ length sessions.old - length sessions.new }
+pub fn expire<const N: usize>(leases: &mut Map<u8, u32, N>, now: u32) -> usize
+    ensures pairs { leases.new ≡ filter (λ p. nat_lt now p.1) leases.old }
+    ensures answer { result ≡ length leases.old - length leases.new }
 {
-    let before = sessions.len();
-    sessions.retain(|_, until| *until > now);
-    before - sessions.len()
+    let before = leases.len();
+    leases.retain(|_, until| *until > now);
+    before - leases.len()
 }
 
 /// Takes an item out of each set of a map.

@@ -9,34 +9,34 @@ ghost use Rattle.micromap.specs.Pairs.{at, has, pair};
 
 use micromap::{Map, Set};
 
-// Gives a session another number, which is new: there is no pair where `get` finds nothing.
-fn reissue<const N: usize>(sessions: &mut Map<u8, u8, N>, from: u8, to: u8) -> bool
-    ensures { IsTrue result → pair nat_eq sessions.old to ≡ None }
+// Gives a lease another number, which is new: there is no pair where `get` finds nothing.
+fn reissue<const N: usize>(leases: &mut Map<u8, u8, N>, from: u8, to: u8) -> bool
+    ensures { IsTrue result → pair nat_eq leases.old to ≡ None }
 {
-    if sessions.get(&to).is_some() {
+    if leases.get(&to).is_some() {
         return false;
     }
-    match sessions.remove(&from) {
+    match leases.remove(&from) {
         Some(value) => {
-            sessions.insert(to, value);
+            leases.insert(to, value);
             true
         }
         None => false,
     }
 }
 
-// Whether a session is there, by its pair.
-fn is_open<const N: usize>(sessions: &Map<u8, u8, N>, number: u8) -> bool
-    ensures { result ≡ has nat_eq sessions.now number }
+// Whether a lease is there, by its pair.
+fn is_open<const N: usize>(leases: &Map<u8, u8, N>, number: u8) -> bool
+    ensures { result ≡ has nat_eq leases.now number }
 {
-    sessions.get_key_value(&number).is_some()
+    leases.get_key_value(&number).is_some()
 }
 
 // Whether two numbers are equal. Then both are there, or neither is.
-fn are_one<const N: usize>(sessions: &Map<u8, u8, N>, one: u8, other: u8) -> bool
-    ensures { IsTrue result → has nat_eq sessions.now one ≡ has nat_eq sessions.now other }
+fn are_one<const N: usize>(leases: &Map<u8, u8, N>, one: u8, other: u8) -> bool
+    ensures { IsTrue result → has nat_eq leases.now one ≡ has nat_eq leases.now other }
 {
-    let _content = sessions.len();
+    let _content = leases.len();
     one == other
 }
 
@@ -99,12 +99,12 @@ mod tests {
     use super::*;
 
     #[test]
-    fn a_session_gets_a_new_number(rt: HostRuntime) {
-        let mut sessions = Map::from([(1, 10), (2, 20)]);
-        assert!(rt; reissue(&mut sessions, 1, 3));
-        assert!(rt; !reissue(&mut sessions, 2, 3));
-        assert!(rt; is_open(&sessions, 3) && !is_open(&sessions, 1));
-        assert!(rt; are_one(&sessions, 2, 2));
+    fn a_lease_gets_a_new_number(rt: HostRuntime) {
+        let mut leases = Map::from([(1, 10), (2, 20)]);
+        assert!(rt; reissue(&mut leases, 1, 3));
+        assert!(rt; !reissue(&mut leases, 2, 3));
+        assert!(rt; is_open(&leases, 3) && !is_open(&leases, 1));
+        assert!(rt; are_one(&leases, 2, 2));
     }
 
     #[test]
