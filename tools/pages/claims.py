@@ -38,7 +38,7 @@ WITHOUT = "Clauses without an edit"
 WITHOUT_HEAD = """
 These are proved as all others are. `rt plant` tries bodies of its own on a function: such that give up, as `None` does, \
 and such that call the right one with an argument, the result or a field changed. A body is tried against all clauses of \
-the function at once. So what came of it stands here only of calls of which no clause has an edit.
+the function at once. So what came of it stands here only of calls of which no clause of `ensures` has an edit.
 
 | Call | Clauses | Tried |
 |---|---|---|"""

@@ -34,8 +34,8 @@ def laws_of(crate):
     return found
 
 
-def premises(statement):
-    """The parts of a statement between its arrows, without those that only name its arguments."""
+def parts_of(statement):
+    """The parts of a statement between its outer arrows."""
     depth, parts = 0, [""]
     for it in re.split(r"([(){}]| → )", statement):
         depth += (it in ("(", "{")) - (it in (")", "}"))
@@ -43,8 +43,14 @@ def premises(statement):
             parts.append("")
         else:
             parts[-1] += it
+    return parts
+
+
+def premises(statement):
+    """The parts of a statement between its arrows, without those that only name its arguments."""
+    *parts, last = parts_of(statement)
     is_named = re.compile(r"(?:[({][\w' ]+ : .*[)}] ?)+")
-    return [*(it for it in parts[:-1] if not is_named.fullmatch(it)), parts[-1]]
+    return [*(it for it in parts if not is_named.fullmatch(it)), last]
 
 
 def shown(name, statement):

@@ -1,7 +1,8 @@
-"""The index of PROVING.md by what one wants: proved chains, calls and loops, with what proves each."""
+"""The index of PROVING.md by what one wants: proved chains, calls and loops. LOOPS.md has what proves each."""
 import glob
 import os
 import re
+import textwrap
 
 from pages.examples import tactic
 from pages.sources import anchor, read
@@ -9,6 +10,7 @@ from pages.sources import anchor, read
 # A group begins with `#`. A row has what one wants, the chains and calls that do it, and the loops. Each is named by its
 # crate without `micromap_`, its file and its name. A crate that isn't named is CHAINS, or LOOPS in the last column.
 CHAINS, LOOPS = "micromap_chains", "micromap_uses_tests"
+LOOPS_PAGE = "crates/micromap/LOOPS.md"
 INDEX = """
 # Reading a map or a set
 ask whether a value or an item passes a test | reads::any_value, reads::any_item_above |
@@ -24,12 +26,13 @@ count the items of a list, or of a set, that are in a set | members::count_store
 ask whether the values are those of a list, in order | reads::has_values |
 count the values that are their own index | reads::count_at_index |
 count the members of an operation on two sets | reads::count_union, reads::count_common, set_tests/operations::missing |
-add up the values, if the sum fits | reads::total | map_tests/walks::total
+add up the values, if the sum fits; with texts as keys, see the texts below | reads::total | map_tests/walks::total
 add up the values of a map by value | reads::total_of |
 count the pairs of a map by value that pass | reads::count_of |
 add up the values, the pairs or the items in a wider type, by a bound on the number of values, of pairs or of items | sums::total_wide, sums::total_of_pairs, sums::total_of_items |
 add up the members of an operation on two sets, if the sum fits | | set_tests/operations::total
 find the greatest value | reads::greatest |
+find the key with the greatest value, and that value | uses/votes::winner |
 find the least key | reads::least_key |
 find the greatest key of the pairs that pass | reads::greatest_key_above |
 find the greatest member of an operation on two sets | folds::greatest_alone |
@@ -54,15 +57,17 @@ list the keys in a `Vec`, all or those whose value passes | reads::list_of_keys,
 list the members of an operation in a `Vec`, all or those that pass | reads::list_of_union, set_tests/operations::evens |
 # Building from a list
 make a map of pairs, of two lists, of a `Vec` | builds::map_of_list, builds::map_of_lists, builds::map_of_vec |
-make a set of items | builds::set_of_list | counts::distinct_items
+make a set of items | builds::set_of_list |
+make a set of a list, or refuse exactly if it has too many different items | | counts::distinct_items
 make a map, or a set, of any iterator | uses_tests/counts::collected_pairs, uses_tests/counts::collected_items |
-know when a map, or a set, of a list is refused | uses_tests/listed::pairs_of, uses_tests/listed::items_of |
+know exactly when a map, or a set, of a list is refused | answered::map_of_list, answered::set_of_list |
+know that there are too many items where a map, or a set, of a list is refused | uses_tests/listed::pairs_of, uses_tests/listed::items_of |
 make a map, or a set, of what a function makes of each, all or none | wholes::halves, wholes::set_of_all_halves |
 make a map of what a function makes of each, as far as they fit, or with each one's index | wholes::first_halves, folds::numbered |
 make a map, or a set, of what a function makes of each, or know that there are too many | builds::halves_or_none, builds::distinct_halves |
-know when a map, or a set, of what a function makes of each is refused | answered::map_of_mapped, answered::set_of_list |
+know exactly when a map of what a function makes of each is refused | answered::map_of_mapped |
 make a set of what a function makes of each | builds::set_of_halves |
-count how often each item comes | folds::counted | uses/votes::tally
+count how often each item comes; in a loop, or know exactly that there are too many different ones | folds::counted | uses/votes::tally
 count in numbers that may overflow | | merged::count_numbers
 add each amount to its key's total, in a map that is there, or in a new one by entry | | merged::add_amounts, merged::totals_of
 add the amounts of a `Vec` by value, or of any iterator | | merged::add_vector, merged::add_all
@@ -82,7 +87,7 @@ make a map with other values | copies::halved | built::doubled
 make a map of a list, or of two lists of keys and values, as far as they fit | folds::halves_of_list, folds::zipped |
 make a map with key and value exchanged, as far as they fit | folds::turned |
 make a map with other values of the pairs that pass, all or none; as far as they fit | wholes::low_halves, folds::halves |
-make a map of the pairs that another map lacks | copies::lacking, copies::lacking_any |
+copy into a new map the pairs whose keys another map lacks (`lacking_any` at any capacity), or, without the `!` in the closure, has | copies::lacking, copies::lacking_any |
 make a map of the pairs of two maps | builds::map_of_maps |
 make a map of the pairs that another map lacks, or has with another value | uses_tests/changed::changed |
 copy a map whose values are cloned | | built::copied
@@ -97,12 +102,12 @@ make a set of the items of several sets, as far as they fit | folds::gathered |
 # Texts as keys or items
 make a map with `&str` keys of a list, as far as they fit | folds::named |
 make a map with `String` keys of a list, as far as they fit | results::spelled |
-count how often each word comes | | gathered::counted, words::counted
+count how often each word comes: in `gathered.rt` a `String`, in `words.rt` a `&str` | | gathered::counted, words::counted
 make a map of names and amounts | | gathered::amounts_of, words::numbers_of
 make a set of names | | spelled::set_of
 keep the pairs whose name another map lacks | uses_tests/changed::keep_missing |
 find the first name at which two maps differ | uses_tests/words::first_changed |
-add up the values, if the sum fits | texts::total | texts::total
+add up the values, if the sum fits: of `&str` keys; in a loop, of `String` keys | texts::total | texts::total
 ask whether a key passes, or count the values that pass | texts::any_long, texts::count_large |
 find how long the longest key is, or the longest `&str` among the keys | texts::longest, texts::longest_of_strings | words::longest
 count the items that pass | | tallied::longer
@@ -113,7 +118,7 @@ make a map of the pairs that pass | | named::names_over
 clone a map or a set, in a function of its own before a loop | uses_tests/moved::copied, uses_tests/moved::copied_texts, uses_tests/moved::copied_words |
 ask whether two maps, or two sets, are the same | uses_tests/same_texts::have_same_ages, uses_tests/same_texts::have_same_words |
 ask whether a set has all words of another, or none | uses_tests/related::has_words_of, uses_tests/related::are_apart |
-put a map into another, or add its amounts | | named::add_all, added::add_all
+put a map into another, or add its amounts to those there | | named::add_all, added::add_all
 make a set of the keys of a map | | spelled::names_of
 make a set of the items that pass, or that begin with a `&str` | | spelled::longer, spelled::beginning
 make a set of what a text is made into | | spelled::prefixed
@@ -139,20 +144,33 @@ put a map into a copy of another, and know exactly when it is refused | | change
 put a map, or the items of two sets, into another, all or nothing | uses_tests/copies::reprice, uses_tests/copies::add_both |
 put a map by value into another, all or nothing | uses_tests/combined::merge |
 move what `drain` yields into another map | extends::put_drained |
-add a map's amounts to the totals of another | | merged::add_map
+merge a map into another, each amount added to the one there, up to the greatest number | | merged::add_map
 put the items of a set, or the keys of a map, into a set | extends::put_items, extends::put_keys | collected::add_all_items
 take the items of a set out of another, or out of its copy | copies::items_lacking | collected::remove_all_items
 take the items of a list out of a set | folds::left_over | collected::remove_listed
-keep the pairs whose key is in a set | uses_tests/combined::restrict |
+keep the pairs whose key is in a set of a known capacity, or, with a `!` in the closure, drop them | uses_tests/combined::restrict |
 compare two sets that are values of a map | uses_tests/granted::covers, uses_tests/granted::are_apart |
 add the items of one set to another, and know exactly when it is refused | | granted::include
 ask whether all items of the sets of a map are its keys | uses_tests/granted::are_closed |
 know what is true of each set that is a value of a map | | granted::know_sets
 move one name's amount from a map to another | uses_tests/moved::transfer |
 visit all that is reached from one, by a recursive call in the place of a list of work | | uses/graph::search
-go on with a list of work until nothing is left: an order in which targets can be built, or all that depend on one | | uses/order::order_of, uses/order::affected
+go on until a search finds nothing new: an order in which targets can be built, or all that depend on one | | uses/order::order_of, uses/order::affected
 """
 MOST = 150  # of letters of a chain that is shown
+INTRO = """# Loops with their proofs
+
+These are the functions to which the [index of loops](PROVING.md#loops) leads, in its order, each with its invariant, and \
+with its answers if it has any. Their files are in micromap's own repository, not in a copy by its `tools/add`. \
+[PROVING](PROVING.md#an-invariant) says how an invariant is read.
+
+- The line `tactic` is that of the function or of its file.
+- Each block is as its file has it, but for the path of `Given` or `Goals`. Of the imports of words it has those that the \
+function names.
+- A proof file has the path of its function: that of `total` in `src/walks.rt` is `proofs/walks/total/Invariants.antt`.
+- Words of one's own stand in a file of `specs/`, which `specs/Lib.antt` names, as `pub mod Totals`.
+
+"""
 
 
 class Proved:
@@ -170,6 +188,7 @@ class Proved:
         begins = rf"((?: *#\[[^\n]*\]\n)*)( *)(?:pub(?:\(\w+\))? )?fn {self.name}\b"
         found = re.search(rf"^{begins}[^\n]*\n(.*?)^\2\}}$", text, re.M | re.S)
         self.attributes, self.text = (found[1], found[3]) if found else ("", "")
+        self.whole = textwrap.dedent(found[0].removeprefix(found[1])) if found else ""
         folder = f"crates/{self.crate}/proofs/**/{module}/**/"
         self.answers, self.invariants = (self.proof(f"{folder}*{self.name}/{it}.antt") for it in ("Answers", "Invariants"))
         wrong += [] if found else [f"tools/pages/loops.py: {self.path or self.crate} has no function {rest}"]
@@ -208,8 +227,9 @@ class Proved:
 
     def linked(self, page):
         """The function and its file, as a link to its invariants or its answers."""
-        at, name = anchor(self.heading(page) or self.title), f"`{self.name}`"
-        return self.where.replace(name, f"[{name}](#{at})", 1)
+        heading, name = self.heading(page), f"`{self.name}`"
+        at = f"#{anchor(heading)}" if heading else f"{os.path.basename(LOOPS_PAGE)}#{anchor(self.title)}"
+        return self.where.replace(name, f"[{name}]({at})", 1)
 
     @property
     def helps(self):
@@ -235,12 +255,45 @@ class Proved:
         return f"In `{path.removeprefix('crates/')}`:\n\n```antt\n{text.strip()}\n```"
 
     def entry(self):
-        """The invariant and the answers as their files have them, and what proves the function."""
-        heads = re.findall(r"^ *(for .*) \{$", self.text, re.M) or [self.body]
-        head = f"`{'`, `'.join(heads)}`, {', '.join([f'under `#[{self.tactic}]`', *self.needs])}."
-        instead = f" A chain or a call in its place: {'; '.join(it.where for it in self.instead)}." if self.instead else ""
-        parts = [head + instead, *map(self.quoted, self.helps)]
-        return "\n\n".join([f"### {self.title}", *parts]).replace(".\n\nIn `", ". In `", 1) + "\n"
+        """The function with its invariant and its answers, as their files have them, and what proves it."""
+        head = f"{', '.join([f'Under `#[{self.tactic}]`', *self.needs])}."
+        imports = "".join(f"{it}\n" for it in self.imports)
+        source = f" In `{self.path.removeprefix('crates/')}`:\n\n```rust\n{imports}\n{self.whole}\n```"
+        words = f"{', '.join(map(linked_file, self.specs))} has the words of its own." if self.specs else ""
+        return "\n\n".join([f"### {self.title}", head + source, *map(self.quoted, self.helps), *filter(None, [words])]) + "\n"
+
+    @property
+    def imports(self):
+        """The lines `ghost use` of the file, with the words that the function's clauses name."""
+        text = "\n".join(re.findall(r"(?:ensures|requires|ghost|^ +×|^ +\(|^ +[a-z]+ .*→).*", self.whole, re.M))
+        for path, names in re.findall(r"^ghost use ([\w.]+)\.\{(.*)\};$", read(self.path), re.M):
+            used = [it for it in names.split(", ") if is_named(it, text)]
+            if used:
+                yield f"ghost use {path}.{{{', '.join(used)}}};"
+
+    @property
+    def specs(self):
+        """The files of specs/ of its own crate that the function or its proof imports."""
+        texts = "\n".join([*self.imports, *map(read, self.helps)])
+        files = sorted({*re.findall(rf"Rattle\.{LOOPS}\.specs\.(\w+)\.\{{", texts)})
+        return [it for it in (f"crates/{LOOPS}/specs/{file}.antt" for file in files) if os.path.exists(it)]
+
+
+def is_named(name, text):
+    """Whether a text has a word, or each part of an operator."""
+    parts = [it for it in name.split("◌") if it]
+    ends = ("", "") if name == "[]" else ("(?<![\\w.'])", "(?![\\w'])") if len(parts) == 1 and parts[0] == name else ("(?<= )", "(?= )")
+    return all(re.search(f"{ends[0]}{re.escape(it)}{ends[1]}", text) for it in parts)
+
+
+def linked_file(path):
+    """A file of specs/, as a link to where the page quotes it."""
+    return f"[`{os.path.basename(path)}`](#{anchor(words_title(path))})"
+
+
+def words_title(path):
+    """The title under which the page quotes a file of specs/."""
+    return f"`{path.removeprefix('crates/')}`"
 
 
 def rows_of_index(wrong):
@@ -276,11 +329,20 @@ def index(groups, page):
         yield ""
     yield "| Chains and calls of | Are under |\n|---|---|"
     chains = (it for rows in groups.values() for _, chains, _ in rows for it in chains if it.text)
-    lines = {(it.path, f"| `{it.file}` of `{it.crate}` | `#![{it.tactic}]` |") for it in chains}
-    yield from (line for _, line in sorted(lines))
+    under = {}
+    for it in chains:
+        under.setdefault(it.path, {}).setdefault(it.tactic, {})[f"`{it.name}`"] = it
+    for path, lines in sorted(under.items()):
+        for line, named in sorted(lines.items()):
+            first = next(iter(named.values()))
+            which = f"{', '.join(named)} in " * (len(lines) > 1)
+            yield f"| {which}`{first.file}` of `{first.crate}` | `#![{line}]` |"
 
 
-def entries(groups, page):
-    """The invariants and answers that the page doesn't have in its text."""
+def loops_page(groups, page):
+    """The functions that PROVING.md doesn't have in its text, with their proofs."""
     found = {it.title: it for it in helped(groups) if not it.heading(page)}
-    yield "\n".join(it.entry() for it in found.values())
+    files = sorted({path for it in found.values() for path in it.specs})
+    words = [f"### {words_title(it)}\n\n```antt\n{read(it).strip()}\n```\n" for it in files]
+    text = "\n".join([*(it.entry() for it in found.values()), *words])
+    return INTRO + text.replace("\n### ", "\n## ").replace("### ", "## ", 1)

@@ -11,7 +11,7 @@ CHANGES, PROVING = "CHANGELOG.md", "crates/micromap/PROVING.md"
 RECORD = f"{os.path.dirname(os.path.abspath(__file__))}/names.txt"
 # The head of a module with arguments; or a definition or a law with its indentation, its kinds, its name, and what
 # follows up to the next line that isn't further to the right.
-MODULE = r"^(?P<at> *)module _ (?P<arguments>.*) where$"
+MODULE = r"^(?P<at> *)module _ (?P<arguments>[^=]*?)\s+where$"
 PUBLIC = r"^(?P<in> *)(?P<computes>abbrev |unfoldable )?pub (?P<kind>record |data |ruleset )?(?P<name>[^\s:(]+)"
 STATED = re.compile(rf"{MODULE}|{PUBLIC}(?P<rest>.*(?:\n(?P=in) +\S.*)*)", re.M)
 
@@ -64,6 +64,11 @@ def calls_of(sources):
             yield from ((f"call {sources.call(it, function)}", function.head) for function in it.functions)
 
 
+def unbroken(says):
+    """A statement in one line, as it is before `rt fmt` breaks it."""
+    return re.sub(r",? \)", ")", re.sub(r"\( ", "(", " ".join(says.split())))
+
+
 def names(sources):
     """Each word, law, ruleset and law of a ruleset, each public type and call, each clause and each precondition, with a
     checksum of what it says."""
@@ -74,7 +79,7 @@ def names(sources):
         found += [one for path in paths for one in names_of(path)]
     for required, kind in ((False, "clause"), (True, "precondition")):
         found += [(f"{kind} {it.name}", it.text) for it in sources.clauses(required) if is_public(it.item)]
-    return {name: hashlib.sha256(" ".join(says.split()).encode()).hexdigest()[:8] for name, says in found}
+    return {name: hashlib.sha256(unbroken(says).encode()).hexdigest()[:8] for name, says in found}
 
 
 def listed(sources):
@@ -100,15 +105,20 @@ def has_row(name, rows):
     return any(all(re.search(rf"`(?:[^`]*[ .])?{it}(?: [^`]*)?`", row) for it in parts) for row in rows)
 
 
-def moved_names(sources, notes):
-    """Which recorded names are gone and have no row in CHANGELOG.md. Those that say something else are notes."""
+def has_family_row(name, rows):
+    """Whether the first column of a row says `each law of` the file that the name is of."""
+    file = name.rpartition(" ")[2].split(".")[-2]
+    return any(f"`{file}`" in row.partition("each law of ")[2] for row in rows)
+
+
+def moved_names(sources):
+    """Which recorded names are gone or say something else, and have no row in CHANGELOG.md."""
     rows = re.findall(r"^\|((?:\\\||[^|\n])*)\|", read(CHANGES), re.M)
     recorded = dict(reversed(line.split("\t")) for line in read(RECORD).splitlines())
     now = names(sources)
     calls = {it.removeprefix("call ") for it in recorded if it.startswith("call ") and it not in now}
     moved = [it for it in recorded if now.get(it) != recorded[it] and not is_clause_of(it, calls)]
-    without = [it for it in moved if not has_row(it, rows)]
-    notes += [f"{CHANGES} has no row for the {it}, which says something else" for it in without if it in now]
-    print(f"{CHANGES}: of {len(recorded)} names that callers rest on, {len(moved)} are gone or say something else", end=", ")
-    print(f"{len(moved) - len(without)} of them with a row")
-    return [f"{CHANGES} has no row for the {it}, which is gone" for it in without if it not in now]
+    without = [it for it in moved if not has_row(it, rows) and not (it in now and has_family_row(it, rows))]
+    print(f"{CHANGES}: of {len(recorded)} names that callers rest on, {len(moved)} are gone or say something else")
+    said = {True: "says something else", False: "is gone"}
+    return [f"{CHANGES} has no row for the {it}, which {said[it in now]}" for it in without]

@@ -3,6 +3,7 @@ import glob
 import os
 import re
 
+from pages.laws import parts_of
 from pages.sources import read
 
 LAWS = "crates/micromap/LAWS.md"
@@ -30,18 +31,6 @@ def first_comment(text):
     lines = re.match(COMMENT, text, re.M)[0].rstrip("\n").split("\n")
     words = " ".join(it.removeprefix("--").strip() for it in lines).removeprefix("For callers: ")
     return words[0].upper() + words[1:]
-
-
-def parts_of(statement):
-    """The parts of a statement between its outer arrows."""
-    depth, parts = 0, [""]
-    for it in re.split(r"([(){}]| → )", statement):
-        depth += (it in ("(", "{")) - (it in (")", "}"))
-        if it == " → " and not depth:
-            parts.append("")
-        else:
-            parts[-1] += it
-    return parts
 
 
 def broken(indent, text):
