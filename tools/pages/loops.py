@@ -54,6 +54,7 @@ compare two maps in their order | reads::have_equal_values, uses_tests/combined:
 ask whether two maps are the same, or read the values at which they differ | uses_tests/generic::find_same, uses_tests/sameness::conflict |
 ask whether two sets have the same items, or one has all items of the other | uses_tests/sameness::have_same_items, uses_tests/sameness::includes |
 list the keys in a `Vec`, all or those whose value passes | reads::list_of_keys, reads::list_of_keys_above |
+list the pairs of a map by value, into a `Vec` | reads::list_of_pairs |
 list the members of an operation in a `Vec`, all or those that pass | reads::list_of_union, set_tests/operations::evens |
 # Building from a list
 make a map of pairs, of two lists, of a `Vec` | builds::map_of_list, builds::map_of_lists, builds::map_of_vec |
@@ -87,7 +88,7 @@ make a map with other values | copies::halved | built::doubled
 make a map of a list, or of two lists of keys and values, as far as they fit | folds::halves_of_list, folds::zipped |
 make a map with key and value exchanged, as far as they fit | folds::turned |
 make a map with other values of the pairs that pass, all or none; as far as they fit | wholes::low_halves, folds::halves |
-copy into a new map the pairs whose keys another map lacks (`lacking_any` at any capacity), or, without the `!` in the closure, has | copies::lacking, copies::lacking_any |
+copy into a new map the pairs whose keys another map lacks, or has (`lacking_any` and `shared_any` at any capacity) | copies::lacking, copies::lacking_any, copies::shared, copies::shared_any |
 make a map of the pairs of two maps | builds::map_of_maps |
 make a map of the pairs that another map lacks, or has with another value | uses_tests/changed::changed |
 copy a map whose values are cloned | | built::copied
@@ -148,7 +149,7 @@ merge a map into another, each amount added to the one there, up to the greatest
 put the items of a set, or the keys of a map, into a set | extends::put_items, extends::put_keys | collected::add_all_items
 take the items of a set out of another, or out of its copy | copies::items_lacking | collected::remove_all_items
 take the items of a list out of a set | folds::left_over | collected::remove_listed
-keep the pairs whose key is in a set of a known capacity, or, with a `!` in the closure, drop them | uses_tests/combined::restrict |
+keep or drop the pairs whose key is in a set of a known capacity | uses_tests/combined::restrict, copies::exclude |
 compare two sets that are values of a map | uses_tests/granted::covers, uses_tests/granted::are_apart |
 add the items of one set to another, and know exactly when it is refused | | granted::include
 ask whether all items of the sets of a map are its keys | uses_tests/granted::are_closed |

@@ -99,6 +99,39 @@ pub fn lacking_any<const N: usize, const M: usize>(
     some
 }
 
+/// Returns the pairs whose keys another map has too.
+pub fn shared(pairs: &Map<u8, u32, 8>, other: &Map<u8, u32, 16>) -> Map<u8, u32, 8>
+    ensures { result ≡ filter (λ p. has nat_eq other.now p.0) pairs.now }
+{
+    let mut some = pairs.copied();
+    some.retain(|key, _| other.contains_key(key));
+    some
+}
+
+/// Returns the pairs whose keys another map has too, for any capacity.
+pub fn shared_any<const N: usize, const M: usize>(
+    pairs: &Map<u8, u32, N>,
+    other: &Map<u8, u32, M>,
+) -> Map<u8, u32, N>
+    ensures { result ≡ filter (λ p. has nat_eq other.now p.0) pairs.now }
+{
+    let mut some = pairs.copied();
+    some.retain(
+        |key: &u8, value: &mut u32| -> bool
+            ensures answer { result ≡ has nat_eq other.entry.now key.now }
+            ensures same { value.new ≡ value.old }
+        { other.contains_key(key) },
+    );
+    some
+}
+
+/// Drops the pairs whose keys are in a set.
+pub fn exclude<const N: usize>(pairs: &mut Map<u8, u32, N>, set: &Set<u8, 8>)
+    ensures { pairs.new ≡ filter (λ p. not (is_member nat_eq set.now p.0)) pairs.old }
+{
+    pairs.retain(|key, _| !set.contains(key));
+}
+
 /// Returns the items of a set that another lacks.
 pub fn items_lacking(set: &Set<u8, 8>, other: &Set<u8, 16>) -> Set<u8, 8>
     ensures { result ≡ filter (λ x. not (is_member nat_eq other.now x)) set.now }

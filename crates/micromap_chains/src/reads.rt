@@ -173,6 +173,13 @@ pub fn list_of_keys_above<const N: usize>(
         .collect(alloc)
 }
 
+/// Returns the pairs of a map by value in a list.
+pub fn list_of_pairs(alloc: Global, pairs: Map<u8, u32, 16>) -> Result<Vec<(u8, u32)>, AllocError>
+    ensures { IfOk result (λ v. v.items ≡ pairs) }
+{
+    pairs.into_iter().collect(alloc)
+}
+
 /// Returns the members of a union in a list.
 pub fn list_of_union<const N: usize, const M: usize>(
     alloc: Global,
