@@ -68,7 +68,7 @@ make a map of what a function makes of each, as far as they fit, or with each on
 make a map, or a set, of what a function makes of each, or know that there are too many | builds::halves_or_none, builds::distinct_halves |
 know exactly when a map of what a function makes of each is refused | answered::map_of_mapped |
 make a set of what a function makes of each | builds::set_of_halves |
-count how often each item comes, or know exactly that there are too many different ones | | uses/votes::tally
+count how often each item comes, or know exactly that there are too many different ones | wholes::votes_of, builds::counts_or_none, wholes::votes_of_halves | uses/votes::tally
 count in numbers that may overflow | | merged::count_numbers
 add each amount to its key's total, in a map that is there, or in a new one by entry | | merged::add_amounts, merged::totals_of
 add the amounts of a `Vec` by value, or of any iterator | | merged::add_vector, merged::add_all
@@ -103,7 +103,7 @@ make a set of the items of several sets, as far as they fit | folds::gathered |
 # Texts as keys or items
 make a map with `&str` keys of a list, as far as they fit | folds::named |
 make a map with `String` keys of a list, as far as they fit | results::spelled |
-count how often each word comes: in `gathered.rt` a `String`, in `words.rt` a `&str` | | gathered::counted, words::counted
+count how often each word comes: a `&str`; in a loop of `gathered.rt` a `String`, of `words.rt` a `&str` | wholes::words_of | gathered::counted, words::counted
 make a map of names and amounts | | gathered::amounts_of, words::numbers_of
 make a set of names | | spelled::set_of
 keep the pairs whose name another map lacks | uses_tests/changed::keep_missing |
@@ -156,6 +156,7 @@ ask whether all items of the sets of a map are its keys | uses_tests/granted::ar
 know what is true of each set that is a value of a map | | granted::know_sets
 move one name's amount from a map to another | uses_tests/moved::transfer |
 visit all that is reached from one, by a recursive call in the place of a list of work | | uses/graph::search
+work list: take the items out of a set, one after the other, until it is empty | | collected::pour
 go on until a search finds nothing new: an order in which targets can be built, or all that depend on one | | uses/order::order_of, uses/order::affected
 """
 MOST = 150  # of letters of a chain that is shown

@@ -135,6 +135,7 @@ put_all eq pairs items |
 put_all_items eq old items |
 put_item_or_refuse eq N content x | the items once `x` is put, or `None` if it doesn't fit or if `content` is `None`
 put_or_refuse eq N content p | the pairs once `p` is put, or `None` if it doesn't fit or if `content` is `None`
+count_or_refuse eq N content x | the pairs of a counter once one more of `x` came, or `None` if it doesn't fit or if `content` is `None`
 put_pair_if_fits eq N pairs p |
 PutsAll eq N old new items |
 PutsAllItems eq N old new items |

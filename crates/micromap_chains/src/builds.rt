@@ -1,10 +1,10 @@
 //! Maps and sets that are built by chains.
-#![tactic(auto, using(micromap::proofs::Rules::caller, micromap::proofs::laws::ChainLaws::chain_laws))]
+#![tactic(auto, using(micromap::proofs::Rules::caller, micromap::proofs::Rules::lists))]
 
 ghost use Rattle.std.specs.Prelude.{◌≡◌, ◌↔◌, ◌<◌, ◌++◌, ◌/◌, IfOk, IfSome, IsErr, IsNone, IsOk, filter, length, map, nat_eq, nat_lt};
 ghost use Rattle.std.specs.Map.{keys_of};
 ghost use Rattle.std.specs.Set.{distinct_count};
-ghost use Rattle.micromap.specs.Build.{build};
+ghost use Rattle.micromap.specs.Build.{build, counts};
 ghost use Rattle.micromap.specs.Extend.{distinct};
 ghost use Rattle.micromap.specs.Operations.{difference, union};
 
@@ -175,4 +175,12 @@ pub fn distinct_halves<const N: usize>(list: &[u8]) -> Option<Set<u8, N>>
     ensures refused { IsNone result ↔ (N < distinct_count nat_eq (map (λ x. x / 2) list.now)) }
 {
     wholes::set_of_all_halves(list)
+}
+
+/// Returns how often each item of a list comes, or `None` exactly if more than `N` items are distinct.
+pub fn counts_or_none<const N: usize>(list: &[u8]) -> Option<Map<u8, usize, N>>
+    ensures counted { IfSome result (λ m. m ≡ counts nat_eq list.now) }
+    ensures refused { IsNone result ↔ (N < distinct_count nat_eq list.now) }
+{
+    wholes::votes_of(list)
 }

@@ -3,7 +3,8 @@
 #![tactic(auto)]
 
 ghost use Rattle.std.specs.Prelude.{◌≡◌, ◌/◌, List, ℕ, Some, [], filter, fold, map, nat_eq, nat_lt};
-ghost use Rattle.micromap.specs.Build.{build_or_refuse, put_or_refuse, put_pair_if_fits};
+ghost use Rattle.micromap.specs.Build.{build_or_refuse, counts_or_refuse, put_or_refuse, put_pair_if_fits};
+ghost use Rattle.micromap.specs.Texts.{str_eq};
 ghost use Rattle.micromap.specs.Extend.{distinct_or_refuse};
 
 use micromap::{Map, Set};
@@ -41,4 +42,28 @@ pub fn set_of_all_halves<const N: usize>(list: &[u8]) -> Option<Set<u8, N>>
     ensures { result ≡ distinct_or_refuse nat_eq N (map (λ x. x / 2) list.now) }
 {
     Set::of_all(list.iter().map(|x| *x / 2))
+}
+
+/// Returns how often each item of a list comes, or `None` if there are too many different ones.
+#[tactic(auto, unfolding(micromap_core::specs::Build::counts_or_refuse))]
+pub fn votes_of<const N: usize>(list: &[u8]) -> Option<Map<u8, usize, N>>
+    ensures { result ≡ counts_or_refuse nat_eq N list.now }
+{
+    Map::counts_of(list.iter().map(|x| *x))
+}
+
+/// Returns how often each half of an item above 9 comes, or `None` if there are too many different ones.
+#[tactic(auto, unfolding(micromap_core::specs::Build::counts_or_refuse))]
+pub fn votes_of_halves<const N: usize>(list: &[u8]) -> Option<Map<u8, usize, N>>
+    ensures { result ≡ counts_or_refuse nat_eq N (map (λ x. x / 2) (filter (λ x. nat_lt 9 x) list.now)) }
+{
+    Map::counts_of(list.iter().filter(|x| **x > 9).map(|x| *x / 2))
+}
+
+/// Returns how often each text of a list comes, or `None` if there are too many different ones.
+#[tactic(auto, unfolding(micromap_core::specs::Build::counts_or_refuse))]
+pub fn words_of<'a, const N: usize>(list: &[&'a str]) -> Option<Map<&'a str, usize, N>>
+    ensures { result ≡ counts_or_refuse str_eq N list.now }
+{
+    Map::counts_of(list.iter().map(|x| *x))
 }

@@ -2,7 +2,7 @@
 -- has one key for each distinct key of the items. So all items fit if they have few distinct keys. Each lemma is about
 -- any container that is `IsKeyed`.
 use Rattle.std.proofs.Common.{◌≡◌, ℕ, zero, suc, ◌+◌, ◌<◌, ◌≤◌, nat_lt, Bool, true, false, ◌&&◌, ◌||◌, not, List, []}
-use Rattle.std.proofs.Common.{◌∷◌, ◌++◌, length, get_or, take, Option, Some, None, is_some, if◌then◌else◌, IsTrue, refl}
+use Rattle.std.proofs.Common.{◌∷◌, ◌++◌, length, get_or, take, drop, Option, Some, None, is_some, if◌then◌else◌, IsTrue, refl}
 use Rattle.std.proofs.Common.{ap, sym, subst, ◌∙◌, arith, nat_le, ◌⊎◌, inl, inr, map, IfSome}
 use Rattle.std.specs.Cmp.{first_so, second_so, IsEquivalence}
 use Rattle.std.specs.Cmp.Derive.{both_true}
@@ -13,9 +13,9 @@ use Rattle.std.proofs.Math.Bool.{and-true, and_assoc, or-false, or_assoc}
 use Rattle.std.proofs.iter.runs.Consumers.{total_runs}
 use Rattle.std.proofs.iter.runs.Made.{run_of_turn}
 use Rattle.std.proofs.lemmas.Bool.{cases_Bool, ltb-false, lt-leb, le-leb, leb-true, leb-false, not-true}
-use Rattle.std.proofs.lemmas.List.{length_push, take_all, take_at, take_more, length-map, length-take}
-use Rattle.std.proofs.lemmas.List.Sums.{fold_push}
-use Rattle.micromap_core.specs.Build.{all_fit, build, each_fits, PutsEach, PutsUpTo, pair_fits, put_fitting, put_pair, put_whole}
+use Rattle.std.proofs.lemmas.List.{length_push, take_all, take_at, length-map, length-take, take-append-drop}
+use Rattle.std.proofs.lemmas.List.Sums.{fold-append, fold_more, fold_push}
+use Rattle.micromap_core.specs.Build.{all_fit, build, each_fits, PutsEach, PutsUpTo, pair_fits, put_fitting, put_pair, put_whole, StopsAt}
 use Rattle.std.specs.Map.{keys_of}
 use Rattle.std.specs.Set.{distinct_count, is_member}
 use Rattle.std.specs.Bool.{then_some}
@@ -25,7 +25,7 @@ use Rattle.std.proofs.lemmas.Map.Entries.{length-keys_of}
 use Rattle.std.proofs.lemmas.Map.Keys.{IsDistinct-cons, IsDistinct-push}
 use Rattle.std.proofs.lemmas.Map.Steps.{list_any_congr}
 use Rattle.std.proofs.lemmas.Map.Made.{is_some-lookup, distinct_count-le, length-from_keys, length-le_from_is_member}
-use Rattle.micromap_core.specs.Pairs.{at, fits, has, has_room, IsContent, IsUnique}
+use Rattle.micromap_core.specs.Pairs.{at, fits, has, has_room, put, IsContent, IsUnique}
 use Rattle.micromap_core.proofs.laws.Equalities.{lawful}
 use Rattle.micromap_core.proofs.Lists.{is_some-if}
 use Rattle.micromap_core.proofs.MapLemmas.{keys_of-put_stored, keys_of-put_new}
@@ -33,6 +33,24 @@ use Rattle.micromap_core.proofs.MapLemmas.{keys_of-put_stored, keys_of-put_new}
 -- what has no room for one more, and has at most as many as there is room for, is full
 pub full_is : (stored : Bool) (n N : ℕ) → (stored || nat_lt n N) ≡ false → n ≤ N → n ≡ N
 full_is stored n N misfit bounded = grind (arith, misfit, bounded, ltb-false n N)
+
+-- the run of an iterator up to and with an item that it gave: of its items, those before x and those up to x
+pub run_up_to : {S X : Type 0} (steps : S → Option X → S → Type 0) (it rest : S) (items : List X)
+    (x : X) (position : ℕ) → position ≡ length items → YieldsThen steps it items (Some x) rest
+    → SomeRun steps it (λ p. (p.len ≡ position + 1) × (take position p.items ≡ items)
+    × (take (position + 1) p.items ≡ items ++ x ∷ []))
+run_up_to steps it rest items x position counted gave =
+    let turn = run_of_turn steps it items gave.0 gave.1 x rest gave.2 in (
+      turn.0,
+      turn.1,
+      (
+        turn.2.1 ∙ ap (λ n. n + 1) (sym counted),
+        ap (take position) turn.2.0 ∙ take_at items (x ∷ []) position (sym counted),
+        ap (take (position + 1)) turn.2.0
+            ∙ take_all (position + 1) (items ++ x ∷ [])
+            (omega (arith, length_push items x, counted)),
+      ),
+    )
 
 or_absorbs : (a b : Bool) → (b ≡ true → a ≡ true) → a ≡ (a || b)
 or_absorbs a b implied = grind arith
@@ -67,6 +85,20 @@ module _ {C X : Type 0} (fits : C → X → Bool) (put : C → X → C) where
   each_fits-push old (y ∷ items) x = ap (λ b. fits old y && b) (each_fits-push (put old y) items x)
       ∙ sym (and_assoc (fits old y) _ _)
 
+  -- one that doesn't fit is the first of a list that goes on with it
+  pub put_stops_at : (old : C) (items : List X) (position : ℕ) (now : C) (x : X)
+      → HasPut old items position now → fits now x ≡ false → (xs : List X)
+      → take position xs ≡ items → take (position + 1) xs ≡ items ++ x ∷ []
+      → StopsAt fits put old xs position
+  put_stops_at old items position now x has misfit xs before through =
+      let last : fits (fold put old items) x ≡ false = ap (λ c. fits c x) (sym has.made)
+      ∙ misfit in
+      let stops : IsTrue (not (each_fits fits put old (items ++ x ∷ []))) =
+      grind (arith, each_fits-push old items x, last) in (
+        ap (each_fits fits put old) before ∙ has.fit,
+        ap (λ l. not (each_fits fits put old l)) through ∙ stops,
+      )
+
   module _ (old : C) (items : List X) (position : ℕ) (now new : C) (x : X)
       (has : HasPut old items position now)
       (next : new ≡ (if fits now x then put now x else now)) where
@@ -86,32 +118,15 @@ module _ {C X : Type 0} (fits : C → X → Bool) (put : C → X → C) where
         → SomeRun steps it (λ p. (p.len ≡ position + 1)
         × PutsUpTo fits put old new p.items position)
     run_stops steps it rest misfit gave =
-        let turn = run_of_turn steps it items gave.0 gave.1 x rest gave.2 in
-        let long = turn.2.1 ∙ ap (λ n. n + 1) (sym has.position_is) in
-        let front : take position turn.0.items ≡ items = ap (take position) turn.2.0
-        ∙ take_at items (x ∷ []) position (sym has.position_is) in
-        let whole : take (position + 1) turn.0.items ≡ items ++ x ∷ [] =
-        ap (take (position + 1)) turn.2.0
-        ∙ take_all (position + 1) (items ++ x ∷ [])
-        (omega (arith, length_push items x, has.position_is)) in
-        let last : fits (fold put old items) x ≡ false = ap (λ c. fits c x) (sym has.made)
-        ∙ misfit in
-        let stops : IsTrue (not (each_fits fits put old (items ++ x ∷ []))) =
-        grind (arith, each_fits-push old items x, last) in
-        let made : new ≡ fold put old (take position turn.0.items) = next
-        ∙ ap (λ b. if b then put now x else now) misfit ∙ has.made
-        ∙ sym (ap (fold put old) front) in (
-          turn.0,
-          turn.1,
+        let run = run_up_to steps it rest items x position has.position_is gave in (
+          run.0,
+          run.1,
           (
-            long,
+            run.2.0,
             (
-              (
-                ap (each_fits fits put old) front
-                    ∙ has.fit,
-                ap (λ l. not (each_fits fits put old l)) whole ∙ stops,
-              ),
-              made,
+              put_stops_at old items position now x has misfit run.0.items run.2.1 run.2.2,
+              next ∙ ap (λ b. if b then put now x else now) misfit ∙ has.made
+                  ∙ sym (ap (fold put old) run.2.1),
             ),
           ),
         )
@@ -185,8 +200,7 @@ module _ {C X : Type 0} (fits : C → X → Bool) (put : C → X → C) where
     pub put_at : (new : C) → new ≡ put now (get_or items index d)
         → new ≡ fold put old (take (index + 1) items)
     put_at new next = next ∙ ap (λ c. put c (get_or items index d)) made
-        ∙ sym (ap (fold put old) (take_more items index d within)
-        ∙ fold_push put old (take index items) (get_or items index d))
+        ∙ sym (fold_more put old items index d within)
 
 pub IsDistinct-nil : {K : Type 0} (eq : K → K → Bool) → IsDistinct eq []
 unfolding IsDistinct
@@ -207,36 +221,76 @@ pub record IsKeyed {C X K : Type 0} (eq : K → K → Bool) (N : ℕ) (fits : C 
 module _ {C X K : Type 0} {eq : K → K → Bool} (laws : IsEquivalence eq) {N : ℕ}
     {fits : C → X → Bool} {put : C → X → C} {keys : C → List K} {key : X → K} {empty : C}
     {count : List X → ℕ} (keyed : IsKeyed eq N fits put keys key empty count) where
-  -- the keys after a put are distinct, and are those before it and the item's
-  keys-put : (c : C) (x : X) → IsDistinct eq (keys c)
-      → IsDistinct eq (keys (put c x))
-      × ((q : K) → is_member eq (keys (put c x)) q ≡ (is_member eq (keys c) q || eq q (key x)))
-  keys-put c x distinct = elim (keyed.cases c x) [
-    | inl h ↦ subst (λ ks. IsDistinct eq ks
-        × ((q : K) → is_member eq ks q ≡ (is_member eq (keys c) q || eq q (key x)))) (sym h.2) (
-          distinct,
-          λ q. or_absorbs (is_member eq (keys c) q) (eq q (key x))
-              (λ same. list_any_congr laws q (key x) (keys c) same ∙ h.0),
-        )
-    | inr h ↦ subst (λ ks. IsDistinct eq ks
-        × ((q : K) → is_member eq ks q ≡ (is_member eq (keys c) q || eq q (key x)))) (sym h.2) (
-          IsDistinct-push laws (keys c) (key x) distinct h.0,
-          λ q. list_any-append (eq q) (keys c) (key x ∷ [])
-              ∙ ap (λ b. is_member eq (keys c) q || b) (or-false (eq q (key x))),
-        )
+  -- the keys after a put are those before it and the item's, and are distinct
+  member-put : (c : C) (x : X) (q : K)
+      → is_member eq (keys (put c x)) q ≡ (is_member eq (keys c) q || eq q (key x))
+  member-put c x q = elim (keyed.cases c x) [
+    | inl h ↦ ap (λ ks. is_member eq ks q) h.2
+        ∙ or_absorbs (is_member eq (keys c) q) (eq q (key x))
+        (λ same. list_any_congr laws q (key x) (keys c) same ∙ h.0)
+    | inr h ↦ ap (λ ks. is_member eq ks q) h.2 ∙ list_any-append (eq q) (keys c) (key x ∷ [])
+        ∙ ap (λ b. is_member eq (keys c) q || b) (or-false (eq q (key x)))
   ]
 
-  pub keys-fold : (c : C) (items : List X) → IsDistinct eq (keys c)
+  distinct-put : (c : C) (x : X) → IsDistinct eq (keys c) → IsDistinct eq (keys (put c x))
+  distinct-put c x distinct = elim (keyed.cases c x) [
+    | inl h ↦ subst (IsDistinct eq) (sym h.2) distinct
+    | inr h ↦ subst (IsDistinct eq) (sym h.2)
+        (IsDistinct-push laws (keys c) (key x) distinct h.0)
+  ]
+
+  -- and so after all of them
+  pub member-fold : (c : C) (items : List X) (q : K)
+      → is_member eq (keys (fold put c items)) q
+      ≡ (is_member eq (keys c) q || is_member eq (map key items) q)
+  member-fold c [] q = sym (or-false _)
+  member-fold c (x ∷ items) q = member-fold (put c x) items q
+      ∙ ap (λ b. b || is_member eq (map key items) q) (member-put c x q)
+      ∙ or_assoc (is_member eq (keys c) q) (eq q (key x)) (is_member eq (map key items) q)
+
+  pub distinct-fold : (c : C) (items : List X) → IsDistinct eq (keys c)
       → IsDistinct eq (keys (fold put c items))
-      × ((q : K) → is_member eq (keys (fold put c items)) q
-      ≡ (is_member eq (keys c) q || is_member eq (map key items) q))
-  keys-fold c [] distinct = (distinct, λ q. sym (or-false _))
-  keys-fold c (x ∷ items) distinct =
-      let one = keys-put c x distinct in
-      let all = keys-fold (put c x) items one.0 in (
-        all.0,
-        λ q. all.1 q ∙ ap (λ b. b || is_member eq (map key items) q) (one.1 q)
-            ∙ or_assoc (is_member eq (keys c) q) (eq q (key x)) (is_member eq (map key items) q),
+  distinct-fold c [] distinct = distinct
+  distinct-fold c (x ∷ items) distinct =
+      distinct-fold (put c x) items (distinct-put c x distinct)
+
+  pub length-fold : (c : C) (items : List X) → IsDistinct eq (keys c)
+      → length (keys (fold put c items)) ≡ distinct_count eq (keys c ++ map key items)
+  length-fold c items distinct =
+      length-from_keys laws _ (keys c ++ map key items) (distinct-fold c items distinct)
+      (λ q. member-fold c items q ∙ sym (list_any-append (eq q) (keys c) (map key items)))
+
+  -- with more items there are no fewer
+  pub keys_grow : (c : C) (items : List X) → IsDistinct eq (keys c)
+      → length (keys c) ≤ length (keys (fold put c items))
+  keys_grow c items distinct =
+      length-le_from_is_member laws _ _ distinct
+      (λ q member. member-fold c items q ∙ ap (λ b. b || is_member eq (map key items) q) member)
+
+  pub fold_grows : (c : C) (items : List X) (i : ℕ) → IsDistinct eq (keys c)
+      → length (keys (fold put c (take i items))) ≤ length (keys (fold put c items))
+  fold_grows c items i distinct =
+      let before = fold put c (take i items) in
+      subst (λ a. length (keys before) ≤ length (keys a))
+      (sym (fold-append put c (take i items) (drop i items))
+      ∙ ap (fold put c) (take-append-drop i items))
+      (keys_grow before (drop i items) (distinct-fold c (take i items) distinct))
+
+  -- an item that is put when its key is new is one more
+  pub fold_beyond : (c : C) (items : List X) (i : ℕ) (d : X) → i < length items
+      → IsDistinct eq (keys c)
+      → is_member eq (keys (fold put c (take i items))) (key (get_or items i d)) ≡ false
+      → length (keys (fold put c (take i items))) < length (keys (fold put c items))
+  fold_beyond c items i d within distinct new =
+      let before = fold put c (take i items) in
+      let x = get_or items i d in
+      let more : length (keys (put before x)) ≡ length (keys before) + 1 =
+      grind (arith, keyed.cases before x, new, length_push (keys before) (key x)) in
+      omega (
+        arith,
+        more,
+        ap (λ a. length (keys a)) (fold_more put c items i d within),
+        fold_grows c items (i + 1) distinct,
       )
 
   -- an item fits, and items fit, exactly where the keys are few enough with them
@@ -253,10 +307,8 @@ module _ {C X K : Type 0} {eq : K → K → Bool} (laws : IsEquivalence eq) {N :
       → each_fits fits put c items ≡ nat_le (length (keys (fold put c items))) N
   each_fits-count c [] distinct short = sym (le-leb (length (keys c)) N short)
   each_fits-count c (x ∷ items) distinct short =
-      let after = (keys-put c x distinct).0 in
-      let longer : length (keys (put c x)) ≤ length (keys (fold put (put c x) items)) =
-      length-le_from_is_member laws _ _ after (λ q member. (keys-fold (put c x) items after).1 q
-      ∙ ap (λ b. b || is_member eq (map key items) q) member) in
+      let after = distinct-put c x distinct in
+      let longer = keys_grow (put c x) items after in
       ap (λ b. b && each_fits fits put (put c x) items) (fits-count c x short)
       ∙ elim (leb_tells (length (keys (put c x))) N) [
         | inl few ↦ ap (λ b. b && each_fits fits put (put c x) items) few.0
@@ -265,26 +317,32 @@ module _ {C X K : Type 0} {eq : K → K → Bool} (laws : IsEquivalence eq) {N :
             ∙ sym (lt-leb _ N (omega (arith, many.1, longer)))
       ]
 
-  -- what is built has the distinct keys of its items
-  pub keys-built : (items : List X)
-      → IsDistinct eq (keys (fold put empty items))
-      × ((q : K) → is_member eq (keys (fold put empty items)) q ≡ is_member eq (map key items) q)
-  keys-built items =
-      let built = keys-fold empty items
-      (subst (IsDistinct eq) (sym keyed.none) (IsDistinct-nil eq)) in (
-        built.0,
-        λ q. built.1 q
-            ∙ ap (λ ks. is_member eq ks q || is_member eq (map key items) q) keyed.none,
+  -- where the first so many items don't all fit, all of them leave more keys than there is room for
+  pub many_left : (c : C) (items : List X) (n : ℕ) → IsDistinct eq (keys c) → length (keys c) ≤ N
+      → IsTrue (not (each_fits fits put c (take n items))) → N < length (keys (fold put c items))
+  many_left c items n distinct short misfit =
+      omega (
+        arith,
+        leb-false _ N (sym (each_fits-count c (take n items) distinct short) ∙ not-true _ misfit),
+        fold_grows c items n distinct,
       )
 
+  -- what is built has the distinct keys of its items
+  distinct_empty : IsDistinct eq (keys empty)
+  distinct_empty = subst (IsDistinct eq) (sym keyed.none) (IsDistinct-nil eq)
+
+  short_empty : length (keys empty) ≤ N
+  short_empty = rw (keyed.none) (omega arith)
+
+  pub distinct-built : (items : List X) → IsDistinct eq (keys (fold put empty items))
+  distinct-built items = distinct-fold empty items distinct_empty
+
   pub length-built : (items : List X) → length (keys (fold put empty items)) ≡ count items
-  length-built items = let built = keys-built items in
-      length-from_keys laws _ (map key items) built.0 built.1 ∙ sym (keyed.counts items)
+  length-built items = length-fold empty items distinct_empty
+      ∙ ap (λ ks. distinct_count eq (ks ++ map key items)) keyed.none ∙ sym (keyed.counts items)
 
   all_fit-count : (items : List X) → each_fits fits put empty items ≡ nat_le (count items) N
-  all_fit-count items =
-      each_fits-count empty items (subst (IsDistinct eq) (sym keyed.none) (IsDistinct-nil eq))
-      (rw (keyed.none) (omega arith))
+  all_fit-count items = each_fits-count empty items distinct_empty short_empty
       ∙ ap (λ n. nat_le n N) (length-built items)
 
   -- items that all fit have few distinct keys, and with one more that doesn't they have too many
@@ -302,11 +360,6 @@ module _ {C X K : Type 0} {eq : K → K → Bool} (laws : IsEquivalence eq) {N :
       grind (arith, each_fits-push fits put empty items x, not-true _ misfit) in
       leb-false _ N (sym (all_fit-count (items ++ x ∷ [])) ∙ many)
 
-  -- where not even the first of the items all fit, there are too many distinct ones
-  pub many_prefix : (items : List X) → IsTrue (not (each_fits fits put empty items))
-      → N < count items
-  many_prefix items misfit = leb-false _ N (sym (all_fit-count items) ∙ not-true _ misfit)
-
   -- what is made of all of them, or none if there are too many distinct ones
   pub whole_counted : (items : List X)
       → fold (put_whole fits put)
@@ -314,12 +367,12 @@ module _ {C X K : Type 0} {eq : K → K → Bool} (laws : IsEquivalence eq) {N :
   whole_counted items = all_or_none fits put empty items
       ∙ ap (λ b. if b then Some (fold put empty items) else None) (all_fit-count items)
 
-  -- the same of items that end with the first that doesn't fit
-  pub many_taken : (items : List X) (position n : ℕ) → n ≡ length items → n ≡ position + 1
-      → IsTrue (not (each_fits fits put empty (take (position + 1) items))) → N < count items
-  many_taken items position n long last misfit =
-      subst (λ l. N < count l) (take_all (position + 1) items (omega (arith, long, last)))
-      (many_prefix (take (position + 1) items) misfit)
+  -- items whose first so many don't all fit have too many distinct keys
+  pub many_taken : (items : List X) (n : ℕ)
+      → IsTrue (not (each_fits fits put empty (take n items))) → N < count items
+  many_taken items n misfit =
+      subst (λ m. N < m) (length-built items)
+      (many_left empty items n distinct_empty short_empty misfit)
 
   -- which stand behind as many as there is room for
   pub full_at : (items : List X) (position : ℕ)
@@ -328,7 +381,7 @@ module _ {C X K : Type 0} {eq : K → K → Bool} (laws : IsEquivalence eq) {N :
       let first = take (position + 1) items in
       omega (
         arith,
-        many_prefix first misfit,
+        leb-false _ N (sym (all_fit-count first) ∙ not-true _ misfit),
         keyed.counts first,
         distinct_count-le eq (map key first),
         length-map first key,
@@ -352,28 +405,35 @@ module _ {C X K : Type 0} {eq : K → K → Bool} (laws : IsEquivalence eq) {N :
     array_fits_at index d now within made =
         fits_at fits put empty items index d now (omega (arith, within, long)) made array_fits
 
--- a map's pairs
-pub pairs_keyed : {K V : Type 0} (eq : K → K → Bool) (N : ℕ)
-    → IsKeyed eq N (pair_fits {V = V} eq N)
-    (put_pair eq) keys_of (λ p. p.0) [] (λ items. distinct_count eq (keys_of items))
-pairs_keyed {K} {V} eq N = record {
-  cases = λ pairs p. elim (cases_Bool (has eq pairs p.0)) [
+-- a map into which each item puts its key, with a value that is made of the pairs and the item
+pub puts_keyed : {X K V : Type 0} (eq : K → K → Bool) (N : ℕ) (key : X → K)
+    (value : List (K × V) → X → V)
+    → IsKeyed eq N (λ pairs x. fits eq N pairs (key x))
+    (λ pairs x. put eq pairs (key x) (value pairs x)) keys_of key []
+    (λ items. distinct_count eq (map key items))
+puts_keyed eq N key value = record {
+  cases = λ pairs x. elim (cases_Bool (has eq pairs (key x))) [
     | inl stored ↦ inl (
-      sym (is_some-lookup (eq p.0) pairs)
+      sym (is_some-lookup (eq (key x)) pairs)
           ∙ stored,
       ap (λ b. b || has_room N pairs) stored,
-      keys_of-put_stored eq pairs p.0 p.1 stored,
+      keys_of-put_stored eq pairs (key x) (value pairs x) stored,
     )
     | inr new ↦ inr (
-      sym (is_some-lookup (eq p.0) pairs) ∙ new,
+      sym (is_some-lookup (eq (key x)) pairs) ∙ new,
       ap (λ b. b || has_room N pairs) new
           ∙ ap (λ n. nat_lt n N) (sym (length-keys_of pairs)),
-      keys_of-put_new eq pairs p.0 p.1 new,
+      keys_of-put_new eq pairs (key x) (value pairs x) new,
     )
   ];
   none = refl;
   counts = λ items. refl;
 }
+
+pub pairs_keyed : {K V : Type 0} (eq : K → K → Bool) (N : ℕ)
+    → IsKeyed eq N (pair_fits {V = V} eq N)
+    (put_pair eq) keys_of (λ p. p.0) [] (λ items. distinct_count eq (keys_of items))
+pairs_keyed eq N = puts_keyed eq N (λ p. p.0) (λ pairs p. p.1)
 
 -- what is built of items that fit is what a map may hold
 pub IsContent-build : {K V : Type 0} (eq : K → K → Bool) (N : ℕ) → IsEquivalence eq
@@ -381,7 +441,7 @@ pub IsContent-build : {K V : Type 0} (eq : K → K → Bool) (N : ℕ) → IsEqu
 IsContent-build eq N laws items fit =
     let keyed = pairs_keyed eq N in
     record {
-      unique = (keys-built laws keyed items).0;
+      unique = distinct-built laws keyed items;
       bounded = subst (λ n. n ≤ N) (length-keys_of (build eq items))
           (bounded-built laws keyed items fit);
       lawful = lawful eq laws;

@@ -1,11 +1,11 @@
 -- Facts about lists and options alone.
 use Rattle.std.proofs.Common.{Bool, if◌then◌else◌, Option, Some, None, is_some, slice_get, ◌++◌, ◌≡◌, ℕ, suc, zero, ◌<◌}
 use Rattle.std.proofs.Common.{◌≤◌, List, [], ◌∷◌, length, get_or, set, take, drop, map, refl, ap, sym, ◌∙◌, arith}
-use Rattle.std.proofs.Common.{drop-cons}
+use Rattle.std.proofs.Common.{drop-cons, ◌+◌, subst}
 use Rattle.std.specs.Option.{ForSome, IfSome}
 use Rattle.std.specs.List.{remove, swap, refill}
 use Rattle.std.proofs.Math.ListN.{get_or-map}
-use Rattle.std.proofs.lemmas.List.{get_or-set_same, drop-map, drop-set-lt, map-set, map-append, take-map, take-set, length-set, take_at}
+use Rattle.std.proofs.lemmas.List.{get_or-set_same, length-map, drop-map, drop-set-lt, map-set, map-append, take-map, take-set, length-set, take_at}
 use Rattle.std.proofs.lemmas.Option.{get_or_from_slice_get, slice_get-get_or, slice_get_within}
 
 -- written back whole, a list of the same length is what it was written as
@@ -107,3 +107,26 @@ module _ {X : Type 0} where
   swap-behind [] n i behind = refl
   swap-behind (d ∷ xs) n i behind = drop-set-lt (suc i) _ i _ (omega arith)
       ∙ drop-set-lt (suc i) (d ∷ xs) n _ (omega arith)
+
+-- what holds of the first so many of a list that is read holds of those that are read of the first so many
+module _ {X Y : Type 0} (read : X → Y) (items : List X) (i : ℕ) where
+  -- also of one more and of the next
+  pub taken_read : (Q : List Y → List Y → Y → Type 0)
+      → ((d : Y) → i < length (map read items)
+      → Q (take i (map read items)) (take (i + 1) (map read items)) (get_or (map read items) i d))
+      → (d : X) → i < length items
+      → Q (map read (take i items)) (map read (take (i + 1) items)) (read (get_or items i d))
+  taken_read Q all d within =
+      subst (λ (t : List Y × List Y × Y). Q t.0 t.1 t.2) (λ j. (
+        take-map read i items j,
+        take-map read (i + 1) items j,
+        get_or-map read items i d j,
+      ))
+      (all (read d) (subst (λ n. i < n) (sym (length-map items read)) within))
+
+  -- where those are all
+  pub all_read : (P : List Y → Type 0) → (length (map read items) ≤ i → P (take i (map read items)))
+      → length items ≤ i → P (map read (take i items))
+  all_read P all over =
+      subst P (take-map read i items)
+      (all (subst (λ n. n ≤ i) (sym (length-map items read)) over))

@@ -1,9 +1,9 @@
 -- The items of a list are put into a container one after the other, until one doesn't fit or none is left.
-use Rattle.std.proofs.Common.{◌≡◌, ℕ, ◌+◌, Bool, true, false, not, List, [], ◌∷◌, ◌++◌, length, take, if◌then◌else◌}
-use Rattle.std.proofs.Common.{IsTrue, refl, ap, sym, ◌∙◌, append_assoc, append-nil, length-append, arith, fold}
+use Rattle.std.proofs.Common.{◌≡◌, ℕ, ◌+◌, Bool, true, false, List, [], ◌∷◌, ◌++◌, length, take, if◌then◌else◌}
+use Rattle.std.proofs.Common.{refl, ap, sym, ◌∙◌, append_assoc, append-nil, length-append, arith, fold}
 use Rattle.std.proofs.lemmas.List.{length_push, take_at}
-use Rattle.micromap_core.specs.Build.{each_fits, StopsAt}
-use Rattle.micromap_core.proofs.BuildLemmas.{HasPut, each_fits-push, has_put_more}
+use Rattle.micromap_core.specs.Build.{StopsAt}
+use Rattle.micromap_core.proofs.BuildLemmas.{HasPut, has_put_more, put_stops_at}
 
 module _ {C X : Type 0} (fits : C → X → Bool) (put : C → X → C) where
   -- of the items these are left; those before them all fit and are put, and position counts them
@@ -60,17 +60,8 @@ module _ {C X : Type 0} (fits : C → X → Bool) (put : C → X → C) where
       put_stops misfit =
           let before = so_far.before in
           let counted = so_far.has.position_is in
-          let front : take position items ≡ before = ap (take position) (sym so_far.split)
-          ∙ take_at before left position (sym counted) in
-          let long : length through ≡ position + 1 = omega (arith, length_push before x, counted) in
-          let whole : take (position + 1) items ≡ through =
-          ap (take (position + 1)) (sym split_behind)
-          ∙ take_at through rest (position + 1) long in
-          let last : fits (fold put old before) x ≡ false = ap (λ c. fits c x) (sym so_far.has.made)
-          ∙ misfit in
-          let stops : IsTrue (not (each_fits fits put old through)) =
-          grind (arith, each_fits-push fits put old before x, last) in (
-            ap (each_fits fits put old) front
-                ∙ so_far.has.fit,
-            ap (λ l. not (each_fits fits put old l)) whole ∙ stops,
-          )
+          put_stops_at fits put old before position now x so_far.has misfit items
+          (ap (take position) (sym so_far.split) ∙ take_at before left position (sym counted))
+          (ap (take (position + 1)) (sym split_behind)
+          ∙ take_at through rest (position + 1)
+          (omega (arith, length_push before x, counted)))

@@ -100,6 +100,14 @@ module _ {K : Type 0} (eq : K → K → Bool) where
   unfoldable pub counts : List K → List (K × ℕ)
   counts items = fold count_one [] items
 
+  -- the pairs once one more of x came, or `None` if x doesn't fit or if an item before it didn't
+  abbrev pub count_or_refuse : ℕ → Option (List (K × ℕ)) → K → Option (List (K × ℕ))
+  count_or_refuse N = put_whole (fits eq N) count_one
+
+  -- the pairs of a counter of capacity N once these items came, or `None` if one of them doesn't fit
+  unfoldable pub counts_or_refuse : ℕ → List K → Option (List (K × ℕ))
+  counts_or_refuse N items = fold (count_or_refuse N) (Some []) items
+
 -- a map into which values are merged: `step` makes the new value of the one that is stored, if any, and of the item's
 module _ {K V W : Type 0} (eq : K → K → Bool) (step : Option V → W → V) where
   -- the pairs once one item is merged

@@ -57,7 +57,7 @@ fn next_ready<const D: usize, const N: usize>(plan: &Plan<D, N>, built: &Set<u8,
 }
 
 // Returns the targets that aren't built, in the plan's order.
-#[tactic(auto, using(micromap_core::proofs::laws::LoopLaws::loop_laws, micromap::proofs::laws::SetLoopLaws::set_loop_laws))]
+#[tactic(auto, using(micromap::proofs::Rules::loops))]
 fn left_of<const D: usize, const N: usize>(plan: &Plan<D, N>, built: &Set<u8, N>) -> Set<u8, N>
     ensures { result ≡ filter (λ target. not (is_member nat_eq built.now target)) (keys_of plan.now) }
 {

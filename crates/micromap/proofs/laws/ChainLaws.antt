@@ -1,15 +1,16 @@
--- For callers: a ruleset for what a map or a set is once it is built by a chain of iterators. Unequal keys or items are
+-- For callers: what a map or a set is once it is built by a chain of iterators, in a part of `lists` of `Rules`. Unequal keys or items are
 -- built as they are, and those that pass a test are unequal too. What is made of all items of a chain is built of them,
 -- or there is none, exactly if they have too many distinct keys.
-use Rattle.std.proofs.Common.{◌≡◌, ℕ, Bool, List, Option, Some, None, IfSome, if◌then◌else◌, fold, nat_le}
+use Rattle.std.proofs.Common.{◌≡◌, ℕ, Bool, List, Option, Some, None, IfSome, if◌then◌else◌, ap, ◌∙◌, fold, map-id, nat_le}
 use Rattle.std.specs.List.{IsDistinct}
 use Rattle.std.specs.Map.{keys_of}
 use Rattle.std.specs.Set.{distinct_count}
 use Rattle.std.proofs.lemmas.Map.Made.{IsDistinct-keys_filter}
-use Rattle.micromap_core.specs.Build.{build, build_or_refuse, pair_fits, put_all, put_or_refuse, put_pair}
+use Rattle.micromap_core.specs.Build.{build, build_or_refuse, counts, counts_or_refuse, pair_fits, put_all, put_or_refuse, put_pair}
 use Rattle.micromap_core.specs.Equalities.{Lawful}
 use Rattle.micromap_core.proofs.BuildLemmas.{pairs_keyed, whole_counted, whole_made}
 use Rattle.micromap_core.proofs.DistinctLemmas.{IsDistinct-filter}
+use Rattle.micromap_core.proofs.laws.CountLaws.{counts_keyed}
 use Rattle.micromap_core.proofs.laws.Equalities.{equalities, of_lawful}
 use Rattle.micromap_core.proofs.laws.LoopLaws.{build_unique}
 use Rattle.micromap.specs.Extend.{distinct, distinct_or_refuse, put_all_items, put_item_or_refuse}
@@ -36,6 +37,14 @@ module _ {K V : Type 0} (eq : K → K → Bool) (N : ℕ) (items : List (K × V)
       → IfSome result (λ m. m ≡ put_all eq pairs items)
   put_or_refuse_is pairs made = whole_made (pair_fits eq N) (put_pair eq) pairs items made
 
+-- what a counter is that all items came to, or none if too many of them are distinct
+pub counts_or_refuse_is : {K : Type 0} (eq : K → K → Bool) (N : ℕ) (items : List K) → Lawful eq
+    → counts_or_refuse eq N items
+    ≡ (if nat_le (distinct_count eq items) N then Some (counts eq items) else None)
+unfolding counts_or_refuse counts
+counts_or_refuse_is eq N items laws = whole_counted (of_lawful eq laws) (counts_keyed eq N) items
+    ∙ ap (λ n. if nat_le n N then Some (counts eq items) else None) (ap (distinct_count eq) (map-id items))
+
 module _ {T : Type 0} (eq : T → T → Bool) (N : ℕ) (items : List T) where
   pub distinct_or_refuse_is : Lawful eq
       → distinct_or_refuse eq N items
@@ -52,6 +61,7 @@ pub ruleset chain_laws = (
   distinct_unique,
   build_unique,
   build_or_refuse_is,
+  counts_or_refuse_is,
   distinct_or_refuse_is,
   IsDistinct-filter,
   IsDistinct-keys_filter,

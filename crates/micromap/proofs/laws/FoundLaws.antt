@@ -1,6 +1,6 @@
 -- For callers: what a look-up or a search says of another. The pair of a key and its value, equal keys, the first pair or
--- item that passes a test, and a test that all values or items pass. The ruleset `found_laws` is for a map, and
--- `found_items` for a set.
+-- item that passes a test, and a test that all values or items pass. The ruleset `found_laws` is a part of
+-- `maps` of `Rules`, and `found_items` one of `sets`.
 use Rattle.std.proofs.Common.{◌≡◌, ℕ, nat_eq, Bool, true, false, not, List, [], ◌∷◌, Option, Some, None, is_some, refl, ap, sym, ◌∙◌, arith, option_map}
 use Rattle.std.specs.List.{find, list_all, list_any, position_or_len}
 use Rattle.std.specs.Map.{lookup, lookup_entry, values_of}

@@ -1,10 +1,8 @@
 -- For callers: the keys of a map into which a loop merges values are the items of a set to which the same keys are added.
--- The ruleset `merged_keys` has this beside `merge_laws`.
 use Rattle.std.proofs.Common.{◌≡◌, Bool, List, [], ◌∷◌, Option, refl, ap, ◌∙◌}
 use Rattle.std.specs.Map.{keys_of}
 use Rattle.micromap_core.specs.Build.{merge_pair, merged}
 use Rattle.micromap_core.specs.Pairs.{at}
-use Rattle.micromap_core.proofs.laws.MergeLaws.{merge_laws}
 use Rattle.micromap.specs.Extend.{put_all_items}
 use Rattle.micromap.proofs.ItemLemmas.{keys_put_item}
 
@@ -17,5 +15,3 @@ module _ {K V W : Type 0} (eq : K → K → Bool) (step : Option V → W → V) 
       keys_merged (merge_pair eq step pairs item) items
       ∙ ap (λ keys. put_all_items eq keys (keys_of items))
       (keys_put_item eq item.0 (step (at eq pairs item.0) item.1) pairs)
-
-pub ruleset merged_keys = (keys_merged, merge_laws)

@@ -1,5 +1,5 @@
--- For callers: loops that build a set, or put its items into another. The ruleset `set_loop_laws` is all that such a loop
--- needs, over a set, an operation on two sets, or a map's keys.
+-- For callers: loops that build a set, or put its items into another. The ruleset, all that such a loop needs over a set, an
+-- operation on two sets, or a map's keys, is a part of `loops` of `Rules`.
 use Rattle.std.proofs.Common.{◌≡◌, ◌≤◌, Bool, false, not, List, [], ◌∷◌, ◌++◌, filter, length, refl, ap, sym, ◌∙◌, append_assoc, arith, append-nil}
 use Rattle.std.specs.List.{AllByRecursion, IsDistinct}
 use Rattle.std.specs.Set.{is_member}

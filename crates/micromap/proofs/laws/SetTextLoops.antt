@@ -1,5 +1,6 @@
--- For callers: loops that build a set of texts, or take texts out of one, seen by their bytes. The ruleset
--- `set_text_loops` is all that such a loop needs, over a set of texts, an operation on two such sets, or a map's keys.
+-- For callers: loops that build a set of texts, or take texts out of one, seen by their bytes. The ruleset,
+-- all that such a loop needs over a set of texts, an operation on two such sets, or a map's keys, is a part of `loops` of
+-- `Rules`.
 use Rattle.std.proofs.Common.{◌≡◌, ℕ, List, [], ◌∷◌, ◌++◌, Bool, refl, ap, sym, subst, ◌∙◌, append-nil, bytes_eq}
 use Rattle.std.specs.List.{IsDistinct}
 use Rattle.std.specs.Ordering.{on}

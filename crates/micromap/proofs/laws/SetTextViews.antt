@@ -158,9 +158,9 @@ module _ {T : Type 0} (see : T → List ℕ) where
         ∙ (same_members (of_lawful bytes_eq lawful_bytes) (items_by see a) (items_by see b)).1 each
 
     -- by an item that has the text
-    pub each_item_text : HaveEquals (on see bytes_eq) a b → (bs : List ℕ)
+    by_text_of : HaveEquals (on see bytes_eq) a b → (bs : List ℕ)
         → is_member bytes_eq (items_by see a) bs ≡ is_member bytes_eq (items_by see b) bs
-    each_item_text each bs =
+    by_text_of each bs =
         let test = λ (x : T). bytes_eq bs (see x) in
         let p = of_probes _ _ (probes_by see bs) in
         is_member_item_texts a bs
@@ -260,6 +260,10 @@ module _ {Z : Type 0} (a b : List (String Z)) where
       → have_equal_items string_eq a b ≡ true
   equal_by_text = by_text string_bytes a b
 
+  pub each_item_text : HaveEquals string_eq a b → (bs : List ℕ)
+      → is_member bytes_eq (item_texts a) bs ≡ is_member bytes_eq (item_texts b) bs
+  each_item_text = by_text_of string_bytes a b
+
   pub each_text_item : HaveEquals bytes_eq (item_texts a) (item_texts b) → (x : String Z)
       → is_member string_eq a x ≡ is_member string_eq b x
   each_text_item = by_item string_bytes a b
@@ -278,6 +282,10 @@ module _ (a b : List (Bor (List ℕ))) where
       → have_equal_items str_eq a b ≡ true
   equal_by_str = by_text (λ s. s.now) a b
 
+  pub each_item_str : HaveEquals str_eq a b → (bs : List ℕ)
+      → is_member bytes_eq (item_strs a) bs ≡ is_member bytes_eq (item_strs b) bs
+  each_item_str = by_text_of (λ s. s.now) a b
+
   pub each_str_item : HaveEquals bytes_eq (item_strs a) (item_strs b) → (x : Bor (List ℕ))
       → is_member str_eq a x ≡ is_member str_eq b x
   each_str_item = by_item (λ s. s.now) a b
@@ -290,7 +298,6 @@ module _ (a b : List (Bor (List ℕ))) where
       → IsTrue (is_member str_eq a x) → IsFalse (is_member str_eq b x)
   str_disjoint = apart (λ s. s.now) a b
 
--- `each_item_text`, `each_text_item` and `each_str_item` are tried at each two sets, so `caller` has `set_texts`
 pub ruleset set_texts = (
   item_texts_empty,
   item_texts_first,
@@ -317,8 +324,6 @@ pub ruleset set_texts = (
   length_put_item,
   equalities,
 )
-
-pub ruleset set_text_views = (set_texts, each_item_text, each_text_item, each_str_item)
 
 -- after `is_subset`, `is_disjoint`, `sub` and `bitand`
 pub ruleset set_text_operations = (

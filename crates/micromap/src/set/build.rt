@@ -107,9 +107,9 @@ impl<T: Eq + Drop, const N: usize> Set<T, N> {
             × (result ≡ fold (put_item_or_refuse T.eq N) (Some []) xs) }
         ensures content { IfSome result (IsItems T.eq N) }
     {
-        let mut set = Set::new();
-        if set.put_fitting(items) {
-            Some(set)
+        let mut whole = Set::new();
+        if whole.put_fitting(items) {
+            Some(whole)
         } else {
             None
         }
@@ -126,9 +126,9 @@ impl<T: Eq + Drop, const N: usize> Set<T, N> {
             × (result ≡ fold (put_item_if_fits T.eq N) [] xs) }
         ensures content { IsItems T.eq N result }
     {
-        let mut set = Set::new();
-        set.put_fitting(items);
-        set
+        let mut fitting = Set::new();
+        fitting.put_fitting(items);
+        fitting
     }
 
     /// Returns the set with all items of an iterator, inserted one after the other as `insert` does, or `None` if they

@@ -1,5 +1,5 @@
 -- For callers: what a closure that changes no capture leaves of a map, of a map with texts as keys, and of a list of items.
--- The ruleset `closure_laws` has the laws in a form in which a search finds them from the clause of the call.
+-- The ruleset, which is `closures` of `Rules`, has them in a form in which a search finds them from a call's clause.
 use Rattle.std.proofs.Common.{◌≡◌, ℕ, Bool, Bor, MutBor, List, [], filter, length, map, ap, sym, ◌∙◌}
 use Rattle.std.specs.Fn.{Mut}
 use Rattle.std.specs.List.{FoldsTo, enumerate_from, items_where_true}

@@ -1,5 +1,5 @@
 -- For callers: two maps that are the same stay the same where both get the same put, or the same removal. Whether there is
--- room is for the caller to know. The ruleset `same_laws` is for who knows that two maps are the same.
+-- room is for the caller to know. The ruleset is a part of `comparison` of `Rules`.
 use Rattle.std.proofs.Common.{◌≡◌, Bool, ◌||◌, List, IsFalse, refl, ap, sym, ◌∙◌, ℕ}
 use Rattle.micromap_core.specs.Equalities.{Lawful}
 use Rattle.micromap_core.specs.Pairs.{has, has_room, fits, put, put_key, take_out, IsUnique}

@@ -1,5 +1,5 @@
 -- For callers: how many distinct keys a list has with one more, how many keys a map has after a list is put into it,
--- and what a counter has. The ruleset `count_laws` is for a counter, and for a map into which a loop puts a list.
+-- and what a counter has. The ruleset is a part of `lists` of `Rules`.
 use Rattle.std.proofs.Common.{◌≡◌, ℕ, ◌+◌, ◌<◌, ◌≤◌, ◌||◌, Bool, true, false, List, [], ◌∷◌, ◌++◌, length, map, get_or}
 use Rattle.std.proofs.Common.{take, drop, unwrap_or, cond, if◌then◌else◌, refl, ap, sym, subst, ◌∙◌, append_assoc}
 use Rattle.std.proofs.Common.{arith}
@@ -8,17 +8,19 @@ use Rattle.std.specs.Map.{keys_of}
 use Rattle.std.specs.Set.{distinct_count, is_member}
 use Rattle.std.proofs.Math.Bool.{or-false}
 use Rattle.std.proofs.lemmas.Grind.{common_steps}
-use Rattle.std.proofs.lemmas.List.{append-nil, length-map, length-take, map-append, take_all, take_more, take-append-drop, take-map}
+use Rattle.std.proofs.lemmas.List.{append-nil, length-map, length-take, map-id, take_all, take-append-drop, take-map}
 use Rattle.std.proofs.lemmas.List.Folds.{list_any-append}
-use Rattle.std.proofs.lemmas.List.Sums.{count_by-le-length, fold_more, fold_push}
+use Rattle.std.proofs.lemmas.List.Sums.{count_by-le-length, fold_more}
 use Rattle.std.proofs.lemmas.Map.Entries.{length-keys_of}
 use Rattle.std.proofs.lemmas.Map.Made.{is_some-lookup, length-from_keys}
-use Rattle.micromap_core.specs.Build.{build, put_all, count_one, counts, put_pair}
+use Rattle.micromap_core.specs.Build.{build, put_all, count_one, counts, merged}
 use Rattle.micromap_core.specs.Equalities.{Lawful}
-use Rattle.micromap_core.specs.Pairs.{at, has, put, IsUnique}
-use Rattle.micromap_core.proofs.BuildLemmas.{keys-fold, pairs_keyed}
+use Rattle.micromap_core.specs.Pairs.{at, fits, has, put, IsUnique}
+use Rattle.micromap_core.proofs.BuildLemmas.{fold_beyond, length-built, member-fold, puts_keyed, IsKeyed}
+use Rattle.micromap_core.proofs.Lists.{all_read, taken_read}
 use Rattle.micromap_core.proofs.laws.Equalities.{of_lawful}
-use Rattle.micromap_core.proofs.laws.MapLaws.{at_alike, at_put, has_put, length_put, unique_empty, unique_put}
+use Rattle.micromap_core.proofs.laws.MapLaws.{at_alike, at_put, unique_empty}
+use Rattle.micromap_core.proofs.laws.MergeLaws.{each_merged_take, each_merged_take_map, length_merged, merged_grows}
 
 module _ {K : Type 0} (eq : K → K → Bool) where
   -- one key more counts if none before it is equal to it
@@ -66,40 +68,14 @@ module _ {K V : Type 0} (eq : K → K → Bool) where
   -- and after items are put
   pub length_put_all : (pairs items : List (K × V)) → Lawful eq → IsUnique eq pairs
       → length (put_all eq pairs items) ≡ distinct_count eq (keys_of pairs ++ keys_of items)
-  length_put_all pairs items laws unique =
-      let keys = keys-fold (of_lawful eq laws) (pairs_keyed eq 0) pairs items unique in
-      sym (length-keys_of (put_all eq pairs items))
-      ∙ length-from_keys (of_lawful eq laws) _ (keys_of pairs ++ keys_of items) keys.0
-      (λ q. keys.1 q ∙ sym (list_any-append (eq q) (keys_of pairs) (keys_of items)))
+  unfolding merged
+  length_put_all = length_merged eq (λ o v. v)
 
   -- with more items there are no fewer
   pub put_all_grows : (pairs items : List (K × V)) (i : ℕ) → Lawful eq → IsUnique eq pairs
       → length (put_all eq pairs (take i items)) ≤ length (put_all eq pairs items)
-  put_all_grows pairs items i laws unique =
-      let all : keys_of (take i items) ++ keys_of (drop i items) ≡ keys_of items =
-      sym (map-append (λ (e : K × V). e.0) (take i items) (drop i items))
-      ∙ ap keys_of (take-append-drop i items) in
-      omega (
-        arith,
-        length_put_all pairs (take i items) laws unique,
-        length_put_all pairs items laws unique,
-        distinct_grows eq (keys_of pairs ++ keys_of (take i items))
-            (keys_of (drop i items)) laws,
-        ap (distinct_count eq)
-            (append_assoc (keys_of pairs) (keys_of (take i items)) (keys_of (drop i items))
-            ∙ ap (λ l. keys_of pairs ++ l) all),
-      )
-
-  -- an item that is put when it is new is one more
-  put_all_beyond : (pairs items : List (K × V)) (i : ℕ) (d : K × V) → i < length items → Lawful eq
-      → IsUnique eq pairs → has eq (put_all eq pairs (take i items)) (get_or items i d).0 ≡ false
-      → length (put_all eq pairs (take i items)) < length (put_all eq pairs items)
-  put_all_beyond pairs items i d within laws unique new =
-      let more = ap length (fold_more (put_pair eq) pairs items i d within)
-      ∙ length_put eq (put_all eq pairs (take i items))
-      (get_or items i d).0 (get_or items i d).1 in
-      let grown = put_all_grows pairs items (i + 1) laws unique in
-      grind (arith, new, more, grown)
+  unfolding merged
+  put_all_grows = merged_grows eq (λ o v. v)
 
   pub each_put_all_take : (pairs items : List (K × V)) (i : ℕ) → Lawful eq → IsUnique eq pairs
       → (put_all eq pairs (take i items) ≡ put_all eq pairs (take i items))
@@ -110,12 +86,10 @@ module _ {K V : Type 0} (eq : K → K → Bool) where
       × ((d : K × V) → i < length items
       → has eq (put_all eq pairs (take i items)) (get_or items i d).0 ≡ false
       → length (put_all eq pairs (take i items)) < length (put_all eq pairs items))
-  each_put_all_take pairs items i laws unique = (
-    refl,
-    λ over. ap (put_all eq pairs) (take_all i items over),
-    λ d within. fold_more (put_pair eq) pairs items i d within,
-    λ d within new. put_all_beyond pairs items i d within laws unique new,
-  )
+  unfolding merged
+  each_put_all_take pairs items i laws unique =
+      let all = each_merged_take eq (λ o v. v) pairs items i in
+      (refl, all.1, all.2, all.3 laws unique)
 
   -- of the first so many items, as a function reads them
   pub each_put_all_take_map :
@@ -132,23 +106,10 @@ module _ {K V : Type 0} (eq : K → K → Bool) where
       → has eq (put_all eq pairs (map read (take i items))) (read (get_or items i d)).0 ≡ false
       → length (put_all eq pairs (map read (take i items))) < length
       (put_all eq pairs (map read items)))
+  unfolding merged
   each_put_all_take_map read pairs items i laws unique =
-      let all = each_put_all_take pairs (map read items) i laws unique in
-      let first = take-map read i items in
-      let long = length-map items read in (
-        refl,
-        λ over. grind (arith, common_steps, all.1, first, long, over),
-        λ d within. grind (
-          arith,
-          common_steps,
-          all.2 (read d),
-          first,
-          take-map read (i + 1) items,
-          long,
-          within,
-        ),
-        λ d within new. grind (arith, common_steps, all.3 (read d), first, long, within, new),
-      )
+      let all = each_merged_take_map eq (λ o v. v) read pairs items i in
+      (refl, all.1, all.2, all.3 laws unique)
 
   pub each_build_take_map : {X : Type 0} (read : X → K × V) (items : List X) (i : ℕ) → Lawful eq
       → (build eq (map read (take i items)) ≡ build eq (map read (take i items)))
@@ -168,13 +129,12 @@ module _ {K : Type 0} (eq : K → K → Bool) where
   unfolding counts
   counts_none = refl
 
-  counts_push : (items : List K) (x : K)
-      → counts eq (items ++ x ∷ []) ≡ count_one eq (counts eq items) x
-  unfolding counts
-  counts_push items x = fold_push (count_one eq) [] items x
+  pub counts_keyed : (N : ℕ) → IsKeyed eq N (fits eq N) (count_one eq) keys_of (λ x. x) []
+      (λ items. distinct_count eq (map (λ x. x) items))
+  counts_keyed N = puts_keyed eq N (λ x. x) (λ pairs x. unwrap_or (at eq pairs x) 0 + 1)
 
   -- the count of q after one more of x
-  count_more : (pairs : List (K × ℕ)) (x q : K) → Lawful eq
+  pub count_more : (pairs : List (K × ℕ)) (x q : K) → Lawful eq
       → unwrap_or (at eq (count_one eq pairs x) q) 0
       ≡ unwrap_or (at eq pairs q) 0 + cond (eq q x) 1 0
   count_more pairs x q laws =
@@ -186,58 +146,57 @@ module _ {K : Type 0} (eq : K → K → Bool) where
         (of_lawful eq laws).symm x q,
       )
 
-  counts_all : (pairs : List (K × ℕ)) (items : List K) → Lawful eq → IsUnique eq pairs
-      → IsUnique eq (fold (count_one eq) pairs items)
-      × ((q : K) → has eq (fold (count_one eq) pairs items) q
-      ≡ (has eq pairs q || list_any (eq q) items))
-      × ((q : K) → unwrap_or (at eq (fold (count_one eq) pairs items) q) 0
-      ≡ unwrap_or (at eq pairs q) 0 + count_by (eq q) items)
-  counts_all pairs [] laws unique = (unique, λ q. sym (or-false _), λ q. omega arith)
-  counts_all pairs (x ∷ items) laws unique =
-      let e = of_lawful eq laws in
-      let v = unwrap_or (at eq pairs x) 0 + 1 in
-      let all = counts_all (put eq pairs x v) items laws (unique_put eq pairs x v laws unique) in (
-        all.0,
-        λ q. grind (arith, all.1 q, has_put eq pairs x v q laws, e.symm x q),
-        λ q. grind (arith, common_steps, all.2 q, count_more pairs x q laws),
+  count_all : (pairs : List (K × ℕ)) (items : List K) (q : K) → Lawful eq
+      → unwrap_or (at eq (fold (count_one eq) pairs items) q) 0
+      ≡ unwrap_or (at eq pairs q) 0 + count_by (eq q) items
+  count_all pairs [] q laws = omega arith
+  count_all pairs (x ∷ items) q laws =
+      grind (
+        arith,
+        common_steps,
+        count_all (count_one eq pairs x) items q laws,
+        count_more pairs x q laws,
       )
-
-  unique_counts : (items : List K) → Lawful eq → IsUnique eq (counts eq items)
-  unfolding counts
-  unique_counts items laws = (counts_all [] items laws (unique_empty ℕ eq)).0
 
   -- the keys are the items
   pub has_counts : (items : List K) (q : K) → Lawful eq
       → has eq (counts eq items) q ≡ list_any (eq q) items
   unfolding counts
-  has_counts items q laws = (counts_all [] items laws (unique_empty ℕ eq)).1 q
+  has_counts items q laws = is_some-lookup (eq q) (counts eq items)
+      ∙ member-fold (of_lawful eq laws) (counts_keyed 0) [] items q ∙ ap (list_any (eq q)) (map-id items)
 
   -- the count of an item is the number of times it came
   pub count_counts : (items : List K) (q : K) → Lawful eq
       → unwrap_or (at eq (counts eq items) q) 0 ≡ count_by (eq q) items
   unfolding counts
-  count_counts items q laws = (counts_all [] items laws (unique_empty ℕ eq)).2 q ∙ omega arith
+  count_counts items q laws = count_all [] items q laws ∙ omega arith
 
   pub length_counts : (items : List K) → Lawful eq
       → length (counts eq items) ≡ distinct_count eq items
-  length_counts items laws =
-      length_keys eq (counts eq items) items laws (unique_counts items laws)
-      (λ q. has_counts items q laws)
+  unfolding counts
+  length_counts items laws = sym (length-keys_of (counts eq items))
+      ∙ length-built (of_lawful eq laws) (counts_keyed 0) items ∙ ap (distinct_count eq) (map-id items)
 
   counts_take : (items : List K) (i : ℕ) (d : K) → i < length items
       → counts eq (take (i + 1) items) ≡ count_one eq (counts eq (take i items)) (get_or items i d)
-  counts_take items i d within = ap (counts eq) (take_more items i d within)
-      ∙ counts_push (take i items) (get_or items i d)
+  unfolding counts
+  counts_take = fold_more (count_one eq) []
 
   -- an item that isn't counted yet is one more than are counted
   counts_beyond : (items : List K) (i : ℕ) (d : K) → i < length items → Lawful eq
       → has eq (counts eq (take i items)) (get_or items i d) ≡ false
       → length (counts eq (take i items)) < distinct_count eq items
+  unfolding counts
   counts_beyond items i d within laws new =
-      let counted = length_counts (take (i + 1) items) laws in
-      let longer = ap length (counts_take items i d within)
-      ∙ length_put eq (counts eq (take i items)) (get_or items i d) _ in
-      grind (arith, new, counted, longer, distinct_prefix eq items (i + 1) laws)
+      let before = counts eq (take i items) in
+      omega (
+        arith,
+        fold_beyond (of_lawful eq laws) (counts_keyed 0) [] items i d within (unique_empty ℕ eq)
+            (sym (is_some-lookup (eq (get_or items i d)) before) ∙ new),
+        length-keys_of before,
+        length-keys_of (counts eq items),
+        length_counts items laws,
+      )
 
   -- what a search needs, at once: of a counter of some items, and of one of the first so many
   pub each_counts : (items : List K) → Lawful eq
@@ -263,7 +222,7 @@ module _ {K : Type 0} (eq : K → K → Bool) where
       count_by-le-length (eq q) (take i items),
       length-take i items,
     ),
-    λ d within. counts_take items i d within,
+    counts_take items i,
     λ d within new. counts_beyond items i d within laws new,
   )
 
@@ -279,22 +238,15 @@ module _ {K : Type 0} (eq : K → K → Bool) where
       → has eq (counts eq (map read (take i items))) (read (get_or items i d)) ≡ false
       → length (counts eq (map read (take i items))) < distinct_count eq (map read items))
   each_counts_take_map read items i laws =
-      let all = each_counts_take (map read items) i laws in
-      let first = take-map read i items in
-      let long = length-map items read in (
+      let all = each_counts_take (map read items) i laws in (
         refl,
-        λ over. grind (arith, common_steps, all.1, first, long, over),
-        λ q. grind (arith, common_steps, all.2 q, first, long),
-        λ d within. grind (
-          arith,
-          common_steps,
-          all.3 (read d),
-          first,
-          take-map read (i + 1) items,
-          long,
-          within,
-        ),
-        λ d within new. grind (arith, common_steps, all.4 (read d), first, long, within, new),
+        all_read read items i (λ l. counts eq l ≡ counts eq (map read items)) all.1,
+        λ q. grind (arith, common_steps, all.2 q, take-map read i items, length-map items read),
+        taken_read read items i
+            (λ first more x. counts eq more ≡ count_one eq (counts eq first) x) all.3,
+        taken_read read items i
+            (λ first more x. has eq (counts eq first) x ≡ false
+            → length (counts eq first) < distinct_count eq (map read items)) all.4,
       )
 
 pub ruleset count_laws = (

@@ -1,5 +1,5 @@
--- For callers: loops over a map that build another one, or put its pairs into another. The ruleset `loop_laws` is all that
--- such a loop needs.
+-- For callers: loops over a map that build another one, or put its pairs into another. The ruleset, all that
+-- such a loop needs, is a part of `loops` of `Rules`.
 use Rattle.std.proofs.Common.{◌≡◌, ℕ, suc, ◌+◌, ◌<◌, ◌≤◌, Bool, true, false, ◌||◌, List, [], ◌∷◌, ◌++◌, drop, get_or}
 use Rattle.std.proofs.Common.{length, map, is_some, refl, ap, sym, subst, ◌∙◌, add-one, append_assoc, arith, drop-cons}
 use Rattle.std.proofs.Common.{lt-ltb}

@@ -1,7 +1,7 @@
 -- For callers: what each change of a map does to each way of reading it. The name of a law has the reader first and
 -- then the change, as `lookup_put` and `length_take_out`. The readers are look-ups by a test (`lookup` of the value,
 -- `pair` of the pair), look-ups by a key (`at`, `has`, `fits`), the number of pairs (`length`), and that keys are
--- pairwise unequal (`unique`). The ruleset at the end has the laws that a search needs.
+-- pairwise unequal (`unique`). The ruleset at the end, a part of `maps` of `Rules`, has the laws that a search needs.
 use Rattle.std.proofs.Common.{◌≡◌, ℕ, ◌+◌, ◌||◌, Bool, true, not, List, [], ◌∷◌, ◌++◌, filter, length, reverse, Some}
 use Rattle.std.proofs.Common.{None, is_some, get_or, if◌then◌else◌, refl, ap, sym, subst, ◌∙◌, inl, inr, arith, ◌≤◌}
 use Rattle.std.proofs.Common.{false, String, string_eq}
@@ -24,7 +24,7 @@ use Rattle.micromap_core.specs.Pairs.{at, pair, has, put, put_key, take_out, wit
 use Rattle.micromap_core.specs.Same.{has_value}
 use Rattle.micromap_core.proofs.laws.Equalities.{equalities, lawful, of_lawful, of_probes, probes_key, same_test, probes_text}
 use Rattle.micromap_core.proofs.DistinctLemmas.{IsDistinct-filter}
-use Rattle.micromap_core.proofs.BuildLemmas.{IsDistinct-nil, keys-built, length-built, pairs_keyed}
+use Rattle.micromap_core.proofs.BuildLemmas.{IsDistinct-nil, distinct-built, length-built, pairs_keyed}
 use Rattle.micromap_core.proofs.MapLemmas.{lookup-entry, push-put, push-put_key, slice_set-put_key, IsUnique-push}
 use Rattle.micromap_core.proofs.MapLemmas.{IsUnique-set, IsUnique-set_key, IsUnique-remove, keys_of-put_new}
 use Rattle.micromap_core.proofs.MapLemmas.{keys_of-put_stored, entry_push, entry_set, entry_set_key, none_apart}
@@ -318,7 +318,7 @@ module _ {K V : Type 0} (eq : K → K → Bool) where
       (IsDistinct-filter eq (λ q. not (eq k q)) (keys_of pairs) unique)
 
   pub unique_build : (items : List (K × V)) → Lawful eq → IsUnique eq (build eq items)
-  unique_build items laws = (keys-built (of_lawful eq laws) (pairs_keyed eq 0) items).0
+  unique_build items laws = distinct-built (of_lawful eq laws) (pairs_keyed eq 0) items
 
   -- the key of the pair that is found equals the one that was looked for, and is the same key if the equality is exact
   pub pair_key : (pairs : List (K × V)) (k : K) (p : K × V) → pair eq pairs k ≡ Some p

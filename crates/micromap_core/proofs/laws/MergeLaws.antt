@@ -1,27 +1,26 @@
 -- For callers: what a map has into which a loop merges values (`merged`): after one item more, at each key, and how many
--- keys there are. The ruleset `merge_laws` is for such a loop.
-use Rattle.std.proofs.Common.{◌≡◌, ℕ, ◌+◌, ◌<◌, ◌≤◌, ◌&&◌, ◌||◌, not, Bool, true, false, List, [], ◌∷◌, ◌++◌, filter}
-use Rattle.std.proofs.Common.{length, map, get_or, take, drop, Option, Some, None, IsTrue, refl, ap, sym, subst, ◌∙◌}
-use Rattle.std.proofs.Common.{append_assoc, arith, unwrap_or, fold}
+-- keys there are. The ruleset is a part of `lists` of `Rules`.
+use Rattle.std.proofs.Common.{◌≡◌, ℕ, ◌+◌, ◌<◌, ◌≤◌, ◌&&◌, ◌||◌, Bool, true, false, List, [], ◌∷◌, ◌++◌, filter}
+use Rattle.std.proofs.Common.{length, map, get_or, take, Option, Some, None, IsTrue, refl, ap, sym, ◌∙◌}
+use Rattle.std.proofs.Common.{arith, unwrap_or, fold}
 use Rattle.std.specs.Iterator.{Yields}
 use Rattle.std.specs.Iterator.Runs.{SomeRun, WholeRun}
 use Rattle.std.specs.Map.{keys_of, values_of}
 use Rattle.std.specs.Set.{distinct_count}
-use Rattle.std.proofs.iter.runs.Consumers.{total_runs}
-use Rattle.std.proofs.iter.runs.Made.{run_of_turn}
-use Rattle.std.proofs.lemmas.Grind.{common_steps}
-use Rattle.std.proofs.lemmas.List.{length-map, length_push, map-append, nil_from_length, take_all, take_at, take_more, take-append-drop, take-map}
-use Rattle.std.proofs.lemmas.List.Folds.{fold-map, list_any-append}
+use Rattle.std.proofs.iter.runs.Made.{run_of_exit}
+use Rattle.std.proofs.lemmas.List.{map-append, nil_from_length, take_all, take_more}
+use Rattle.std.proofs.lemmas.List.Folds.{fold-map}
 use Rattle.std.proofs.lemmas.List.Sums.{fold-append, fold_more, fold_push}
 use Rattle.std.proofs.lemmas.Map.Entries.{length-keys_of}
-use Rattle.std.proofs.lemmas.Map.Made.{length-from_keys}
+use Rattle.std.proofs.lemmas.Map.Made.{is_some-lookup}
 use Rattle.micromap_core.specs.Build.{all_merge, count_one, counts, merge_pair, merged, MergeStopsAt}
 use Rattle.micromap_core.specs.Equalities.{Lawful}
 use Rattle.micromap_core.specs.Pairs.{at, fits, has, IsUnique}
-use Rattle.micromap_core.proofs.BuildLemmas.{each_fits-push, keys-fold, pairs_keyed, IsKeyed}
-use Rattle.micromap_core.proofs.laws.CountLaws.{distinct_grows}
+use Rattle.micromap_core.proofs.BuildLemmas.{distinct-fold, each_fits-push, fold_beyond, fold_grows, length-fold, member-fold}
+use Rattle.micromap_core.proofs.BuildLemmas.{put_stops_at, puts_keyed, run_up_to, HasPut, IsKeyed}
+use Rattle.micromap_core.proofs.Lists.{all_read, taken_read}
 use Rattle.micromap_core.proofs.laws.Equalities.{of_lawful}
-use Rattle.micromap_core.proofs.laws.MapLaws.{at_alike, at_put, has_put, length_put, unique_empty, unique_put}
+use Rattle.micromap_core.proofs.laws.MapLaws.{at_alike, at_put, unique_empty}
 
 module _ {K V W : Type 0} (eq : K → K → Bool) (step : Option V → W → V) where
   -- no item, the first item, two lists of them, and one more
@@ -51,6 +50,10 @@ module _ {K V W : Type 0} (eq : K → K → Bool) (step : Option V → W → V) 
   unfolding merged
   merged_take pairs items i d within = fold_more (merge_pair eq step) pairs items i d within
 
+  merges_keyed : IsKeyed eq 0 (λ pairs item. fits eq 0 pairs item.0) (merge_pair eq step) keys_of
+      (λ item. item.0) [] (λ items. distinct_count eq (keys_of items))
+  merges_keyed = puts_keyed eq 0 (λ item. item.0) (λ pairs item. step (at eq pairs item.0) item.1)
+
   -- what a key finds: its value, with the items of equal keys
   pub at_merged : (pairs : List (K × V)) (items : List (K × W)) (q : K) → Lawful eq
       → at eq (merged eq step pairs items) q ≡ fold (λ o w. Some (step o w)) (at eq pairs q)
@@ -70,58 +73,39 @@ module _ {K V W : Type 0} (eq : K → K → Bool) (step : Option V → W → V) 
   pub has_merged : (pairs : List (K × V)) (items : List (K × W)) (q : K) → Lawful eq
       → has eq (merged eq step pairs items) q ≡ (has eq items q || has eq pairs q)
   unfolding merged
-  has_merged pairs [] q laws = refl
-  has_merged pairs (item ∷ items) q laws =
+  has_merged pairs items q laws =
       grind (
         arith,
-        has_merged (merge_pair eq step pairs item) items q laws,
-        has_put eq pairs item.0 (step (at eq pairs item.0) item.1) q laws,
-        (of_lawful eq laws).symm q item.0,
+        member-fold (of_lawful eq laws) merges_keyed pairs items q,
+        is_some-lookup (eq q) (merged eq step pairs items),
+        is_some-lookup (eq q) pairs,
+        is_some-lookup (eq q) items,
       )
 
   pub unique_merged : (pairs : List (K × V)) (items : List (K × W)) → Lawful eq → IsUnique eq pairs
       → IsUnique eq (merged eq step pairs items)
   unfolding merged
-  unique_merged pairs [] laws unique = unique
-  unique_merged pairs (item ∷ items) laws unique =
-      unique_merged (merge_pair eq step pairs item) items laws
-      (unique_put eq pairs item.0 (step (at eq pairs item.0) item.1) laws unique)
+  unique_merged pairs items laws unique =
+      distinct-fold (of_lawful eq laws) merges_keyed pairs items unique
 
   -- how many keys there are
-  merges_keyed : (N : ℕ) → IsKeyed eq N (λ pairs item. fits eq N pairs item.0)
-      (merge_pair eq step) keys_of (λ item. item.0) [] (λ items. distinct_count eq (keys_of items))
-  merges_keyed N = record {
-    cases = λ pairs item. (pairs_keyed eq N).cases pairs (item.0, step (at eq pairs item.0) item.1);
-    none = refl;
-    counts = λ items. refl;
-  }
-
   pub length_merged : (pairs : List (K × V)) (items : List (K × W)) → Lawful eq → IsUnique eq pairs
       → length (merged eq step pairs items) ≡ distinct_count eq (keys_of pairs ++ keys_of items)
   unfolding merged
-  length_merged pairs items laws unique =
-      let keys = keys-fold (of_lawful eq laws) (merges_keyed 0) pairs items unique in
-      sym (length-keys_of (merged eq step pairs items))
-      ∙ length-from_keys (of_lawful eq laws) _ (keys_of pairs ++ keys_of items) keys.0
-      (λ q. keys.1 q ∙ sym (list_any-append (eq q) (keys_of pairs) (keys_of items)))
+  length_merged pairs items laws unique = sym (length-keys_of (merged eq step pairs items))
+      ∙ length-fold (of_lawful eq laws) merges_keyed pairs items unique
 
   -- with more items there are no fewer
   pub merged_grows : (pairs : List (K × V)) (items : List (K × W)) (i : ℕ) → Lawful eq
       → IsUnique eq pairs → length (merged eq step pairs (take i items)) ≤ length
       (merged eq step pairs items)
+  unfolding merged
   merged_grows pairs items i laws unique =
-      let all : keys_of (take i items) ++ keys_of (drop i items) ≡ keys_of items =
-      sym (map-append (λ (e : K × W). e.0) (take i items) (drop i items))
-      ∙ ap keys_of (take-append-drop i items) in
       omega (
         arith,
-        length_merged pairs (take i items) laws unique,
-        length_merged pairs items laws unique,
-        distinct_grows eq (keys_of pairs ++ keys_of (take i items))
-            (keys_of (drop i items)) laws,
-        ap (distinct_count eq)
-            (append_assoc (keys_of pairs) (keys_of (take i items)) (keys_of (drop i items))
-            ∙ ap (λ l. keys_of pairs ++ l) all),
+        fold_grows (of_lawful eq laws) merges_keyed pairs items i unique,
+        length-keys_of (merged eq step pairs (take i items)),
+        length-keys_of (merged eq step pairs items),
       )
 
   -- an item that is merged when its key is new is one more
@@ -129,13 +113,16 @@ module _ {K V W : Type 0} (eq : K → K → Bool) (step : Option V → W → V) 
       → i < length items → Lawful eq → IsUnique eq pairs
       → has eq (merged eq step pairs (take i items)) (get_or items i d).0 ≡ false
       → length (merged eq step pairs (take i items)) < length (merged eq step pairs items)
+  unfolding merged
   merged_beyond pairs items i d within laws unique new =
-      let now = merged eq step pairs (take i items) in
-      let item = get_or items i d in
-      let more = ap length (merged_take pairs items i d within)
-      ∙ length_put eq now item.0 (step (at eq now item.0) item.1) in
-      let grown = merged_grows pairs items (i + 1) laws unique in
-      grind (arith, new, more, grown)
+      let before = merged eq step pairs (take i items) in
+      omega (
+        arith,
+        fold_beyond (of_lawful eq laws) merges_keyed pairs items i d within unique
+            (sym (is_some-lookup (eq (get_or items i d).0) before) ∙ new),
+        length-keys_of before,
+        length-keys_of (merged eq step pairs items),
+      )
 
   -- items that a function reads
   module _ {X : Type 0} (read : X → K × W) (pairs : List (K × V)) (items : List X) where
@@ -177,54 +164,34 @@ module _ {K V W : Type 0} (eq : K → K → Bool) (step : Option V → W → V) 
       (gave : Yields steps start items t) where
     pub merged_run : steps t None u → now ≡ merged eq step pairs items
         → WholeRun steps it (λ p. now ≡ merged eq step pairs p.items)
-    merged_run ends made = subst (λ s. WholeRun steps s (λ p. now ≡ merged eq step pairs p.items))
-        begins (total_runs steps _ _ (λ items. now ≡ merged eq step pairs items) (
-          items,
-          λ _. (u, (t, gave, ends)),
-          made,
-        ) (tt {0}))
+    merged_run ends made =
+        let run = run_of_exit steps start items t gave u ends in
+        (run.0, run.1 ∙ begins, run.2, made ∙ sym (ap (merged eq step pairs) run.3.0))
 
     module _ (x : K × W) (position : ℕ) (turns : steps t (Some x) u)
         (counted : position ≡ length items) where
-      -- the run up to and including x
-      ran : SomeRun steps it (λ p. (p.len ≡ position + 1) × (p.items ≡ items ++ x ∷ []))
-      ran =
-          let turn = run_of_turn steps start items t gave x u turns in
-          (turn.0, turn.1 ∙ begins, (turn.2.1 ∙ ap (λ n. n + 1) (sym counted), turn.2.0))
-
-      before : (xs : List (K × W)) → xs ≡ items ++ x ∷ [] → take position xs ≡ items
-      before xs is = ap (take position) is ∙ take_at items (x ∷ []) position (sym counted)
-
       pub merged_run_before : now ≡ merged eq step pairs items
           → SomeRun steps it (λ p. (p.len ≡ position + 1)
           × (now ≡ merged eq step pairs (take position p.items)))
       merged_run_before made =
-          let r = ran in
-          (r.0, r.1, (r.2.0, made ∙ sym (ap (merged eq step pairs) (before r.0.items r.2.1))))
+          let run = run_up_to steps start u items x position counted (t, gave, turns) in
+          (run.0, run.1 ∙ begins, (run.2.0, made ∙ sym (ap (merged eq step pairs) run.2.1)))
 
       pub merged_run_stops : (test : List (K × V) → K × W → Bool) → now ≡ merged eq step pairs items
           → IsTrue (all_merge eq step test pairs items) → test now x ≡ false
           → SomeRun steps it (λ p. (p.len ≡ position + 1)
           × MergeStopsAt eq step test pairs p.items position)
+      unfolding all_merge merged
       merged_run_stops test made passed fails =
-          let r = ran in
-          let whole : take (position + 1) r.0.items ≡ items ++ x ∷ [] =
-          ap (take (position + 1)) r.2.1
-          ∙ take_all (position + 1) (items ++ x ∷ [])
-          (omega (arith, length_push items x, counted)) in
-          let last : test (merged eq step pairs items) x ≡ false = ap (λ l. test l x) (sym made)
-          ∙ fails in
-          let stops : IsTrue (not (all_merge eq step test pairs (items ++ x ∷ []))) =
-          grind (arith, all_merge_push test pairs items x, last) in (
-            r.0,
-            r.1,
+          let run = run_up_to steps start u items x position counted (t, gave, turns) in
+          let has : HasPut test (merge_pair eq step) pairs items position now =
+          record { fit = passed; made = made; position_is = counted } in (
+            run.0,
+            run.1 ∙ begins,
             (
-              r.2.0,
-              (
-                ap (all_merge eq step test pairs) (before r.0.items r.2.1)
-                    ∙ passed,
-                ap (λ l. not (all_merge eq step test pairs l)) whole ∙ stops,
-              ),
+              run.2.0,
+              put_stops_at test (merge_pair eq step) pairs items position now x has fails
+                  run.0.items run.2.1 run.2.2,
             ),
           )
 
@@ -265,7 +232,7 @@ module _ {K V W : Type 0} (eq : K → K → Bool) (step : Option V → W → V) 
   each_merged_take pairs items i = (
     refl,
     λ over. ap (merged eq step pairs) (take_all i items over),
-    λ d within. merged_take pairs items i d within,
+    merged_take pairs items i,
     λ laws unique d within new. merged_beyond pairs items i d within laws unique new,
   )
 
@@ -285,29 +252,15 @@ module _ {K V W : Type 0} (eq : K → K → Bool) (step : Option V → W → V) 
       → length (merged eq step pairs (map read (take i items))) < length
       (merged eq step pairs (map read items)))
   each_merged_take_map read pairs items i =
-      let all = each_merged_take pairs (map read items) i in
-      let first = take-map read i items in
-      let long = length-map items read in (
+      let made = merged eq step pairs in
+      let all = each_merged_take pairs (map read items) i in (
         refl,
-        λ over. grind (arith, common_steps, all.1, first, long, over),
-        λ d within. grind (
-          arith,
-          common_steps,
-          all.2 (read d),
-          first,
-          take-map read (i + 1) items,
-          long,
-          within,
-        ),
-        λ laws unique d within new. grind (
-          arith,
-          common_steps,
-          all.3 laws unique (read d),
-          first,
-          long,
-          within,
-          new,
-        ),
+        all_read read items i (λ l. made l ≡ made (map read items)) all.1,
+        taken_read read items i
+            (λ first more item. made more ≡ merge_pair eq step (made first) item) all.2,
+        λ laws unique. taken_read read items i
+            (λ first more item. has eq (made first) item.0 ≡ false
+            → length (made first) < length (made (map read items))) (all.3 laws unique),
       )
 
   pub each_all_merge_take :
@@ -322,7 +275,7 @@ module _ {K V W : Type 0} (eq : K → K → Bool) (step : Option V → W → V) 
   each_all_merge_take test pairs items i = (
     refl,
     λ over. ap (all_merge eq step test pairs) (take_all i items over),
-    λ d within. all_merge_take test pairs items i d within,
+    all_merge_take test pairs items i,
   )
 
   pub each_all_merge_take_map :
@@ -337,20 +290,12 @@ module _ {K V W : Type 0} (eq : K → K → Bool) (step : Option V → W → V) 
       ≡ (all_merge eq step test pairs (map read (take i items))
       && test (merged eq step pairs (map read (take i items))) (read (get_or items i d))))
   each_all_merge_take_map read test pairs items i =
-      let all = each_all_merge_take test pairs (map read items) i in
-      let first = take-map read i items in
-      let long = length-map items read in (
+      let passes = all_merge eq step test pairs in
+      let all = each_all_merge_take test pairs (map read items) i in (
         refl,
-        λ over. grind (arith, common_steps, all.1, first, long, over),
-        λ d within. grind (
-          arith,
-          common_steps,
-          all.2 (read d),
-          first,
-          take-map read (i + 1) items,
-          long,
-          within,
-        ),
+        all_read read items i (λ l. passes l ≡ passes (map read items)) all.1,
+        taken_read read items i (λ first more item. passes more
+            ≡ (passes first && test (merged eq step pairs first) item)) all.2,
       )
 
 -- a counter

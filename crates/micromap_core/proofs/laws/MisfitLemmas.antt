@@ -8,16 +8,14 @@ use Rattle.std.specs.Iterator.Adapters.{copied_source, copied_steps}
 use Rattle.std.specs.Iterator.Runs.{EveryRun, ItemsAre, Run, SomeRun, WholeRun, YieldsInOrder, YieldsRefsInOrder}
 use Rattle.std.specs.Result.{OnOk}
 use Rattle.std.proofs.iter.runs.Adapters.{copied_runs}
-use Rattle.std.proofs.lemmas.Bool.{leb-false, not-true}
 use Rattle.std.proofs.lemmas.Grind.{common_steps}
-use Rattle.std.proofs.lemmas.List.{same_lists, take-map}
+use Rattle.std.proofs.lemmas.List.{same_lists}
 use Rattle.std.proofs.lemmas.Result.{IfErr-weaker}
 use Rattle.std.specs.Map.{keys_of}
 use Rattle.std.specs.Set.{distinct_count}
 use Rattle.micromap_core.specs.Build.{pair_fits, put_pair, MisfitIn, PutsBefore, PutsEach, PutsUpTo, StopsAt, put_all}
 use Rattle.micromap_core.specs.Equalities.{Lawful}
-use Rattle.micromap_core.proofs.laws.CountLaws.{distinct_prefix, put_all_grows}
-use Rattle.micromap_core.proofs.BuildLemmas.{many_prefix, pairs_keyed, each_fits-count}
+use Rattle.micromap_core.proofs.BuildLemmas.{many_left, many_taken, pairs_keyed}
 use Rattle.std.proofs.lemmas.Map.Entries.{length-keys_of}
 use Rattle.micromap_core.specs.Pairs.{IsContent}
 use Rattle.micromap_core.proofs.laws.Equalities.{of_lawful}
@@ -126,16 +124,7 @@ module _ {K V : Type 0} (eq : K → K → Bool) (N : ℕ) where
   misfit_many : (items : List (K × V)) (at : ℕ) → Lawful eq → MisfitIn eq N [] items at
       → N < distinct_count eq (keys_of items)
   misfit_many items at laws misfit =
-      let many : N < distinct_count eq (keys_of (take (at + 1) items)) =
-      many_prefix (of_lawful eq laws) (pairs_keyed eq N) (take (at + 1) items) misfit.1 in
-      let same : keys_of (take (at + 1) items) ≡ take (at + 1) (keys_of items) =
-      sym (take-map (λ p. p.0) (at + 1) items) in
-      omega (
-        arith,
-        many,
-        ap (distinct_count eq) same,
-        distinct_prefix eq (keys_of items) (at + 1) laws,
-      )
+      many_taken (of_lawful eq laws) (pairs_keyed eq N) items (at + 1) misfit.1
 
   -- the facts are those of `misfit_in`, and that the equality is lawful
   pub many_in : {S E Y : Type 0} {steps : S → Option (K × V) → S → Type 0} (rest : S → List (K × V))
@@ -155,17 +144,9 @@ module _ {K V : Type 0} {eq : K → K → Bool} {N : ℕ} {pairs : List (K × V)
   pub stopped_many : (items : List (K × V)) (at : ℕ) → MisfitIn eq N pairs items at
       → N < length (put_all eq pairs items)
   stopped_many items at stops =
-      let first = take (at + 1) items in
-      let fit = each_fits-count (of_lawful eq content.lawful)
-      (pairs_keyed eq N) pairs first content.unique
-      (omega (arith, length-keys_of pairs, content.bounded)) in
-      let many = leb-false _ N (sym fit ∙ not-true _ stops.1) in
-      omega (
-        arith,
-        many,
-        length-keys_of (put_all eq pairs first),
-        put_all_grows eq pairs items (at + 1) content.lawful content.unique,
-      )
+      subst (λ n. N < n) (length-keys_of (put_all eq pairs items))
+      (many_left (of_lawful eq content.lawful) (pairs_keyed eq N) pairs items (at + 1) content.unique
+      (omega (arith, length-keys_of pairs, content.bounded)) stops.1)
 
   pub refused_is_many : {S E Y : Type 0} {steps : S → Option (K × V) → S → Type 0}
       (rest : S → List (K × V)) {s : S} {xs : List (K × V)} (new : List (K × V)) (at : E → ℕ)

@@ -1,5 +1,5 @@
 -- For callers: the sum of a map's values after a change, and the sum of what a function makes of each value. No law has
--- a premise. The ruleset `sum_laws` has the laws that a search needs.
+-- a premise. The ruleset, a part of `maps` of `Rules`, has the laws that a search needs.
 use Rattle.std.proofs.Common.{◌≡◌, ℕ, ◌+◌, ◌≤◌, Bool, List, Option, unwrap_or, refl, ap, sym, ◌∙◌, arith, sum, sum_by, option_map}
 use Rattle.std.specs.Map.{lookup, values_of}
 use Rattle.std.proofs.lemmas.List.{map_push}

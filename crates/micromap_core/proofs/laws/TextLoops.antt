@@ -1,5 +1,5 @@
 -- For callers: loops over a map of texts, and a map of texts that a loop counts or builds, seen by their texts. The
--- ruleset `text_loops` is all that a loop over a map of texts needs.
+-- ruleset, all that a loop over a map of texts needs, is a part of `loops` of `Rules`.
 use Rattle.std.proofs.Common.{◌≡◌, ℕ, Bool, Bor, List, [], ◌∷◌, ◌++◌, Option, filter, fold, map, String, refl, ap, sym}
 use Rattle.std.proofs.Common.{◌∙◌, append-nil, arith, bytes_eq, string_bytes, string_eq}
 use Rattle.std.proofs.lemmas.List.{length-append}
@@ -12,7 +12,7 @@ use Rattle.micromap_core.specs.Texts.{key_strs, key_texts, str_eq, texts_by}
 use Rattle.micromap_core.proofs.laws.Equalities.{equalities, lawful_bytes}
 use Rattle.micromap_core.proofs.laws.LoopLaws.{copied_next, length_le_put_all, unique_map}
 use Rattle.micromap_core.proofs.laws.MapLaws.{length_put, not_fits}
-use Rattle.micromap_core.proofs.laws.TextViews.{at_key_texts, at_made, has_texts, length_texts, texts_empty, texts_put}
+use Rattle.micromap_core.proofs.laws.TextViews.{at_key_texts, has_texts, length_texts, texts_empty, texts_put}
 use Rattle.micromap_core.proofs.laws.TextViews.{unique_texts, values_texts, compares_by, ComparesBy}
 use Rattle.micromap_core.proofs.Views.{filter-map}
 

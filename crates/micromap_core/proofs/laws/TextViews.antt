@@ -118,11 +118,11 @@ module _ {K V W : Type 0} (see : K → List ℕ) (read : V → W) where
           ∙ ap (has bytes_eq (texts_by see read pairs)) is,
     )
 
-    pub at_made : (pairs : List (K × V)) (bs : List ℕ) → see k ≡ bs
+    pub at_made_by : (pairs : List (K × V)) (bs : List ℕ) → see k ≡ bs
         → (at bytes_eq (texts_by see read pairs) bs ≡ at bytes_eq (texts_by see read pairs) bs)
         × (option_map read (at (on see bytes_eq) pairs k)
         ≡ at bytes_eq (texts_by see read pairs) bs)
-    at_made pairs bs is = (
+    at_made_by pairs bs is = (
       refl,
       sym (at_texts (see k) pairs)
           ∙ ap (at bytes_eq (texts_by see read pairs)) is,
@@ -167,6 +167,14 @@ module _ {K V W : Type 0} (see : K → List ℕ) (read : V → W) where
   pub texts_empty : texts_by see read [] ≡ []
   unfolding texts_by
   texts_empty = refl
+
+-- which a search finds for a `String` as key
+pub at_made : {Z V W : Type 0} (read : V → W) (k : String Z) (pairs : List (String Z × V)) (bs : List ℕ)
+    → string_bytes k ≡ bs → (at bytes_eq (texts_by string_bytes read pairs) bs
+    ≡ at bytes_eq (texts_by string_bytes read pairs) bs)
+    × (option_map read (at string_eq pairs k)
+    ≡ at bytes_eq (texts_by string_bytes read pairs) bs)
+at_made read k pairs bs is = at_made_by string_bytes read k pairs bs is
 
 -- values as they are
 module _ {K V : Type 0} (see : K → List ℕ) (pairs : List (K × V)) where
@@ -324,6 +332,7 @@ pub ruleset text_views = (
   texts_take_out,
   has_texts,
   at_made,
+  at_made_by,
   unique_texts,
   texts_front,
   texts_drop,

@@ -33,7 +33,7 @@ impl<'a, K: Eq, V, const N: usize> OccupiedIn<'a, Map<K, V, N>> {
         ensures content { (v : V) → IsContent K.eq N (entry_put (Occupied self.old) v) }
     {
         let index = self.index;
-        self.map.value_at(index)
+        self.map.value_at_mut(index)
     }
 
     /// Converts the entry into a mutable reference to the value, which lives as long as the map's borrow.
@@ -45,7 +45,7 @@ impl<'a, K: Eq, V, const N: usize> OccupiedIn<'a, Map<K, V, N>> {
         ensures content { (v : V) → IsContent K.eq N (entry_put (Occupied self.entry) v) }
     {
         let OccupiedIn { map, index } = self;
-        map.value_at(index)
+        map.value_at_mut(index)
     }
 
     /// Sets the value, and returns the old value.

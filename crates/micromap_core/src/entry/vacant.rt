@@ -46,7 +46,7 @@ impl<'a, K: Eq + Drop, V: Drop, const N: usize> VacantIn<'a, K, Map<K, V, N>> {
         let VacantIn { map, key } = self;
         let index = map.len();
         map.push_pair(key, value);
-        map.value_at(index)
+        map.value_at_mut(index)
     }
 
     /// Inserts the held key with `value`, and returns its occupied entry.

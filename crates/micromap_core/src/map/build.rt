@@ -5,7 +5,7 @@ ghost use Rattle.std.specs.Bool.{then_some};
 ghost use Rattle.std.specs.Iterator.{Drains, IsFinite, UpTo};
 ghost use Rattle.std.specs.Map.{keys_of};
 ghost use Rattle.std.specs.Set.{distinct_count};
-ghost use Rattle.micromap_core.specs.Build.{all_fit, build, most_items, put_or_refuse, put_pair_if_fits, AllItems, ItemsUpTo, MisfitIn, PutsAll, PutsBefore};
+ghost use Rattle.micromap_core.specs.Build.{all_fit, build, count_or_refuse, most_items, put_or_refuse, put_pair_if_fits, AllItems, ItemsUpTo, MisfitIn, PutsAll, PutsBefore};
 ghost use Rattle.micromap_core.specs.Pairs.{AreContents, IsContent, IsUnique};
 
 use super::Map;
@@ -113,6 +113,7 @@ impl<K: Eq + Drop, V: Drop, const N: usize> Map<K, V, N> {
         map.try_extend(items)?;
         Ok(map)
     }
+
     // Inserts those of the items that fit, and returns whether all did.
     #[inline]
     fn put_fitting<I: Iterator<Item = (K, V)>>(&mut self, items: I) -> bool
@@ -145,13 +146,14 @@ impl<K: Eq + Drop, V: Drop, const N: usize> Map<K, V, N> {
             × (result ≡ fold (put_or_refuse K.eq N) (Some []) xs) }
         ensures content { IfSome result (IsContent K.eq N) }
     {
-        let mut map = Map::new();
-        if map.put_fitting(items) {
-            Some(map)
+        let mut whole = Map::new();
+        if whole.put_fitting(items) {
+            Some(whole)
         } else {
             None
         }
     }
+
     /// Creates a map of those items of an iterator that fit, inserted one after the other as `checked_insert` does.
     ///
     /// Requires that the iterator ends. An item with a new key doesn't fit a full map: it is dropped, and the next ones
@@ -163,9 +165,9 @@ impl<K: Eq + Drop, V: Drop, const N: usize> Map<K, V, N> {
             × (result ≡ fold (put_pair_if_fits K.eq N) [] xs) }
         ensures content { IsContent K.eq N result }
     {
-        let mut map = Map::new();
-        map.put_fitting(items);
-        map
+        let mut fitting = Map::new();
+        fitting.put_fitting(items);
+        fitting
     }
 
     /// Returns the map with all items of an iterator, inserted one after the other as `insert` does, or `None` if they
@@ -201,5 +203,37 @@ impl<K: Eq + Drop, V: Drop, const N: usize> Map<K, V, N> {
     {
         map.put_fitting(items);
         map
+    }
+}
+
+impl<K: Eq + Drop, const N: usize> Map<K, usize, N> {
+    /// Creates a map of an iterator's distinct items, each with the number of times that it came, or returns `None` if
+    /// more than `N` are distinct.
+    ///
+    /// Requires that the iterator ends, after fewer than `usize::MAX` items. Takes every item, also after one that doesn't
+    /// fit. Each distinct item is in the order in which it first came. Makes one scan for each item.
+    ///
+    /// ```
+    /// let votes = ["foo", "bar", "foo"];
+    /// let counts: Option<Map<&str, usize, 2>> = Map::counts_of(votes.into_iter());
+    /// assert_eq!(rt; counts, Some(Map::from([("foo", 2), ("bar", 1)])));
+    /// ```
+    pub fn counts_of<I: Iterator<Item = K>>(items: I) -> Option<Self>
+        requires can { I.can_next items }
+        requires ends { UpTo (I.remaining items) most_items }
+        ensures ran { (xs : List K) × (⊤ → Drains I.next_gives items xs)
+            × (result ≡ fold (count_or_refuse K.eq N) (Some []) xs) }
+        ensures content { IfSome result (IsContent K.eq N) }
+    {
+        let mut counts = Map::new();
+        let mut all_fit = true;
+        for item in items {
+            match counts.index_of(&item) {
+                Some(index) => *counts.value_at_mut(index) += 1,
+                None if counts.has_room() => counts.push_pair(item, 1),
+                None => all_fit = false,
+            }
+        }
+        if all_fit { Some(counts) } else { None }
     }
 }

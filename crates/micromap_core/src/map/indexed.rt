@@ -73,14 +73,14 @@ impl<K: Eq, V, const N: usize> Map<K, V, N> {
 
     /// Returns a mutable reference to the value at `index`.
     #[inline]
-    pub(crate) fn value_at(&mut self, index: usize) -> &mut V
+    pub(crate) fn value_at_mut(&mut self, index: usize) -> &mut V
         requires { index < length self.old }
         ensures* writes_back { sem 𝓛 (lends_value_at K.row V.row N.row K.eq self.entry index result) }
         ensures value { option_map (λ p. p.1) (slice_get self.old index) ≡ Some result.now }
         ensures content { (v : V) → IsContent K.eq N (with_value_at self.old index v) }
     {
         let _content = self.len();
-        self.pairs.value_at(index)
+        self.pairs.value_at_mut(index)
     }
 
     /// Calls `visit` on the pair at `index`.
@@ -105,18 +105,7 @@ impl<K: Eq, V, const N: usize> Map<K, V, N> {
         ensures pairs { self.new ≡ with_value_at self.old index value }
         ensures content { IsContent K.eq N self.new }
     {
-        mem::replace(self.value_at(index), value)
-    }
-
-    /// Sets the value of the key stored at `index`, and returns the old value.
-    #[inline]
-    pub(crate) fn put_at(&mut self, index: usize, key: &K, value: V) -> V
-        requires { index_of K.eq self.old key.now ≡ Some index }
-        ensures old { at K.eq self.old key.now ≡ Some result }
-        ensures pairs { self.new ≡ put K.eq self.old key.now value }
-        ensures content { IsContent K.eq N self.new }
-    {
-        self.replace_value_at(index, value)
+        mem::replace(self.value_at_mut(index), value)
     }
 
     /// Replaces the key at `index` and its value, and returns the old pair.

@@ -19,7 +19,7 @@ impl<K: Eq + Drop, V: Drop, const N: usize> Map<K, V, N> {
         ensures content { AreContents K.eq N self.old self.new }
     {
         match self.index_of(&key) {
-            Some(index) => Some(self.put_at(index, &key, value)),
+            Some(index) => Some(self.replace_value_at(index, value)),
             None => {
                 self.push_pair(key, value);
                 None
@@ -77,7 +77,7 @@ impl<K: Eq + Drop, V: Drop, const N: usize> Map<K, V, N> {
         ensures content { AreContents K.eq N self.old self.new }
     {
         match self.index_of(&key) {
-            Some(index) => Some(Some(self.put_at(index, &key, value))),
+            Some(index) => Some(Some(self.replace_value_at(index, value))),
             None if self.has_room() => {
                 self.push_pair(key, value);
                 Some(None)

@@ -34,7 +34,7 @@ impl<K: Eq, V, const N: usize> Map<K, V, N> {
         ensures content { IsContent K.eq N self.old }
     {
         match self.index_of(key) {
-            Some(index) => Some(self.value_at(index)),
+            Some(index) => Some(self.value_at_mut(index)),
             None => None,
         }
     }

@@ -38,7 +38,7 @@ impl<K: Eq, V, const N: usize> Map<K, V, N> {
         ensures content { IsContent K.eq N self.old }
     {
         match self.index_of(probe) {
-            Some(index) => Some(self.value_at(index)),
+            Some(index) => Some(self.value_at_mut(index)),
             None => None,
         }
     }
@@ -96,7 +96,7 @@ impl<K: Eq, V, const N: usize> Map<K, V, N> {
         ensures content { IsContent K.eq N self.old }
     {
         match self.index_of(probe) {
-            Some(index) => self.value_at(index),
+            Some(index) => self.value_at_mut(index),
             None => unreachable!(),
         }
     }

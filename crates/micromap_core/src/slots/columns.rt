@@ -117,7 +117,7 @@ impl<K, V, const N: usize> Columns<K, V, N> {
 
     /// Returns a mutable reference to the value at `index`.
     #[inline]
-    pub(crate) fn value_at(&mut self, index: usize) -> &mut V
+    pub(crate) fn value_at_mut(&mut self, index: usize) -> &mut V
         requires { index < length self.old }
         ensures* writes_back { sem 𝓛 (lends_value_in K.row V.row N.row self.entry index result) }
         ensures value { option_map (λ p. p.1) (slice_get self.old index) ≡ Some result.now }

@@ -1,5 +1,5 @@
 //! Loops that merge a list or a map into a map with texts as keys, known by their bytes.
-#![tactic(auto, using(micromap_core::proofs::laws::MergeLaws::merge_laws, micromap_core::proofs::laws::TextLoops::text_loops))]
+#![tactic(auto, using(micromap::proofs::Rules::lists, micromap::proofs::Rules::loops))]
 
 ghost use Rattle.std.specs.Prelude.{◌≡◌, IfOk};
 ghost use Rattle.std.specs.Bool.{OnTrue};

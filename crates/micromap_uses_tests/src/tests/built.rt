@@ -1,5 +1,5 @@
 //! Loops over a map that build another collection, or add to one.
-#![tactic(auto, using(micromap_core::proofs::laws::LoopLaws::loop_laws))]
+#![tactic(auto, using(micromap::proofs::Rules::loops))]
 
 ghost use Rattle.std.specs.Prelude.{◌≡◌, ◌<◌, ◌+◌, IfOk, IsFalse, filter, length, map, min, nat_eq, nat_lt};
 ghost use Rattle.std.specs.Bool.{OnTrue};
@@ -24,7 +24,7 @@ fn copied<const N: usize, const M: usize>(
 }
 
 // The keys whose value is over the limit, as a set, in their order.
-#[tactic(auto, using(micromap_core::proofs::laws::LoopLaws::loop_laws, micromap::proofs::laws::SetLoopLaws::set_loop_laws))]
+#[tactic(auto, using(micromap::proofs::Rules::loops))]
 fn keys_over<const N: usize>(map: &Map<u8, u8, N>, limit: u8) -> Set<u8, N>
     ensures { result ≡ keys_of (filter (λ p. nat_lt limit p.1) map.now) }
 {

@@ -1,9 +1,10 @@
 //! Loops over a set, a list or an operation on two sets that build another set, add to one or take items out of one.
-#![tactic(auto, using(micromap::proofs::laws::SetLoopLaws::set_loop_laws))]
+#![tactic(auto, using(micromap::proofs::Rules::loops))]
 
-ghost use Rattle.std.specs.Prelude.{◌≡◌, ◌↔◌, ◌<◌, IsFalse, IsNone, filter, length, nat_eq, nat_lt};
+ghost use Rattle.std.specs.Prelude.{◌≡◌, ◌↔◌, ◌<◌, [], IsFalse, IsNone, filter, fold, length, nat_eq, nat_lt};
 ghost use Rattle.std.specs.Bool.{OnTrue};
 ghost use Rattle.std.specs.Option.{IfSome};
+ghost use Rattle.micromap.specs.Items.{put_item_if_fits};
 ghost use Rattle.micromap.specs.Operations.{difference, union};
 
 use micromap::Set;
@@ -31,6 +32,16 @@ fn remove_all_items<const N: usize, const M: usize>(set: &mut Set<u8, N>, other:
 {
     for item in other {
         set.remove(item);
+    }
+}
+
+// Takes the items out of a set, one after the other, and puts those that fit into another.
+fn pour<const N: usize, const M: usize>(from: &mut Set<u8, N>, into: &mut Set<u8, M>)
+    ensures emptied { from.new ≡ [] }
+    ensures poured { into.new ≡ fold (put_item_if_fits nat_eq M) into.old from.old }
+{
+    while let Some(item) = from.pop_first() {
+        into.checked_insert(item);
     }
 }
 

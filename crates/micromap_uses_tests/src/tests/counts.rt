@@ -41,7 +41,7 @@ fn single_items<const N: usize, const M: usize, const L: usize>(
 }
 
 // The distinct numbers of a list, in the order in which each first came, or `None` if there are more than `N`.
-#[tactic(auto, using(micromap::proofs::laws::ItemCounts::item_counts, micromap_core::proofs::laws::Equalities::equalities))]
+#[tactic(auto, using(micromap::proofs::Rules::lists))]
 fn distinct_items<const N: usize>(items: &[u8]) -> Option<Set<u8, N>>
     ensures items { IfSome result (λ set. set ≡ distinct nat_eq items.now) }
     ensures refused { IsNone result ↔ (N < distinct_count nat_eq items.now) }

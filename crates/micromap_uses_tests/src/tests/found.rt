@@ -1,5 +1,5 @@
 //! Callers of the laws about what a look-up or a search says of another.
-#![tactic(auto, using(micromap::proofs::Rules::caller, micromap::proofs::laws::FoundLaws::found_laws))]
+#![tactic(auto, using(micromap::proofs::Rules::caller, micromap::proofs::Rules::maps))]
 
 ghost use Rattle.std.specs.Prelude.{◌≡◌, IfSome, IsFalse, IsNone, IsTrue, None, Some, nat_eq, nat_lt};
 ghost use Rattle.std.specs.List.{find, list_all};
@@ -54,7 +54,7 @@ fn first_over<const N: usize>(amounts: &Map<u8, u8, N>, limit: u8) -> Option<(u8
 }
 
 // The same: `get` finds its amount at its key, and where there is none, no pair that a key finds is over the limit.
-#[tactic(auto, using(micromap::proofs::laws::FoundLaws::found_laws))]
+#[tactic(auto, using(micromap::proofs::Rules::maps))]
 fn over<const N: usize>(amounts: &Map<u8, u8, N>, limit: u8) -> Option<(u8, u8)>
     ensures found { IfSome result (λ p. at nat_eq amounts.now p.0 ≡ Some p.1) }
     ensures over { IfSome result (λ p. IsTrue (nat_lt limit p.1)) }
@@ -72,7 +72,7 @@ fn are_below<const N: usize>(amounts: &Map<u8, u8, N>, limit: u8) -> bool
 }
 
 // The same, of each value that `get` finds.
-#[tactic(auto, using(micromap::proofs::laws::FoundLaws::found_laws))]
+#[tactic(auto, using(micromap::proofs::Rules::maps))]
 fn each_below<const N: usize>(amounts: &Map<u8, u8, N>, limit: u8) -> bool
     ensures { IsTrue result → (k v : _) → at nat_eq amounts.now k ≡ Some v → IsTrue (nat_lt v limit) }
 {
@@ -87,7 +87,7 @@ fn are_small<const N: usize>(items: &Set<u8, N>, limit: u8) -> bool
 }
 
 // The same, of each member.
-#[tactic(auto, using(micromap::proofs::laws::FoundLaws::found_items))]
+#[tactic(auto, using(micromap::proofs::Rules::sets))]
 fn each_small<const N: usize>(items: &Set<u8, N>, limit: u8) -> bool
     ensures { IsTrue result → (x : _) → IsTrue (is_member nat_eq items.now x) → IsTrue (nat_lt x limit) }
 {

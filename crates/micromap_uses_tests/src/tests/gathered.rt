@@ -1,8 +1,7 @@
-//! Maps that a loop builds of a list of texts, and the sum of a map's values, known by their bytes.
-#![tactic(auto, using(micromap_core::proofs::laws::MapLaws::map_laws, micromap_core::proofs::laws::TextViews::text_views, micromap_core::proofs::laws::CountLaws::count_laws, micromap_core::proofs::laws::TextLoops::text_loops))]
+//! Maps that a loop builds of a list of texts, known by their bytes.
+#![tactic(auto, using(micromap::proofs::Rules::maps, micromap::proofs::Rules::texts, micromap::proofs::Rules::lists, micromap::proofs::Rules::loops))]
 
-ghost use Rattle.std.specs.Prelude.{◌≡◌, ◌↔◌, ◌<◌, ◌^◌, IfOk, IsNone, length, map, sum};
-ghost use Rattle.std.specs.Map.{values_of};
+ghost use Rattle.std.specs.Prelude.{◌≡◌, ◌↔◌, ◌<◌, IfOk, IsNone, length, map};
 ghost use Rattle.std.specs.Option.{IfSome};
 ghost use Rattle.std.specs.Set.{distinct_count};
 ghost use Rattle.std.specs.Str.{bytes_eq};
@@ -55,18 +54,6 @@ pub(super) fn amounts_of<const N: usize>(
     Ok(Some(amounts))
 }
 
-// The sum of all amounts.
-fn total<const N: usize>(amounts: &Map<String, u64, N>) -> u64
-    requires { sum (values_of (key_texts amounts.now)) < 2 ^ 64 }
-    ensures { result ≡ sum (values_of (key_texts amounts.now)) }
-{
-    let mut total = 0;
-    for amount in amounts.values() {
-        total += *amount;
-    }
-    total
-}
-
 #[tactic(auto)]
 mod tests {
     use super::*;
@@ -80,15 +67,6 @@ mod tests {
             counted.is_some_and(|m| m.get_by(&Text("be")) == Some(&2)
                 && m.get_by(&Text("or")) == Some(&1))
         );
-        Ok(())
-    }
-
-    #[test]
-    #[tactic(auto, using(micromap_core::proofs::laws::MapLaws::map_laws, micromap_core::proofs::laws::TextViews::text_views, micromap_core::proofs::laws::TextLoops::text_loops))]
-    fn amounts_add_up(rt: HostRuntime) -> Result<(), AllocError> {
-        let mut amounts = Map::<String, u64, 1>::new();
-        amounts.insert(String::from_str(rt.alloc(), "a")?, 7);
-        assert_eq!(rt; total(&amounts), 7);
         Ok(())
     }
 }

@@ -136,7 +136,7 @@ fn is_among_keys<K: Eq, V, const N: usize>(map: &Map<K, V, N>, key: &K) -> bool
 }
 
 // Puts pairs one after the other, up to the first that doesn't fit. If one doesn't, they would be more than `N`.
-#[tactic(auto, using(micromap_core::proofs::laws::CountLaws::count_laws, micromap_core::proofs::laws::MapLaws::map_laws))]
+#[tactic(auto, using(micromap::proofs::Rules::lists, micromap::proofs::Rules::maps))]
 fn put_each<K: Eq + Copy + Drop, const N: usize>(map: &mut Map<K, u8, N>, items: &[(K, u8)]) -> bool
     ensures put { OnTrue result (map.new ≡ put_all K.eq map.old items.now) }
     ensures refused { IsFalse result → N < length (put_all K.eq map.old items.now) }
@@ -167,7 +167,7 @@ fn put_each_then_read<K: Eq + Copy + Drop, const N: usize>(
 }
 
 // Adds items one after the other, up to the first that doesn't fit. If one doesn't, they would be more than `N`.
-#[tactic(auto, using(micromap::proofs::laws::ItemCounts::item_counts, micromap::proofs::laws::SetLaws::set_laws))]
+#[tactic(auto, using(micromap::proofs::Rules::lists, micromap::proofs::Rules::sets))]
 fn add_each<T: Eq + Copy + Drop, const N: usize>(set: &mut Set<T, N>, items: &[T]) -> bool
     ensures added { OnTrue result (set.new ≡ put_all_items T.eq set.old items.now) }
     ensures refused { IsFalse result → N < length (put_all_items T.eq set.old items.now) }
@@ -197,7 +197,7 @@ fn put_set_items<const N: usize>(set: &mut Set<u8, N>, items: Vec<u8>) -> Result
 }
 
 // Adds to a number, and so to the sum.
-#[tactic(auto, using(micromap_core::proofs::laws::SumLaws::sum_laws))]
+#[tactic(auto, using(micromap::proofs::Rules::maps))]
 fn add_one<K: Eq + Drop, const N: usize>(map: &mut Map<K, u64, N>, key: K)
     requires fits { IsTrue (fits K.eq N map.old key) }
     requires sum { sum (values_of map.old) < 2 ^ 64 - 1 }
@@ -219,7 +219,7 @@ struct Stock {
 }
 
 // Takes an article out, and returns how many of it there were.
-#[tactic(auto, using(micromap_core::proofs::laws::SumLaws::sum_laws))]
+#[tactic(auto, using(micromap::proofs::Rules::maps))]
 fn clear_out<K: Eq + Drop, const N: usize>(map: &mut Map<K, Stock, N>, key: &K) -> u64
     ensures { sum_by (λ s. s.count) (values_of map.new) + result ≡ sum_by (λ s. s.count) (values_of map.old) }
 {

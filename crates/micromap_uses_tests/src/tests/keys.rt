@@ -1,6 +1,6 @@
 //! Callers of laws of loops and keys, none of which has a proof: a map and a set of its keys, what is built of a map's
 //! pairs, the first pair, and room.
-#![tactic(auto, using(micromap::proofs::Rules::caller, micromap_core::proofs::laws::LoopLaws::loop_laws, micromap::proofs::laws::SetLoopLaws::set_loop_laws))]
+#![tactic(auto, using(micromap::proofs::Rules::caller, micromap::proofs::Rules::loops))]
 
 ghost use Rattle.std.specs.Prelude.{◌≡◌, ◌<◌, length, nat_eq, IfSome, IsTrue};
 ghost use Rattle.std.specs.Map.{keys_of};

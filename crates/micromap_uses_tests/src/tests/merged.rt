@@ -1,5 +1,5 @@
 //! Loops that merge values into a map, each proved by an invariant and rulesets.
-#![tactic(auto, using(micromap_core::proofs::laws::MergeLaws::merge_laws, micromap_core::proofs::laws::Equalities::equalities))]
+#![tactic(auto, using(micromap::proofs::Rules::lists))]
 
 ghost use Rattle.std.specs.Prelude.{◌≡◌, ◌↔◌, ◌<◌, Some, [], filter, length, map, nat_eq, take, IfErr, IsFalse, IsNone, OnOk};
 ghost use Rattle.std.specs.Bool.{OnTrue};
@@ -18,7 +18,7 @@ use micromap::{Map, Overfull};
 use std::alloc::AllocError;
 
 // Adds each amount to its number's total. If there is no room for a number, there would be more than `N`.
-#[tactic(auto, using(micromap::proofs::laws::MergedKeys::merged_keys, micromap_core::proofs::laws::Equalities::equalities))]
+#[tactic(auto, using(micromap::proofs::Rules::lists))]
 fn add_amounts<const N: usize>(totals: &mut Map<u8, u32, N>, amounts: &[(u8, u32)]) -> bool
     ensures totals { OnTrue result (totals.new ≡ merged nat_eq saturated_sum totals.old amounts.now) }
     ensures refused { IsFalse result → N < length (merged nat_eq saturated_sum totals.old amounts.now) }
@@ -84,7 +84,7 @@ fn keep_greatest<const N: usize>(greatest: &mut Map<u8, u32, N>, amounts: &[(u8,
 }
 
 // Adds the amounts before the first whose number has no room, or whose total has more than 32 bits, and returns its index.
-#[tactic(auto, using(micromap_core::proofs::laws::MergeLaws::merge_laws, micromap_core::proofs::laws::Equalities::equalities, std::proofs::lemmas::Grind::common_steps))]
+#[tactic(auto, using(micromap::proofs::Rules::lists, std::proofs::lemmas::Grind::common_steps))]
 fn add_before<const N: usize>(
     totals: &mut Map<u8, u32, N>,
     amounts: &[(u8, u32)],
@@ -109,7 +109,7 @@ fn add_before<const N: usize>(
 }
 
 // How often each number comes, or `None` if there are more than `N`, or one comes more than 255 times.
-#[tactic(auto, using(micromap_core::proofs::laws::MergeLaws::merge_laws, micromap_core::proofs::laws::MergeLaws::merged_counts, micromap_core::proofs::laws::Equalities::equalities))]
+#[tactic(auto, using(micromap::proofs::Rules::lists))]
 fn count_numbers<const N: usize>(amounts: &[(u8, u32)]) -> Option<Map<u8, u8, N>>
     ensures { IfSome result (λ numbers. numbers ≡ counts nat_eq (keys_of amounts.now)) }
 {

@@ -1,6 +1,6 @@
 //! Texts that go from one collection to another: a pair that moves between two maps, a word of which a set gets a copy,
 //! and clones.
-#![tactic(auto, using(micromap::proofs::Rules::caller, micromap_core::proofs::laws::TextViews::texts_clone))]
+#![tactic(auto, using(micromap::proofs::Rules::caller, micromap::proofs::Rules::comparison))]
 
 ghost use Rattle.std.specs.Prelude.{◌≡◌, ◌+◌, ◌^◌, ◌-◌, IfOk, None, is_some, if◌then◌else◌, min, unwrap_or};
 ghost use Rattle.std.specs.Option.{option_map_or};

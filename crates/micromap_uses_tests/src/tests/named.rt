@@ -1,5 +1,5 @@
 //! Loops over a map with texts as keys, and closures that change one, known by their bytes.
-#![tactic(auto, using(micromap_core::proofs::laws::TextLoops::text_loops, micromap_core::proofs::laws::ClosureLaws::closure_laws))]
+#![tactic(auto, using(micromap::proofs::Rules::loops, micromap::proofs::Rules::closures))]
 
 ghost use Rattle.std.specs.Prelude.{◌≡◌, ◌<◌, ◌+◌, IfOk, IsFalse, filter, length, map, min, nat_lt};
 ghost use Rattle.std.specs.Bool.{OnTrue};

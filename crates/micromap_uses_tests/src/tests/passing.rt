@@ -1,5 +1,5 @@
 //! Loops over a list that ask whether all of it, or any of it, is stored.
-#![tactic(auto, using(micromap_core::proofs::laws::TextViews::text_views, micromap::proofs::laws::SetTextViews::set_texts, std::proofs::lemmas::Grind::common_steps))]
+#![tactic(auto, using(micromap::proofs::Rules::texts, std::proofs::lemmas::Grind::common_steps))]
 
 ghost use Rattle.std.specs.Prelude.{◌≡◌, nat_eq};
 ghost use Rattle.std.specs.List.{list_all, list_any};

@@ -1,5 +1,5 @@
 //! Callers that compare maps and sets of texts, in terms of their bytes.
-#![tactic(auto, using(micromap_core::proofs::laws::TextViews::text_views, micromap::proofs::laws::SetTextViews::set_text_views))]
+#![tactic(auto, using(micromap::proofs::Rules::texts, micromap::proofs::Rules::comparison))]
 
 ghost use Rattle.std.specs.Prelude.{◌↔◌, IsTrue, List, ℕ, nat_eq};
 ghost use Rattle.std.specs.Str.{bytes_eq};

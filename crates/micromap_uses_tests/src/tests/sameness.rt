@@ -1,5 +1,5 @@
 //! Callers of what a comparison of two maps promises, and of the laws about lists with unequal keys or items.
-#![tactic(auto, using(micromap::proofs::Rules::caller, micromap_core::proofs::laws::ComparisonLaws::same_laws))]
+#![tactic(auto, using(micromap::proofs::Rules::caller, micromap::proofs::Rules::comparison))]
 
 ghost use Rattle.std.specs.Prelude.{◌≡◌, ◌↔◌, ◌≤◌, List, length, nat_eq, true, false, IsTrue, IsFalse, IsNone};
 ghost use Rattle.std.specs.Bool.{OnTrue};

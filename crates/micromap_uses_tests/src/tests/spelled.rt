@@ -1,5 +1,5 @@
 //! Sets of texts that a loop makes of other texts, known by their bytes.
-#![tactic(auto, using(micromap::proofs::laws::SetTextLoops::set_text_loops))]
+#![tactic(auto, using(micromap::proofs::Rules::loops))]
 
 ghost use Rattle.std.specs.Prelude.{◌≡◌, ◌↔◌, ◌<◌, ◌++◌, IfOk, IsNone, codes, filter, length, map, nat_eq, nat_lt};
 ghost use Rattle.std.specs.List.{starts_with};
@@ -154,7 +154,7 @@ fn remove_listed<const N: usize>(names: &mut Set<String, N>, list: &[&str])
 }
 
 // The set of these names, or `None` if there are more than `N`.
-#[tactic(auto, using(micromap::proofs::laws::ItemCounts::item_counts, micromap::proofs::laws::SetTextViews::set_texts))]
+#[tactic(auto, using(micromap::proofs::Rules::lists, micromap::proofs::Rules::texts))]
 fn set_of<const N: usize>(
     alloc: Global,
     names: &[&str],

@@ -1,5 +1,5 @@
 //! Loops that count what passes a test.
-#![tactic(auto, using(micromap::proofs::laws::SetTextLoops::set_text_loops, std::proofs::lemmas::Grind::common_steps))]
+#![tactic(auto, using(micromap::proofs::Rules::loops, std::proofs::lemmas::Grind::common_steps))]
 
 ghost use Rattle.std.specs.Prelude.{◌≡◌, count_by, length, nat_lt};
 ghost use Rattle.micromap.specs.Texts.{item_texts};

@@ -1,6 +1,6 @@
 //! A caller for each call by probe at texts but `fits_by`, in terms of their bytes. One line names the laws, and no
 //! proof is written.
-ghost use Rattle.std.specs.Prelude.{◌≡◌, ◌↔◌, ◌<◌, ◌^◌, IfOk, IsTrue, None, Some, drop, filter, if◌then◌else◌, nat_eq, not, slice_get, sum};
+ghost use Rattle.std.specs.Prelude.{◌≡◌, ◌<◌, ◌^◌, IfOk, IsTrue, None, Some, drop, filter, if◌then◌else◌, nat_eq, not, slice_get, sum};
 ghost use Rattle.std.specs.List.{starts_with};
 ghost use Rattle.std.specs.Map.{values_of};
 ghost use Rattle.std.specs.Fmt.{decimal};
@@ -8,7 +8,6 @@ ghost use Rattle.std.specs.Option.{option_map, option_map_or};
 ghost use Rattle.std.specs.String.{string_bytes};
 ghost use Rattle.std.specs.Set.{is_member};
 ghost use Rattle.micromap.specs.Items.{find_item, take_item};
-ghost use Rattle.micromap.specs.Operations.{HaveEquals};
 ghost use Rattle.micromap.specs.Print.{map_text, set_text};
 ghost use Rattle.micromap.specs.Pairs.{at, fits, has, pair, put, put_if_fits, take_out};
 ghost use Rattle.std.specs.Str.{bytes_eq};
@@ -140,16 +139,6 @@ fn drop_beginning<const N: usize>(words: &mut Set<String, N>, text: &str)
     words.retain(|word| !word.starts_with(text));
 }
 
-// Whether two sets have the same words.
-fn have_same_words<const N: usize, const M: usize>(
-    one: &Set<String, N>,
-    other: &Set<String, M>,
-) -> bool
-    ensures { IsTrue result ↔ HaveEquals bytes_eq (item_texts one.now) (item_texts other.now) }
-{
-    one.eq_with(other)
-}
-
 // The sum of all numbers.
 fn total<const N: usize>(numbers: &Map<String, u64, N>) -> u64
     requires { sum (values_of (key_texts numbers.now)) < 2 ^ 64 }
@@ -216,4 +205,16 @@ fn text_of_amounts<const N: usize>(
     ensures { IfOk result (λ text. map_text (λ key. Some (decimal key)) (λ value. Some (decimal value)) amounts.now ≡ Some (string_bytes text)) }
 {
     format!(in alloc; "{amounts}")
+}
+
+mod tests {
+    use super::*;
+
+    #[test]
+    fn numbers_add_up(rt: HostRuntime) -> Result<(), AllocError> {
+        let mut numbers = Map::<String, u64, 1>::new();
+        numbers.insert(String::from_str(rt.alloc(), "a")?, 7);
+        assert_eq!(rt; total(&numbers), 7);
+        Ok(())
+    }
 }

@@ -47,7 +47,7 @@ fn rename<'a, const N: usize>(numbers: &mut Map<&'a str, u8, N>, from: &'a str, 
 }
 
 // Whether two maps have the same words with the same numbers.
-#[tactic(auto, using(micromap_core::proofs::laws::TextViews::text_views))]
+#[tactic(auto, using(micromap::proofs::Rules::texts))]
 fn have_same_numbers<'a, const N: usize, const M: usize>(
     one: &Map<&'a str, u8, N>,
     other: &Map<&'a str, u8, M>,
@@ -117,7 +117,7 @@ fn counted<'a, const N: usize>(words: &[&'a str]) -> Option<Map<&'a str, usize, 
 }
 
 // The first of the longest words, or the empty text.
-#[tactic(auto, using(micromap::proofs::laws::SetTextLoops::set_text_loops))]
+#[tactic(auto, using(micromap::proofs::Rules::loops))]
 fn longest<'a, const N: usize>(numbers: &Map<&'a str, u8, N>) -> &'a str
     ensures { result.now ≡ fold (λ most word. if nat_lt (length most) (length word) then word else most) [] (keys_of (key_strs numbers.now)) }
 {

@@ -127,3 +127,11 @@ fn items_that_are_not_in_a_map_are_dropped(rt: HostRuntime) {
     assert!(rt; set.is_none());
     assert_eq!(rt; counts.drops.get(), 5);
 }
+
+#[test]
+fn more_distinct_items_than_there_is_room_for_are_not_counted(rt: HostRuntime) {
+    let few: Option<Map<u8, usize, 2>> = Map::counts_of([1, 2, 1, 3, 1].into_iter());
+    assert!(rt; few.is_none());
+    let counts: Option<Map<u8, usize, 3>> = Map::counts_of([1, 2, 1, 3, 1].into_iter());
+    assert!(rt; counts.is_some_and(|map| map.into_iter().eq([(1, 3), (2, 1), (3, 1)])));
+}

@@ -96,6 +96,13 @@ fn all_items_make_a_set(rt: HostRuntime) {
 }
 
 #[test]
+fn items_are_counted(rt: HostRuntime) {
+    let votes = ["foo", "bar", "foo"];
+    let counts: Option<Map<&str, usize, 2>> = Map::counts_of(votes.into_iter());
+    assert_eq!(rt; counts, Some(Map::from([("foo", 2), ("bar", 1)])));
+}
+
+#[test]
 fn a_new_pair_or_item_is_inserted_or_comes_back(rt: HostRuntime) {
     let mut map: Map<u64, &str, 1> = Map::new();
     assert_eq!(rt; map.try_insert(1, "foo"), Ok(None));

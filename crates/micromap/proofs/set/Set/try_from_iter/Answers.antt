@@ -37,8 +37,8 @@ returns-in_err-try_extend g c =
         stops.1,
         (
           stops.2.0,
-          many_taken g.met.T.Eq.laws (items_keyed g.T.PartialEq.eq g.row.N) stops.0.items _ _
-              stops.0.long stops.2.0 stops.2.1.0.1,
+          many_taken g.met.T.Eq.laws (items_keyed g.T.PartialEq.eq g.row.N) stops.0.items _
+              stops.2.1.0.1,
         ),
       );
       full =

@@ -6,11 +6,11 @@ use Rattle.micromap_core.proofs.map.Map.get_mut_by.Goals as goal
 pub returns-in-Some : goal.returns-in-Some
 returns-in-Some g c =
     let found = c.in-Some.ensures.found in (
-      ap (λ (after : g.row.V.Denot → _). inl (c.value_at.result.ghost_name, after))
+      ap (λ (after : g.row.V.Denot → _). inl (c.value_at_mut.result.ghost_name, after))
           (λ j w. written_at _ c.args.self.now c.in-Some.index found w j),
       record {
         writes_back = tt;
-        answer = sym c.value_at.ensures.value
+        answer = sym c.value_at_mut.ensures.value
             ∙ ap (option_map (λ p. p.1)) found.here ∙ sym found.value;
         content =
             c.in-Some.ensures.content;

@@ -10,7 +10,7 @@ returns g c =
       record {
         writes_back = tt;
         answer = found.value ∙ sym (ap (option_map (λ p. p.1)) found.here)
-            ∙ c.value_at.ensures.value;
+            ∙ c.value_at_mut.ensures.value;
         content = c.in-Some.ensures.content;
       },
     )

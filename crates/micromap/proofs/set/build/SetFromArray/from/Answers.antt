@@ -1,5 +1,5 @@
 use Rattle.std.proofs.Common.{◌≡◌, true, [], get_or, ap, subst, sym, ◌∙◌, rules, take_all}
-use Rattle.micromap_core.proofs.BuildLemmas.{put_at, array_fits, array_fits_at, bounded-built, keys-built}
+use Rattle.micromap_core.proofs.BuildLemmas.{put_at, array_fits, array_fits_at, bounded-built, distinct-built}
 use Rattle.micromap_core.proofs.laws.Equalities.{lawful}
 use Rattle.micromap.specs.Extend.{distinct}
 use Rattle.micromap.specs.Items.{put_item, item_fits, IsItems}
@@ -36,7 +36,7 @@ returns g c =
       fit,
       subst (IsItems eq g.row.N) (sym made)
           (record {
-            unique = (keys-built laws keyed c.args.items).0;
+            unique = distinct-built laws keyed c.args.items;
             bounded =
                 bounded-built laws keyed c.args.items fit;
             lawful = lawful eq laws;

@@ -17,9 +17,9 @@ returns g c =
       record {
         writes_back = tt;
         answer =
-            same_Some _ _ (sym c.value_at.ensures.value ∙ written.value);
+            same_Some _ _ (sym c.value_at_mut.ensures.value ∙ written.value);
         content =
             λ w. subst (IsContent g.K.PartialEq.eq g.row.N) (written.puts w)
-            (c.value_at.ensures.content w);
+            (c.value_at_mut.ensures.content w);
       },
     )

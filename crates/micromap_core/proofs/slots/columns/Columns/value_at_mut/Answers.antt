@@ -1,6 +1,6 @@
 use Rattle.std.proofs.Common.{refl, ◌∙◌}
 use Rattle.micromap_core.proofs.SlotsLemmas.{set_value_zip, value_zip}
-use Rattle.micromap_core.proofs.slots.columns.Columns.value_at.Goals as goal
+use Rattle.micromap_core.proofs.slots.columns.Columns.value_at_mut.Goals as goal
 
 pub returns : goal.returns
 returns g c = (
