@@ -175,11 +175,9 @@ function names.
 
 
 class Proved:
-    """A proved function: its file, its text, its invariants and its answers. `instead` has the chains and calls of its row,
-    if it is a loop. What is amiss is added to `wrong`."""
+    """A proved function: its file, its text, its invariants and its answers. What is amiss is added to `wrong`."""
 
-    def __init__(self, name, crate, wrong, instead=()):
-        self.instead = instead
+    def __init__(self, name, crate, wrong):
         within, _, rest = name.rpartition("/")
         self.crate, (module, self.name) = f"micromap_{within}" if within else crate, rest.split("::")
         self.is_elsewhere, self.file, self.title = self.crate != crate, f"{module}.rt", f"`{rest}`"
@@ -260,13 +258,13 @@ class Proved:
         head = f"{', '.join([f'Under `#[{self.tactic}]`', *self.needs])}."
         imports = "".join(f"{it}\n" for it in self.imports)
         source = f" In `{self.path.removeprefix('crates/')}`:\n\n```rust\n{imports}\n{self.whole}\n```"
-        words = f"{', '.join(map(linked_file, self.specs))} has the words of its own." if self.specs else ""
+        words = f"{', '.join(map(linked_file, self.specs))} has its own words." if self.specs else ""
         return "\n\n".join([f"### {self.title}", head + source, *map(self.quoted, self.helps), *filter(None, [words])]) + "\n"
 
     @property
     def imports(self):
         """The lines `ghost use` of the file, with the words that the function's clauses name."""
-        text = "\n".join(re.findall(r"(?:ensures|requires|ghost|^ +×|^ +\(|^ +[a-z]+ .*→).*", self.whole, re.M))
+        text = "\n".join(re.findall("(?:ensures|requires).*", self.whole))
         for path, names in re.findall(r"^ghost use ([\w.]+)\.\{(.*)\};$", read(self.path), re.M):
             used = [it for it in names.split(", ") if is_named(it, text)]
             if used:
@@ -274,7 +272,7 @@ class Proved:
 
     @property
     def specs(self):
-        """The files of specs/ of its own crate that the function or its proof imports."""
+        """The files of specs/ of the tests that the function or its proof imports."""
         texts = "\n".join([*self.imports, *map(read, self.helps)])
         files = sorted({*re.findall(rf"Rattle\.{LOOPS}\.specs\.(\w+)\.\{{", texts)})
         return [it for it in (f"crates/{LOOPS}/specs/{file}.antt" for file in files) if os.path.exists(it)]
@@ -283,8 +281,9 @@ class Proved:
 def is_named(name, text):
     """Whether a text has a word, or each part of an operator."""
     parts = [it for it in name.split("◌") if it]
-    ends = ("", "") if name == "[]" else ("(?<![\\w.'])", "(?![\\w'])") if len(parts) == 1 and parts[0] == name else ("(?<= )", "(?= )")
-    return all(re.search(f"{ends[0]}{re.escape(it)}{ends[1]}", text) for it in parts)
+    if parts == [name]:  # a word, or `[]`
+        return bool(re.search(rf"(?<![\w.']){re.escape(name)}(?![\w'])", text))
+    return all(f" {it} " in f" {text} " for it in parts)
 
 
 def linked_file(path):
@@ -307,7 +306,7 @@ def rows_of_index(wrong):
         want, *named = line.split("|")
         chains, loops = ([it.strip() for it in names.split(",") if it.strip()] for names in named)
         chains = [Proved(it, CHAINS, wrong) for it in chains]
-        rows.append((want.strip(), chains, [Proved(it, LOOPS, wrong, chains) for it in loops]))
+        rows.append((want.strip(), chains, [Proved(it, LOOPS, wrong) for it in loops]))
     paths = {it.title: it.path for it in helped(groups)}
     twice = (it.title for it in helped(groups) if it.path != paths[it.title])
     wrong += [f"tools/pages/loops.py: two functions with invariants or answers are {it}" for it in twice]
