@@ -107,8 +107,8 @@ def has_row(name, rows):
 
 def has_family_row(name, rows):
     """Whether the first column of a row says `each law of` the file that the name is of."""
-    file = name.rpartition(" ")[2].split(".")[-2]
-    return any(f"`{file}`" in row.partition("each law of ")[2] for row in rows)
+    law = re.fullmatch(r"law \w+\.(\w+)\..*", name)
+    return bool(law) and any(f"`{law[1]}`" in row.partition("each law of ")[2] for row in rows)
 
 
 def moved_names(sources):
