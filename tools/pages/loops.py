@@ -68,7 +68,7 @@ make a map of what a function makes of each, as far as they fit, or with each on
 make a map, or a set, of what a function makes of each, or know that there are too many | builds::halves_or_none, builds::distinct_halves |
 know exactly when a map of what a function makes of each is refused | answered::map_of_mapped |
 make a set of what a function makes of each | builds::set_of_halves |
-count how often each item comes, or know exactly that there are too many different ones | | uses/votes::tally
+count how often each item comes, as far as they fit; in a loop, or know exactly that there are too many different ones | folds::counted | uses/votes::tally
 count in numbers that may overflow | | merged::count_numbers
 add each amount to its key's total, in a map that is there, or in a new one by entry | | merged::add_amounts, merged::totals_of
 add the amounts of a `Vec` by value, or of any iterator | | merged::add_vector, merged::add_all
