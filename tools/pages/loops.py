@@ -69,6 +69,7 @@ make a map, or a set, of what a function makes of each, or know that there are t
 know exactly when a map of what a function makes of each is refused | answered::map_of_mapped |
 make a set of what a function makes of each | builds::set_of_halves |
 count how often each item comes, or know exactly that there are too many different ones | wholes::votes_of, builds::counts_or_none, wholes::votes_of_halves | uses/votes::tally
+count how often each item comes, as far as they fit | folds::counted |
 count in numbers that may overflow | | merged::count_numbers
 add each amount to its key's total, in a map that is there, or in a new one by entry | | merged::add_amounts, merged::totals_of
 add the amounts of a `Vec` by value, or of any iterator | | merged::add_vector, merged::add_all

@@ -1,7 +1,7 @@
 //! Maps and sets that are made by `fold`, where no call makes them. A fold moves the map in each turn.
 #![tactic(auto)]
 
-ghost use Rattle.std.specs.Prelude.{◌≡◌, ◌/◌, ◌+◌, ◌<◌, ◌&&◌, [], Some, None, List, Option, ℕ, true, filter, fold, if◌then◌else◌, is_none, length, map, max, nat_eq, nat_lt, not, unwrap_or};
+ghost use Rattle.std.specs.Prelude.{◌≡◌, ◌/◌, ◌+◌, ◌-◌, ◌^◌, ◌<◌, ◌&&◌, [], Some, None, List, Option, ℕ, true, filter, fold, if◌then◌else◌, is_none, length, map, max, min, nat_eq, nat_lt, not, unwrap_or};
 ghost use Rattle.std.specs.List.{enumerate_from, zip};
 ghost use Rattle.std.specs.Option.{option_and_then};
 ghost use Rattle.std.specs.Set.{is_member};
@@ -170,16 +170,16 @@ pub fn items_of(list: &[u8]) -> Set<u8, 16>
     })
 }
 
-/// Returns how often each vote came, by entry.
+/// Returns how often each vote came, up to the greatest number, as far as the votes fit.
 pub fn counted(votes: &[u8]) -> Map<u8, u32, 16>
     ensures { result ≡ fold
-        (λ (m : List (ℕ × ℕ)) (v : ℕ). if fits nat_eq 16 m v then put nat_eq m v (unwrap_or (at nat_eq m v) 0 / 2 + 1) else m)
+        (λ (m : List (ℕ × ℕ)) (v : ℕ). if fits nat_eq 16 m v then put nat_eq m v (min (unwrap_or (at nat_eq m v) 0 + 1) (2 ^ 32 - 1)) else m)
         [] votes.now }
 {
     votes.iter().fold(Map::new(), |mut m, v| {
         if m.fits(v) {
             let count = m.entry(*v).or_insert(0);
-            *count = *count / 2 + 1;
+            *count = count.saturating_add(1);
         }
         m
     })
