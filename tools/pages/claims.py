@@ -1,6 +1,7 @@
 """docs/CLAIMS.md: the clauses that each edit is for, what is wrong in its body, and where the prover refused it."""
 import collections
 import glob
+import hashlib
 import os
 import re
 
@@ -9,6 +10,7 @@ from pages.logs import NONE, goals_of, plants_of
 from pages.sources import LIBRARY, Sources, anchor, read
 
 CLAIMS = "docs/CLAIMS.md"
+GOALS = "tools/pages/goals.tsv"  # has each edit that was tried, a sum of its text, and the goal at which it was refused
 # The sections of the edits of other crates than the library's.
 PROGRAMS = {
     "micromap_bench": "The worked rows",
@@ -26,8 +28,9 @@ TOTALS
 
 An *edit* puts a wrong body in the place of the right one. A row has the clauses that an edit is for, what is wrong in its body, and the first goal at \
 which the gate refused it; the same body may break others. An edit is a file in `must-fail/` of a crate. Some change lines of the proof too, so that \
-nothing but the clause refuses the body. If the goal is in a written proof, the refusal shows only that this proof doesn't serve the wrong \
-body. `not recorded` is said of an edit that no recorded run of the gate has tried.
+nothing but the clause refuses the body. Some bodies are those of an inner function that has the same clause: then the goal is that function's. \
+If the goal is in a written proof, the refusal shows only that this proof doesn't serve the wrong body. `not recorded` is said of an edit that no \
+recorded run of the gate has tried as it stands.
 
 In a goal's name `returns` is what holds at the return, and `returns-clause-pairs` is the clause `pairs` of it. \
 `insert-requires` is the precondition of a call of `insert`, `invariant_of-..` the invariant of a type, and `loop-..` \
@@ -55,6 +58,12 @@ _, SHARED, OF_TRAIT, UNKNOWN = SILENT
 Edit = collections.namedtuple("Edit", "path wrong claims")  # claims: pairs of a call and the names of its clauses
 
 
+def sum_of(path):
+    """A sum of what an edit changes, without what it says of that."""
+    text = re.sub(r"^#.*\n", "", read(path), flags=re.M)
+    return hashlib.sha256(text.encode()).hexdigest()[:16]
+
+
 def edit_of(path, known, wrong):
     """An edit, by its lines `# for: Map::insert: old, pairs; Set::get` and `# wrong: the pair isn't inserted`."""
     said = dict(re.findall(r"^# (for|wrong): (.+)$", read(path), re.M))
@@ -78,18 +87,24 @@ class Claims:
         self.required = {it.name: it for it in api.sources.clauses(required=True)}
         self.edits = [edit_of(it, self.required | self.clauses, wrong) for it in paths]
         page = read(CLAIMS) if os.path.exists(CLAIMS) else ""
-        goals = re.findall(r"^\|.*\| \[.*\]\(\.\./(\S+\.edit)\) \| (.+) \|$", page, re.M)
+        rows = (line.split("\t") for line in read(GOALS).splitlines()) if os.path.exists(GOALS) else ()
+        self.goals = {path: goal for path, sum, goal in rows if os.path.exists(path) and sum == sum_of(path)}
         rest = page.partition(f"\n## {WITHOUT}\n")[2]
         tried = re.findall(r"^\| \[`(.+?)`\].*\|.*\| (.+) \|$", rest, re.M)
         silent = re.findall(rf"^- \*\*{NONE}\*\*.*\. (.*)$", rest, re.M | re.I)
         tried += [(it, NONE) for it in re.findall(r"`(.+?)`", "".join(silent))]
-        self.goals, self.tried = ({it: said for it, said in rows if said != UNKNOWN} for rows in (goals, tried))
+        self.tried = {it: said for it, said in tried if said != UNKNOWN}
 
     def take_logs(self, gate, plants):
-        """Takes the goals from what `rt ci` or `rt must-fail` printed, and what was tried from what `rt plant` did."""
+        """Takes the goals from what `rt ci` or `rt must-fail` printed, which are kept, and what was tried from what
+        `rt plant` did."""
         found, calls = goals_of(gate), {}
         self.wrong += [f"{path}: the log says that it isn't refused" for path, goal in found.items() if not goal]
-        self.goals |= found
+        if found:
+            self.goals |= found
+            kept = (f"{it.path}\t{sum_of(it.path)}\t{self.goals[it.path]}\n" for it in self.edits if self.goals.get(it.path))
+            with open(GOALS, "w", encoding="utf-8") as file:
+                file.writelines(kept)
         for it in self.api.sources.items:
             crate, path = re.match(r"crates/(\w+)/(.*)", it.path).groups()
             owner, trait = "" if it.kind == "fn" else it.name, it.trait.partition("<")[0]

@@ -1,4 +1,5 @@
-"""The index of PROVING.md by what one wants: proved chains, calls and loops. LOOPS.md has what proves each."""
+"""The index of PROVING.md by what one wants: proved chains, calls and loops. CHAINS.md has those that need no proof by hand,
+and LOOPS.md the others with their proofs."""
 import glob
 import os
 import re
@@ -10,7 +11,7 @@ from pages.sources import anchor, read
 # A group begins with `#`. A row has what one wants, the chains and calls that do it, and the loops. Each is named by its
 # crate without `micromap_`, its file and its name. A crate that isn't named is CHAINS, or LOOPS in the last column.
 CHAINS, LOOPS = "micromap_chains", "micromap_uses_tests"
-LOOPS_PAGE = "crates/micromap/LOOPS.md"
+CHAINS_PAGE, LOOPS_PAGE = "crates/micromap/CHAINS.md", "crates/micromap/LOOPS.md"
 INDEX = """
 # Reading a map or a set
 ask whether a value or an item passes a test | reads::any_value, reads::any_item_above |
@@ -161,13 +162,19 @@ work list: take the items out of a set, one after the other, until it is empty |
 go on until a search finds nothing new: an order in which targets can be built, or all that depend on one | | uses/order::order_of, uses/order::affected
 """
 MOST = 150  # of letters of a chain that is shown
-INTRO = """# Loops with their proofs
+CHAINS_INTRO = """# Chains and calls with their contracts
 
-These are the functions to which the [index of loops](PROVING.md#loops) leads, in its order, each with its invariant, and \
-with its answers if it has any. Their files are in micromap's own repository, not in a copy by its `tools/add`. \
-[PROVING](PROVING.md#an-invariant) says how an invariant is read.
+These are the functions to which the [index](PROVING.md#loops) leads, in its order, that need no proof by hand: chains of \
+iterators, calls, and a few loops. Each has its contract, and the line under which it is proved. Write that line as `#[..]` \
+at your function, or as `#![..]` at the head of your file. Of the imports each has those of the words in its clauses.
 
-- The line `tactic` is that of the function or of its file.
+"""
+LOOPS_INTRO = """# Loops with their proofs
+
+These are the functions to which the [index](PROVING.md#loops) leads, in its order, that need an invariant, or *answers*, \
+which are proofs by hand of single goals. [PROVING](PROVING.md#an-invariant) says how an invariant is read.
+
+- Write the line `tactic` as `#[..]` at your function, or as `#![..]` at the head of your file.
 - Each block is as its file has it, but for the path of `Given` or `Goals`. Of the imports of words it has those that the \
 function names.
 - A proof file has the path of its function: that of `total` in `src/walks.rt` is `proofs/walks/total/Invariants.antt`.
@@ -181,7 +188,7 @@ class Proved:
 
     def __init__(self, name, crate, wrong):
         within, _, rest = name.rpartition("/")
-        self.crate, (module, self.name) = f"micromap_{within}" if within else crate, rest.split("::")
+        self.crate, (module, self.name), self.want = f"micromap_{within}" if within else crate, rest.split("::"), ""
         self.is_elsewhere, self.file, self.title = self.crate != crate, f"{module}.rt", f"`{rest}`"
         paths = [f"crates/{self.crate}/src/{it}{module}.rt" for it in ("", "tests/")]
         self.path = next((it for it in paths if os.path.exists(it)), "")
@@ -219,17 +226,17 @@ class Proved:
     def as_chain(self, page):
         """The chain or the call with its place. What has an answer leads to it."""
         body = self.body.replace("|", "\\|")
-        place = f"{self.linked(page)} (with an answer)" if self.answers else self.where
-        return (f"`{body}`: " if len(body) <= MOST else "") + place
+        return (f"`{body}`: " if len(body) <= MOST else "") + self.linked(page) + " (with an answer)" * bool(self.answers)
 
     def as_loop(self, page):
         """The place of the loop, which leads to its invariant."""
-        return self.linked(page) if self.invariants else f"{self.where} (without an invariant)"
+        return self.linked(page) + " (without an invariant)" * (not self.invariants)
 
     def linked(self, page):
-        """The function and its file, as a link to its invariants or its answers."""
+        """The function and its file, as a link to where it stands."""
         heading, name = self.heading(page), f"`{self.name}`"
-        at = f"#{anchor(heading)}" if heading else f"{os.path.basename(LOOPS_PAGE)}#{anchor(self.title)}"
+        there = os.path.basename(LOOPS_PAGE if self.helps else CHAINS_PAGE)
+        at = f"#{anchor(heading)}" if heading else f"{there}#{anchor(self.title)}"
         return self.where.replace(name, f"[{name}]({at})", 1)
 
     @property
@@ -239,6 +246,8 @@ class Proved:
 
     def heading(self, page):
         """The heading of the section that quotes these files, if the text of the page does."""
+        if not self.helps:
+            return ""
         head, is_there, _ = page.partition(f"`{self.helps[0].removeprefix('crates/')}`")
         return re.findall(r"^#+ (.*)$", head, re.M)[-1] if is_there else ""
 
@@ -256,11 +265,11 @@ class Proved:
         return f"In `{path.removeprefix('crates/')}`:\n\n```antt\n{text.strip()}\n```"
 
     def entry(self):
-        """The function with its invariant and its answers, as their files have them, and what proves it."""
-        head = f"{', '.join([f'Under `#[{self.tactic}]`', *self.needs])}."
+        """The function, with its invariant and its answers if it has any, as their files have them, and what proves it."""
+        head = f"To {self.want}. {', '.join([f'Under `#[{self.tactic}]`', *self.needs])}."
         imports = "".join(f"{it}\n" for it in self.imports)
         source = f" In `{self.path.removeprefix('crates/')}`:\n\n```rust\n{imports}\n{self.whole}\n```"
-        words = f"{', '.join(map(linked_file, self.specs))} has its own words." if self.specs else ""
+        words = f"{', '.join(map(linked_file, self.specs))} has its own words." if self.specs and self.helps else ""
         return "\n\n".join([f"### {self.title}", head + source, *map(self.quoted, self.helps), *filter(None, [words])]) + "\n"
 
     @property
@@ -305,46 +314,53 @@ def rows_of_index(wrong):
         if line.startswith("# "):
             rows = groups.setdefault(line[2:], [])
             continue
-        want, *named = line.split("|")
+        want, *named = (it.strip() for it in line.split("|"))
         chains, loops = ([it.strip() for it in names.split(",") if it.strip()] for names in named)
-        chains = [Proved(it, CHAINS, wrong) for it in chains]
-        rows.append((want.strip(), chains, [Proved(it, LOOPS, wrong) for it in loops]))
-    paths = {it.title: it.path for it in helped(groups)}
-    twice = (it.title for it in helped(groups) if it.path != paths[it.title])
-    wrong += [f"tools/pages/loops.py: two functions with invariants or answers are {it}" for it in twice]
+        rows.append((want, [Proved(it, CHAINS, wrong) for it in chains], [Proved(it, LOOPS, wrong) for it in loops]))
+        for it in [*rows[-1][1], *rows[-1][2]]:
+            it.want = want
+    for found in (helped(groups), unhelped(groups)):
+        paths = {it.title: it.path for it in found}
+        twice = (it.title for it in found if it.path != paths[it.title])
+        wrong += [f"tools/pages/loops.py: two functions of one page are {it}" for it in twice]
     return groups
 
 
+def functions(groups):
+    """The functions of all rows, in order."""
+    return (it for rows in groups.values() for _, chains, loops in rows for it in [*chains, *loops] if it.text)
+
+
 def helped(groups):
-    """The functions of all rows whose proofs a user would have to help, in order."""
-    functions = (it for rows in groups.values() for _, chains, loops in rows for it in [*chains, *loops])
-    return [it for it in functions if it.text and it.helps]
+    """The functions whose proofs a user would have to help."""
+    return [it for it in functions(groups) if it.helps]
+
+
+def unhelped(groups):
+    """The functions that need no proof by hand."""
+    return [it for it in functions(groups) if not it.helps]
 
 
 def index(groups, page):
-    """The tables of what one wants, and what the files of chains name."""
+    """The tables of what one wants."""
     for title, rows in groups.items():
         yield f"### {title}\n\n| To | First: a chain or a call | Else: a loop |\n|---|---|---|"
         for want, chains, loops in rows:
             cells = "; ".join(it.as_chain(page) for it in chains), "; ".join(it.as_loop(page) for it in loops)
             yield "|" + "".join(f" {it} |" if it else " |" for it in (want, *cells))
         yield ""
-    yield "| Chains and calls of | Are under |\n|---|---|"
-    chains = (it for rows in groups.values() for _, chains, _ in rows for it in chains if it.text)
-    under = {}
-    for it in chains:
-        under.setdefault(it.path, {}).setdefault(it.tactic, {})[f"`{it.name}`"] = it
-    for path, lines in sorted(under.items()):
-        for line, named in sorted(lines.items()):
-            first = next(iter(named.values()))
-            which = f"{', '.join(named)} in " * (len(lines) > 1)
-            yield f"| {which}`{first.file}` of `{first.crate}` | `#![{line}]` |"
+
+
+def chains_page(groups):
+    """The functions that need no proof by hand, each once."""
+    found = reversed(unhelped(groups))
+    return CHAINS_INTRO + "\n".join([it.entry() for it in {it.title: it for it in found}.values()][::-1]).replace("### ", "## ")
 
 
 def loops_page(groups, page):
     """The functions that PROVING.md doesn't have in its text, with their proofs."""
-    found = {it.title: it for it in helped(groups) if not it.heading(page)}
+    found = {it.title: it for it in reversed(helped(groups)) if not it.heading(page)}
     files = sorted({path for it in found.values() for path in it.specs})
     words = [f"### {words_title(it)}\n\n```antt\n{read(it).strip()}\n```\n" for it in files]
-    text = "\n".join([*(it.entry() for it in found.values()), *words])
-    return INTRO + text.replace("\n### ", "\n## ").replace("### ", "## ", 1)
+    text = "\n".join([*[it.entry() for it in found.values()][::-1], *words])
+    return LOOPS_INTRO + text.replace("\n### ", "\n## ").replace("### ", "## ", 1)

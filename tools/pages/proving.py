@@ -1,8 +1,8 @@
-"""What is made of crates/micromap/PROVING.md: its index of loops, and the statements of its laws. LOOPS.md has the loops."""
+"""What is made of crates/micromap/PROVING.md: its index, and the statements of its laws. CHAINS.md and LOOPS.md have what it names."""
 import re
 
 from pages.laws import SECTIONS, statements
-from pages.loops import helped, index, loops_page, rows_of_index
+from pages.loops import chains_page, helped, index, loops_page, rows_of_index
 from pages.sources import read
 
 PROVING = "crates/micromap/PROVING.md"
@@ -22,6 +22,11 @@ def proving(wrong):
     wrong += [f"{PROVING}: {it} has {places.count(it)} places" for it in made if places.count(it) != 1]
     wrong += [f"tools/pages/proving.py: nothing makes {it}" for it in places if it not in made]
     return re.sub(PART, lambda it: f"{it[1]}\n{made.get(it[2], '')}\n\n{it[3]}", page, flags=re.M | re.S)
+
+
+def chains():
+    """The page of the chains and calls that need no proof by hand."""
+    return chains_page(rows_of_index([]))
 
 
 def loops():

@@ -35,9 +35,10 @@ PART = r"(^<!-- made by tools/compare: ([^\n]*) -->\n).*?(^<!-- end -->$)"
 
 
 def parsed(text):
-    """A record's or the driver's lines, as where it is from, {(subject, workload): {capacity: (nanoseconds, ratios)}} and
-    {type: {capacity: sizes}}. A ratio is a number with its mark."""
-    source, times, sizes = "", defaultdict(dict), defaultdict(dict)
+    """A record's or the driver's lines, as where it is from, {(subject, workload): {capacity: (nanoseconds, ratios)}},
+    {workload: {capacity: nanoseconds}} of what is timed alone, and {type: {capacity: sizes}}. A ratio is a number with its
+    mark."""
+    source, times, alone, sizes = "", defaultdict(dict), defaultdict(dict), defaultdict(dict)
     for kind, *words in (line.split("\t") for line in text.splitlines()):
         if kind == "source":
             source = words[0]
@@ -45,17 +46,20 @@ def parsed(text):
             subject, workload, capacity, nanoseconds, *ratios = words
             marked = [(float(it.rstrip("~")), "~" * it.endswith("~")) for it in ratios]
             times[subject, workload][int(capacity)] = float(nanoseconds), marked
+        elif kind == "alone":
+            alone[words[0]][int(words[1])] = float(words[2])
         elif kind == "size":
             sizes[words[0]][int(words[1])] = int(words[2]), int(words[3])
-    return source, times, sizes
+    return source, times, alone, sizes
 
 
-def record(source, times, sizes):
+def record(source, times, alone, sizes):
     """The text of a record."""
     lines = [["source", source]]
     for (subject, workload), cells in times.items():
         for at, (nanoseconds, ratios) in cells.items():
             lines.append(["time", subject, workload, at, f"{nanoseconds:.2f}", *(f"{it:.4f}{mark}" for it, mark in ratios)])
+    lines += (["alone", name, at, f"{nanoseconds:.2f}"] for name, cells in alone.items() for at, nanoseconds in cells.items())
     lines += (["size", name, at, *both] for name, cells in sizes.items() for at, both in cells.items())
     return "".join("\t".join(map(str, it)) + "\n" for it in lines)
 
@@ -64,6 +68,11 @@ def mean(ratios):
     """The geometric mean, marked if one of them is."""
     numbers, marks = zip(*ratios)
     return math.exp(sum(map(math.log, numbers)) / len(numbers)), max(marks)
+
+
+def averaged_alone(runs):
+    """The geometric means of several runs' figures of what is timed alone."""
+    return {name: {at: mean([(run[name][at], "") for run in runs])[0] for at in cells} for name, cells in runs[0].items()}
 
 
 def averaged(runs):
@@ -127,14 +136,24 @@ def size_table(sizes):
 
 
 def choice_table(times):
-    """The times of what a user might take in this library's place, relative to its own."""
+    """This library's times, and those of what a user might take in its place, relative to its own."""
     columns = [(rival, at) for rival in CHOICES for at in CHOICE_CAPACITIES]
     heads = (f"{RIVALS[rival]} at {at}" if at == CHOICE_CAPACITIES[0] else at for rival, at in columns)
-    yield from heading("Time relative to `Map`'s", heads)
+    yield from heading("", ["`Map` at 2", "for each pair more", *heads])
     for workload, words in CHOICE_WORDS.items():
         cells = times["numbers", workload]
+        own = {at: nanoseconds * ratios[0][0] for at, (nanoseconds, ratios) in cells.items()}
+        first, last = min(own), max(own)
+        grows = (own[last] - own[first]) / (last - first)
         ratios = {rival: dict(zip(cells, over(cells, rival, 0))) for rival in CHOICES}
-        yield row([f"{words} (`{workload}`)", *(coarse(ratios[rival][at]) for rival, at in columns)])
+        figures = [f"{own[first]:.1f} ns", f"{grows:.2f} ns", *(coarse(ratios[rival][at]) for rival, at in columns)]
+        yield row([f"{words} (`{workload}`)", *figures])
+
+
+def alone_table(alone):
+    """The nanoseconds of what is timed alone."""
+    yield from heading("Nanoseconds", next(iter(alone.values())))
+    yield from (row([name, *(f"{it:.0f}" for it in cells.values())]) for name, cells in alone.items())
 
 
 def speed_list(times):
@@ -197,12 +216,13 @@ def charts(source, times):
 
 def made(text):
     """The files that a record makes: the charts, and the pages with their parts."""
-    source, times, _ = parsed(text)
+    source, times, alone, _ = parsed(text)
     files = dict(charts(source, times))
     makers = {
         "times relative to Map's": lambda _: choice_table(times),
         "times relative to the Rust crate's": lambda _: speed_list(times),
         "what takes longer than the layout": lambda part: causes_table(times, part),
+        "what is timed alone": lambda _: alone_table(alone),
     }
 
     def part_of(found):

@@ -2,6 +2,7 @@
 //! in which a removal keeps the order. What this library takes beside it is the cost of proof and toolchain. What it takes
 //! beside the Rust crate is the cost of the layout.
 
+use crate::both::Both;
 use crate::bytes::Bytes;
 use crate::inputs::key_of;
 use crate::numbers::Numbers;
@@ -289,6 +290,21 @@ impl<const N: usize> Numbers for Columns<u64, u64, N> {
     }
 }
 
+impl<const N: usize> Both for Columns<u64, u64, N> {
+    #[inline]
+    fn is_same(&self, other: &Self) -> bool {
+        let mut pairs = self.keys.items().zip(self.values.items());
+        self.keys.len == other.keys.len && pairs.all(|(key, value)| other.find(*key) == Some(*value))
+    }
+
+    #[inline]
+    fn put_all(&mut self, other: &Self) {
+        for (key, value) in other.keys.items().zip(other.values.items()) {
+            self.insert(*key, *value);
+        }
+    }
+}
+
 impl<const N: usize> Texts for Columns<String, u64, N> {
     #[inline]
     fn empty() -> Self {
@@ -343,6 +359,20 @@ impl<const N: usize> Bytes for Columns<u8, (), N> {
     #[inline]
     fn count(&self) -> u64 {
         self.keys.len as u64
+    }
+
+    #[inline]
+    fn keep_half(&mut self, first: u8, bit: u8) {
+        self.retain(|item, _| item.wrapping_add(first) & bit != 0);
+    }
+
+    #[inline]
+    fn join_and_find(&self, other: &Self, item: u8) -> u64 {
+        let mut set = Self::empty();
+        for item in self.keys.items().chain(other.keys.items()) {
+            set.put(*item);
+        }
+        (set.has(item) as u64).wrapping_add(set.count())
     }
 }
 

@@ -2,14 +2,18 @@
 //! prints lines of words with tabs between them, for `tools/compare` to make its tables of:
 //!
 //!     time  SUBJECT  WORKLOAD  CAPACITY  NANOSECONDS  RATIO..
+//!     alone  WORKLOAD  CAPACITY  NANOSECONDS
 //!     size  TYPE  CAPACITY  BYTES  BYTES
 //!
 //! The nanoseconds are those of a round at the Rust crate. The ratios are the times over the Rust crate's of this library,
 //! of its layout in `unsafe` Rust and, for numbers, of the scan by hand, `IndexMap`, `HashMap` and `BTreeMap`. Each figure
-//! is a median over the turns. A `~` follows a ratio if the medians over the first half of the turns and over the second differ by more than
-//! a tenth. The bytes are this library's and the Rust crate's.
+//! is a median over the turns. A `~` follows a ratio if the medians over the first half of the turns and over the second
+//! differ by more than a tenth. What is timed alone has this library's nanoseconds. The bytes are this library's and the
+//! Rust crate's.
 
 // The files of workloads are those of the static library, so that both sides run the same text.
+#[path = "../../crates/micromap_speed/src/both.rt"]
+mod both;
 #[path = "../../crates/micromap_speed/src/bytes.rt"]
 mod bytes;
 #[path = "../../crates/micromap_speed/src/inputs.rt"]
@@ -37,6 +41,8 @@ extern "C" {
 }
 
 const CAPACITIES: [u64; 6] = [2, 4, 8, 16, 32, 64];
+/// The subject of the static library that is timed alone, and its workloads.
+const ALONE: (u64, [&str; 2]) = (9, ["JSON out", "JSON in"]);
 
 type NumberMap<const N: usize> = Map<u64, u64, N>;
 type ByteSet<const N: usize> = Set<u8, N>;
@@ -98,9 +104,10 @@ macro_rules! subject {
     };
 }
 
-fn subjects() -> [Subject; 4] {
+fn subjects() -> [Subject; 5] {
     [
         subject!("numbers", "Map<u64, u64, N>", numbers, NumberMap, NumberColumns, [0, 1, 2, 6, 7]),
+        subject!("two maps", "Map<u64, u64, N>", both, NumberMap, NumberColumns, [8]),
         subject!("set of bytes", "Set<u8, N>", bytes, ByteSet, ByteColumns, [3]),
         subject!("texts", "Map<String, u64, N>", texts, TextMap, TextColumns, [4]),
         subject!("24-byte values", "Map<u64, [u64; 3], N>", wide, WideMap, WideColumns, [5]),
@@ -169,6 +176,15 @@ fn measured(subject: &Subject, workload: usize, at: usize, turns: usize) -> (f64
     (median(&nanoseconds), ratios.iter().map(|ratios| marked(ratios)).collect())
 }
 
+/// The nanoseconds of a round of a workload that is timed alone, at one capacity.
+fn alone(workload: u64, capacity: u64, turns: usize) -> f64 {
+    // SAFETY: it is a function over numbers alone, which asks nothing of its caller.
+    let run = |rounds| unsafe { micromap_speed(ALONE.0, workload, capacity, black_box(0), rounds) };
+    let rounds = enough_rounds(&run);
+    let seconds: Vec<f64> = (0..turns).map(|_| timed(|| run(black_box(rounds))).0).collect();
+    median(&seconds) * 1e9 / rounds as f64
+}
+
 fn main() {
     let turns = std::env::args().nth(1).and_then(|word| word.parse().ok()).filter(|turns| *turns > 0).expect("a number of turns");
     for subject in subjects() {
@@ -183,7 +199,12 @@ fn main() {
             }
         }
     }
-    for subject in subjects() {
+    for (workload, name) in ALONE.1.iter().enumerate() {
+        for capacity in CAPACITIES {
+            println!("alone\t{name}\t{capacity}\t{:.2}", alone(workload as u64, capacity, turns));
+        }
+    }
+    for subject in subjects().iter().filter(|subject| subject.name != "two maps") {
         for (capacity, size) in CAPACITIES.iter().zip(subject.sizes) {
             // SAFETY: as above.
             let own = unsafe { micromap_speed_size(subject.rivals[0], *capacity) };

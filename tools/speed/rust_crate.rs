@@ -1,5 +1,6 @@
 //! The workloads' calls at the Rust crate's map and set.
 
+use crate::both::Both;
 use crate::bytes::Bytes;
 use crate::inputs::key_of;
 use crate::numbers::Numbers;
@@ -77,6 +78,20 @@ impl<const N: usize> Numbers for Map<u64, u64, N> {
     }
 }
 
+impl<const N: usize> Both for Map<u64, u64, N> {
+    #[inline]
+    fn is_same(&self, other: &Self) -> bool {
+        self == other
+    }
+
+    #[inline]
+    fn put_all(&mut self, other: &Self) {
+        for (key, value) in other {
+            self.insert(*key, *value);
+        }
+    }
+}
+
 impl<const N: usize> Texts for Map<String, u64, N> {
     #[inline]
     fn empty() -> Self {
@@ -127,6 +142,17 @@ impl<const N: usize> Bytes for Set<u8, N> {
     #[inline]
     fn count(&self) -> u64 {
         self.len() as u64
+    }
+
+    #[inline]
+    fn keep_half(&mut self, first: u8, bit: u8) {
+        self.retain(|item| item.wrapping_add(first) & bit != 0);
+    }
+
+    #[inline]
+    fn join_and_find(&self, other: &Self, item: u8) -> u64 {
+        let set: Self = self.union(other).copied().collect();
+        (set.has(item) as u64).wrapping_add(set.count())
     }
 }
 

@@ -18,6 +18,12 @@ pub trait Bytes: Drop {
 
     /// The number of items.
     fn count(&self) -> u64;
+
+    /// Keeps the items that have the bit `bit` once `first` is added.
+    fn keep_half(&mut self, first: u8, bit: u8);
+
+    /// Makes the set of the union with another set, and returns whether it has an item, plus the number of its items.
+    fn join_and_find(&self, other: &Self, item: u8) -> u64;
 }
 
 // The byte of an index: below 128, and another for each index below 128.
@@ -77,8 +83,52 @@ fn walk<S: Bytes, const N: usize>(salt: u64, rounds: u64) -> u64 {
     sum
 }
 
+// Keeps half of the items, from another one on in each round, and puts the others back.
+#[inline(never)]
+fn retain<S: Bytes, const N: usize>(salt: u64, rounds: u64) -> u64 {
+    let mut set: S = filled::<S, N>(salt);
+    let bit = byte((N as u64) >> 1, 0);
+    let mut state = SEED;
+    let mut sum = 0u64;
+    for _ in 0..rounds {
+        state = next(state);
+        let first = byte(below::<N>(state), 0);
+        set.keep_half(first, bit);
+        sum = sum.wrapping_add(set.count());
+        for index in 0..N as u64 {
+            let item = byte(index, salt);
+            if item.wrapping_add(first) & bit == 0 {
+                set.put(item);
+            }
+        }
+    }
+    sum
+}
+
+// The union of two sets that have half as many items as there is room for, some of them in both.
+#[inline(never)]
+fn union<S: Bytes, const N: usize>(salt: u64, rounds: u64) -> u64 {
+    let mut first = S::empty();
+    let mut second = S::empty();
+    for index in 0..(N as u64) >> 1 {
+        first.put(byte(index, salt));
+        second.put(byte(index.wrapping_add((N as u64) >> 2), salt));
+    }
+    let mut sum = 0u64;
+    for _ in 0..rounds {
+        sum = sum.wrapping_add(first.join_and_find(&second, byte(sum, salt)));
+    }
+    sum
+}
+
 /// The names of the workloads, by their numbers.
-pub const NAMES: [&'static str; 3] = ["new and fill", "contains, miss", "walk"];
+pub const NAMES: [&'static str; 5] = [
+    "new and fill",
+    "contains, miss",
+    "walk",
+    "retain half and put back",
+    "set of a union",
+];
 
 /// Runs a workload for some rounds at sets with room for `N` items.
 pub fn run<S: Bytes, const N: usize>(
@@ -91,6 +141,8 @@ pub fn run<S: Bytes, const N: usize>(
         0 => fill::<S, N>(salt, rounds),
         1 => contains_miss::<S, N>(salt, rounds),
         2 => walk::<S, N>(salt, rounds),
+        3 => retain::<S, N>(salt, rounds),
+        4 => union::<S, N>(salt, rounds),
         _ => u64::MAX,
     }
 }

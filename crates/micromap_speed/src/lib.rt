@@ -1,18 +1,20 @@
 //! Workloads over this library's map and set, for the driver in `tools/speed` that times them beside the Rust crate's.
 //!
-//! `inputs` and the files of workloads (`bytes`, `numbers`, `texts` and `wide`) have no clause and are Rust as well:
+//! `inputs` and the files of workloads (`both`, `bytes`, `numbers`, `texts` and `wide`) have no clause and are Rust as well:
 //! the driver compiles the same files. `library` has the workloads' calls at this library's types, and `scan`,
-//! `index_map`, `hash_map` and `btree_map` have them at types that a user might take in their place. A workload is proved
+//! `index_map`, `hash_map` and `btree_map` have them at types that a user might take in their place. `json` is timed alone. A workload is proved
 //! to be safe and to end. The driver compares what it returns.
 #![tactic(auto)]
 
 ghost use Rattle.std.specs.Prelude.{◌≤◌};
 
+pub mod both;
 mod btree_map;
 pub mod bytes;
 mod hash_map;
 mod index_map;
 pub mod inputs;
+mod json;
 mod library;
 pub mod numbers;
 pub mod platform;
@@ -71,6 +73,8 @@ fn run<const N: usize>(memory: Global, subject: u64, workload: u64, salt: u64, r
         5 => wide::run::<WideMap<N>, N>(memory, workload, salt, rounds),
         6 => numbers::run::<HashMap<u64, u64>, N>(memory, workload, salt, rounds),
         7 => numbers::run::<BTreeMap<u64, u64>, N>(memory, workload, salt, rounds),
+        8 => both::run::<NumberMap<N>, N>(memory, workload, salt, rounds),
+        9 => json::run::<N>(memory, workload, salt, rounds),
         _ => u64::MAX,
     }
 }

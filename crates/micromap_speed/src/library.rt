@@ -1,4 +1,5 @@
 //! The workloads' calls at this library's map and set.
+use crate::both::Both;
 use crate::bytes::Bytes;
 use crate::inputs::key_of;
 use crate::numbers::Numbers;
@@ -108,6 +109,18 @@ impl<const N: usize> Numbers for Map<u64, u64, N> {
     }
 }
 
+impl<const N: usize> Both for Map<u64, u64, N> {
+    #[inline]
+    fn is_same(&self, other: &Self) -> bool {
+        self.eq_with(other)
+    }
+
+    #[inline]
+    fn put_all(&mut self, other: &Self) {
+        let _full = self.try_extend_from(other);
+    }
+}
+
 impl<const N: usize> Texts for Map<String, u64, N> {
     #[inline]
     fn empty() -> Self {
@@ -160,6 +173,20 @@ impl<const N: usize> Bytes for Set<u8, N> {
     #[inline]
     fn count(&self) -> u64 {
         self.len() as u64
+    }
+
+    #[inline]
+    fn keep_half(&mut self, first: u8, bit: u8) {
+        self.retain(|item| item.wrapping_add(first) & bit != 0);
+    }
+
+    #[inline]
+    fn join_and_find(&self, other: &Self, item: u8) -> u64 {
+        let made: Result<Set<u8, N>, Overfull> = Set::try_from_iter(self.union(other).copied());
+        match made {
+            Ok(set) => (set.has(item) as u64).wrapping_add(set.count()),
+            Err(_) => u64::MAX,
+        }
     }
 }
 

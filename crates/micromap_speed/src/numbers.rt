@@ -61,8 +61,9 @@ pub trait Numbers: Drop {
     }
 }
 
+/// A full map, in which each index with the salt has a value.
 #[inline(never)]
-fn filled<M: Numbers, const N: usize>(memory: Global, salt: u64) -> M {
+pub fn filled<M: Numbers, const N: usize>(memory: Global, salt: u64) -> M {
     let mut map = M::with_room(memory, N as u64);
     for index in 0..N as u64 {
         let _old = map.put(index ^ salt, value_of(index));
