@@ -17,12 +17,12 @@ INDEX = """
 ask whether a value or an item passes a test | reads::any_value, reads::any_item_above |
 ask whether a pair passes | reads::any_pair |
 ask whether all values pass, or fit once each is multiplied | reads::all_below, nested::can_scale |
-ask whether all of a list are items, or are keys | members::all_stored, members::all_stored_any, members::all_keys | passing::has_all
+ask whether all of a list are items, or are keys | members::all_stored, members::all_stored_any, members::all_keys | reads::has_all
 ask whether all values are items of a set, or all keys or any are in another map | members::values_are_known, members::all_keys_of, members::any_key |
 ask whether any or all members of an operation on two sets pass | copies::any_common_above, copies::all_single_below |
-count the values that pass | reads::count_above | walks::values_over
+count the values that pass | reads::count_above | map_loops::values_over
 count the pairs that pass | reads::count_pairs |
-count the items that pass | reads::count_items_above | tallied::items_over
+count the items that pass | reads::count_items_above | reads::items_over
 count the items of a list, or of a set, that are in a set | members::count_stored, members::count_stored_any, members::count_known |
 ask whether the values are those of a list, in order | reads::has_values |
 count the values that are their own index | reads::count_at_index |
@@ -37,33 +37,33 @@ find the key with the greatest value, and that value | uses/votes::winner |
 find the least key | reads::least_key |
 find the greatest key of the pairs that pass | reads::greatest_key_above |
 find the greatest member of an operation on two sets | folds::greatest_alone |
-find the first key that passes | reads::first_key_above | walks::first_over
+find the first key that passes | reads::first_key_above | map_loops::first_over
 find the first key, or the first pair, whose value passes | folds::first_above, folds::first_pair_above, answered::pair_above |
-find the first key whose value is one of an enum with a derived `==` | | holders::first_with, holders::user_with
-ask whether a value is one of an enum, or keep the pairs whose value is in a set of them | uses_tests/holders::is_held, uses_tests/holders::keep_listed |
-find the first key whose value, a set, has a member | | combined::group_of
-find a pair that passes, which is what its key finds | | walks::pair_over
-find such a pair with keys of any type, or of a struct with a derived `==` | | walks::any_over, walks::square_of
-find a key that passes, which is stored | | walks::key_other
-find an item that passes, which is a member, of numbers or of any type | | walks::item_over, walks::other_than
+find the first key whose value is one of an enum with a derived `==` | | values::first_with, values::user_with
+ask whether a value is one of an enum, or keep the pairs whose value is in a set of them | uses_tests/values::is_held, uses_tests/values::keep_listed |
+find the first key whose value, a set, has a member | | map_loops::group_of
+find a pair that passes, which is what its key finds | | map_loops::pair_over
+find such a pair with keys of any type, or of a struct with a derived `==` | | map_loops::any_over, map_loops::square_of
+find a key that passes, which is stored | | map_loops::key_other
+find an item that passes, which is a member, of numbers or of any type | | map_loops::item_over, map_loops::other_than
 find the index of a value, or of the first pair that passes | reads::position_of, reads::position_above |
 read the pair at an index, or the last value | reads::pair_at, reads::last_value |
 read the pairs or items at both ends | uses_tests/copies::oldest_and_newest, uses_tests/copies::ends |
-know that `get` finds the pair that is found first, or that no value passes | uses_tests/found::over, uses_tests/found::each_below, uses_tests/found::each_small |
-know that there is no pair where `get` finds nothing, or that equal keys find the same | uses_tests/found::reissue, uses_tests/found::is_open, uses_tests/found::are_one |
-compare two maps in their order | reads::have_equal_values, uses_tests/combined::have_keys_in_order |
-ask whether two maps are the same, or read the values at which they differ | uses_tests/generic::find_same, uses_tests/sameness::conflict |
-ask whether two sets have the same items, or one has all items of the other | uses_tests/sameness::have_same_items, uses_tests/sameness::includes |
+know that `get` finds the pair that is found first, or that no value passes | uses_tests/reads::over, uses_tests/reads::each_below, uses_tests/reads::each_small |
+know that there is no pair where `get` finds nothing, or that equal keys find the same | uses_tests/reads::reissue, uses_tests/reads::is_open, uses_tests/reads::are_one |
+compare two maps in their order | reads::have_equal_values, uses_tests/map_loops::have_keys_in_order |
+ask whether two maps are the same, or read the values at which they differ | uses_tests/generic::find_same, uses_tests/comparison::conflict |
+ask whether two sets have the same items, or one has all items of the other | uses_tests/comparison::have_same_items, uses_tests/comparison::includes |
 list the keys in a `Vec`, all or those whose value passes | reads::list_of_keys, reads::list_of_keys_above |
 list the pairs of a map by value, into a `Vec` | reads::list_of_pairs |
 list the members of an operation in a `Vec`, all or those that pass | reads::list_of_union, set_tests/operations::evens |
 # Building from a list
 make a map of pairs, of two lists, of a `Vec` | builds::map_of_list, builds::map_of_lists, builds::map_of_vec |
 make a set of items | builds::set_of_list |
-make a set of a list, or refuse exactly if it has too many different items | | counts::distinct_items
-make a map, or a set, of any iterator | uses_tests/counts::collected_pairs, uses_tests/counts::collected_items |
+make a set of a list, or refuse exactly if it has too many different items | | lists::distinct_items
+make a map, or a set, of any iterator | uses_tests/lists::collected_pairs, uses_tests/lists::collected_items |
 know exactly when a map, or a set, of a list is refused | answered::map_of_list, answered::set_of_list |
-know that there are too many items where a map, or a set, of a list is refused | uses_tests/listed::pairs_of, uses_tests/listed::items_of |
+know that there are too many items where a map, or a set, of a list is refused | uses_tests/lists::pairs_of, uses_tests/lists::items_of |
 make a map, or a set, of what a function makes of each, all or none | wholes::halves, wholes::set_of_all_halves |
 make a map of what a function makes of each, as far as they fit, or with each one's index | wholes::first_halves, folds::numbered |
 make a map, or a set, of what a function makes of each, or know that there are too many | builds::halves_or_none, builds::distinct_halves |
@@ -71,94 +71,94 @@ know exactly when a map of what a function makes of each is refused | answered::
 make a set of what a function makes of each | builds::set_of_halves |
 count how often each item comes, or know exactly that there are too many different ones | wholes::votes_of, builds::counts_or_none, wholes::votes_of_halves | uses/votes::tally
 count how often each item comes, as far as they fit | folds::counted |
-count in numbers that may overflow | | merged::count_numbers
-add each amount to its key's total, in a map that is there, or in a new one by entry | | merged::add_amounts, merged::totals_of
-add the amounts of a `Vec` by value, or of any iterator | | merged::add_vector, merged::add_all
-add amounts up to the first that doesn't fit or overflows | | merged::add_before
-keep the greatest amount of each key | | merged::keep_greatest
+count in numbers that may overflow | | merging::count_numbers
+add each amount to its key's total, in a map that is there, or in a new one by entry | | merging::add_amounts, merging::totals_of
+add the amounts of a `Vec` by value, or of any iterator | | merging::add_vector, merging::add_all
+add amounts up to the first that doesn't fit or overflows | | merging::add_before
+keep the greatest amount of each key | | merging::keep_greatest
 merge by a step of one's own that may fail | | uses/headers::collect
 put pairs into a map | extends::put_list |
-put pairs into a map, and know when they are refused | uses_tests/listed::put_pairs, uses_tests/generic::put_items | generic::put_each
+put pairs into a map, and know when they are refused | uses_tests/lists::put_pairs, uses_tests/generic::put_items | generic::put_each
 put items into a set, and know when they are refused | uses_tests/generic::put_set_items | generic::add_each
 put the items that pass into a set | extends::put_above |
-count how many different keys or items there are, in a local of any capacity | | generic::count_keys, generic::count_items, walks::count_different
+count how many different keys or items there are, in a local of any capacity | | generic::count_keys, generic::count_items, map_loops::count_different
 # Building from another map or set
-make a map of the pairs that pass | copies::above, builds::built_above | built::pairs_over
+make a map of the pairs that pass | copies::above, builds::built_above | map_loops::pairs_over
 make a map of the pairs that pass, in another capacity, and know exactly when it is refused | copies::above_in |
 make a map of the pairs of a map by value that pass | builds::map_above |
-make a map with other values | copies::halved | built::doubled
+make a map with other values | copies::halved | map_loops::doubled
 make a map of a list, or of two lists of keys and values, as far as they fit | folds::halves_of_list, folds::zipped |
 make a map with key and value exchanged, as far as they fit | folds::turned |
 make a map with other values of the pairs that pass, all or none; as far as they fit | wholes::low_halves, folds::halves |
 copy into a new map the pairs whose keys another map lacks, or has (`lacking_any` and `shared_any` at any capacity) | copies::lacking, copies::lacking_any, copies::shared, copies::shared_any |
 make a map of the pairs of two maps | builds::map_of_maps |
-make a map of the pairs that another map lacks, or has with another value | uses_tests/changed::changed |
-copy a map whose values are cloned | | built::copied
-make a set of the items that pass, or that another set lacks | copies::items_above, copies::items_lacking | collected::items_over
+make a map of the pairs that another map lacks, or has with another value | uses_tests/copies::changed |
+copy a map whose values are cloned | | map_loops::copied
+make a set of the items that pass, or that another set lacks | copies::items_above, copies::items_lacking | set_loops::items_over
 make a set of the keys, or of the values | builds::set_of_keys, builds::set_of_values |
-make a set of the keys whose value passes | | built::keys_over
-make a set of a union | builds::set_of_union | collected::all_items
+make a set of the keys whose value passes | | map_loops::keys_over
+make a set of a union | builds::set_of_union | set_loops::all_items
 make a set of a difference | builds::set_of_difference |
 make a set of an intersection | set_tests/operations::common_neighbours |
-know exactly when the set of an operation is refused | set_tests/operations::joined, uses_tests/counts::first_items, uses_tests/counts::common_items, uses_tests/counts::single_items |
+know exactly when the set of an operation is refused | set_tests/operations::joined, uses_tests/lists::first_items, uses_tests/lists::common_items, uses_tests/lists::single_items |
 make a set of the items of several sets, as far as they fit | folds::gathered |
 # Texts as keys or items
 make a map with `&str` keys of a list, as far as they fit | folds::named |
 make a map with `String` keys of a list, as far as they fit | results::spelled |
-count how often each word comes: a `&str`; in a loop of `gathered.rt` a `String`, of `words.rt` a `&str` | wholes::words_of | gathered::counted, words::counted
-make a map of names and amounts | | gathered::amounts_of, words::numbers_of
-make a set of names | | spelled::set_of
-keep the pairs whose name another map lacks | uses_tests/changed::keep_missing |
-find the first name at which two maps differ | uses_tests/words::first_changed |
-add up the values, if the sum fits: of `&str` keys; in a loop, of `String` keys | texts::total | texts::total
+count how often each word comes: a `&str`; in a loop, a `String` by `counted`, a `&str` by `counted_strs` | wholes::words_of | text_maps::counted, text_maps::counted_strs
+make a map of names and amounts | | text_maps::amounts_of, text_maps::numbers_of
+make a set of names | | text_sets::set_of
+keep the pairs whose name another map lacks | uses_tests/copies::keep_missing |
+find the first name at which two maps differ | uses_tests/text_maps::first_changed |
+add up the values, if the sum fits: of `&str` keys; in a loop, of `String` keys | texts::total | probes::total
 ask whether a key passes, or count the values that pass | texts::any_long, texts::count_large |
-find how long the longest key is, or the longest `&str` among the keys | texts::longest, texts::longest_of_strings | words::longest
-count the items that pass | | tallied::longer
-ask whether all texts of a list are keys, or any is an item | | passing::has_names, passing::has_any
-change all values, or keep the pairs that pass, in place | uses_tests/named::double_all, uses_tests/named::keep_over, uses_tests/named::keep_longer |
-make a map with other values | | named::doubled
-make a map of the pairs that pass | | named::names_over
-clone a map or a set, in a function of its own before a loop | uses_tests/moved::copied, uses_tests/moved::copied_texts, uses_tests/moved::copied_words |
-ask whether two maps, or two sets, are the same | uses_tests/same_texts::have_same_ages, uses_tests/same_texts::have_same_words |
-ask whether a set has all words of another, or none | uses_tests/related::has_words_of, uses_tests/related::are_apart |
-put a map into another, or add its amounts to those there | | named::add_all, added::add_all
-make a set of the keys of a map | | spelled::names_of
-make a set of the items that pass, or that begin with a `&str` | | spelled::longer, spelled::beginning
-make a set of what a text is made into | | spelled::prefixed
-make a set of an intersection | uses_tests/related::common_words | spelled::common_names
-make a set of a difference | uses_tests/related::words_beyond | spelled::names_beyond
-make a set of a union, or of a symmetric difference | | spelled::all_names, spelled::single_names
-take the names of a set, or of a list, out of a set | | spelled::remove_names, spelled::remove_listed
-drop the words that begin with a text | uses_tests/texts::drop_beginning |
+find how long the longest key is, or the longest `&str` among the keys | texts::longest, texts::longest_of_strings | text_maps::longest
+count the items that pass | | reads::longer
+ask whether all texts of a list are keys, or any is an item | | reads::has_names, reads::has_any
+change all values, or keep the pairs that pass, in place | uses_tests/text_maps::double_all, uses_tests/text_maps::keep_over, uses_tests/text_maps::keep_longer |
+make a map with other values | | text_maps::doubled
+make a map of the pairs that pass | | text_maps::names_over
+clone a map or a set, in a function of its own before a loop | uses_tests/text_sets::copied, uses_tests/text_sets::copied_texts, uses_tests/text_sets::copied_words |
+ask whether two maps, or two sets, are the same | uses_tests/comparison::have_same_ages, uses_tests/comparison::have_same_words |
+ask whether a set has all words of another, or none | uses_tests/text_sets::has_words_of, uses_tests/text_sets::are_apart |
+put a map into another, or add its amounts to those there | | text_maps::add_all, merging::add_text_map
+make a set of the keys of a map | | text_sets::names_of
+make a set of the items that pass, or that begin with a `&str` | | text_sets::longer, text_sets::beginning
+make a set of what a text is made into | | text_sets::prefixed
+make a set of an intersection | uses_tests/text_sets::common_words | text_sets::common_names
+make a set of a difference | uses_tests/text_sets::words_beyond | text_sets::names_beyond
+make a set of a union, or of a symmetric difference | | text_sets::all_names, text_sets::single_names
+take the names of a set, or of a list, out of a set | | text_sets::remove_names, text_sets::remove_listed
+drop the words that begin with a text | uses_tests/probes::drop_beginning |
 # Changing one in place
 change all values | map_tests/closures::keys_as_values |
-multiply all values, or change nothing if one doesn't fit then | uses_tests/changed::can_scale, uses_tests/changed::scale |
+multiply all values, or change nothing if one doesn't fit then | uses_tests/copies::can_scale, uses_tests/copies::scale |
 change the values of some keys at once | map_tests/closures::positions |
 keep the pairs that pass | map_tests/closures::keep_even |
 keep some pairs, and know how many were dropped | nested::expire |
-take an item out of each set of a map | nested::drop_everywhere, uses_tests/granted::take_built |
-add an item to a set that is a value, or keep the items of each such set that pass | uses_tests/granted::grant, uses_tests/granted::limit_all |
+take an item out of each set of a map | nested::drop_everywhere, uses_tests/values::take_built |
+add an item to a set that is a value, or keep the items of each such set that pass | uses_tests/values::grant, uses_tests/values::limit_all |
 keep some pairs, and insert one | uses_tests/copies::keep_and_insert |
 insert a pair unless its key is stored, and know whether there was room | uses_tests/copies::reserve |
 take the first pair, or the first of all and drop the others | uses_tests/generic::take_first, uses_tests/generic::first_drained, uses_tests/generic::first_key, uses_tests/generic::first_item |
 # Searching one and changing another
-put a map into another, up to the first that doesn't fit; as far as it fits | copies::put_map, folds::merged | built::add_all
-put a map into a copy of another, and know exactly when it is refused | | changed::merged
+put a map into another, up to the first that doesn't fit; as far as it fits | copies::put_map, folds::merged | map_loops::add_all
+put a map into a copy of another, and know exactly when it is refused | | copies::merged
 put a map, or the items of two sets, into another, all or nothing | uses_tests/copies::reprice, uses_tests/copies::add_both |
-put a map by value into another, all or nothing | uses_tests/combined::merge |
+put a map by value into another, all or nothing | uses_tests/map_loops::merge |
 move what `drain` yields into another map | extends::put_drained |
-merge a map into another, each amount added to the one there, up to the greatest number | | merged::add_map
-put the items of a set, or the keys of a map, into a set | extends::put_items, extends::put_keys | collected::add_all_items
-take the items of a set out of another, or out of its copy | copies::items_lacking | collected::remove_all_items
-take the items of a list out of a set | folds::left_over | collected::remove_listed
-keep or drop the pairs whose key is in a set of a known capacity | uses_tests/combined::restrict, copies::exclude |
-compare two sets that are values of a map | uses_tests/granted::covers, uses_tests/granted::are_apart |
-add the items of one set to another, and know exactly when it is refused | | granted::include
-ask whether all items of the sets of a map are its keys | uses_tests/granted::are_closed |
-know what is true of each set that is a value of a map | | granted::know_sets
-move one name's amount from a map to another | uses_tests/moved::transfer |
+merge a map into another, each amount added to the one there, up to the greatest number | | merging::add_map
+put the items of a set, or the keys of a map, into a set | extends::put_items, extends::put_keys | set_loops::add_all_items
+take the items of a set out of another, or out of its copy | copies::items_lacking | set_loops::remove_all_items
+take the items of a list out of a set | folds::left_over | set_loops::remove_listed
+keep or drop the pairs whose key is in a set of a known capacity | uses_tests/map_loops::restrict, copies::exclude |
+compare two sets that are values of a map | uses_tests/values::covers, uses_tests/values::are_apart |
+add the items of one set to another, and know exactly when it is refused | | values::include
+ask whether all items of the sets of a map are its keys | uses_tests/values::are_closed |
+know what is true of each set that is a value of a map | | values::know_sets
+move one name's amount from a map to another | uses_tests/text_sets::transfer |
 visit all that is reached from one, by a recursive call in the place of a list of work | | uses/graph::search
-work list: take the items out of a set, one after the other, until it is empty | | collected::pour
+work list: take the items out of a set, one after the other, until it is empty | | set_loops::pour
 go on until a search finds nothing new: an order in which targets can be built, or all that depend on one | | uses/order::order_of, uses/order::affected
 """
 MOST = 150  # of letters of a chain that is shown

@@ -1,4 +1,4 @@
--- What the callers in `tests/merged.rt` merge: amounts of numbers.
+-- What the callers in `tests/merging.rt` merge: amounts of numbers.
 use Rattle.std.specs.Prelude.{ℕ, ◌+◌, ◌-◌, ◌^◌, ◌&&◌, max, min, nat_eq, nat_lt, Bool, List, Option, unwrap_or}
 use Rattle.micromap.specs.Pairs.{at, fits}
 
