@@ -18,7 +18,8 @@ ask whether a value or an item passes a test | reads::any_value, reads::any_item
 ask whether a pair passes | reads::any_pair |
 ask whether all values pass, or fit once each is multiplied | reads::all_below, nested::can_scale |
 ask whether all of a list are items, or are keys | members::all_stored, members::all_stored_any, members::all_keys | reads::has_all
-ask whether all values are items of a set, or all keys or any are in another map | members::values_are_known, members::all_keys_of, members::any_key |
+ask whether all values are items of a set, or all keys are in another map | members::values_are_known, members::all_keys_of |
+ask whether two maps have a key in common, so whether they have none | members::any_key |
 ask whether any or all members of an operation on two sets pass | copies::any_common_above, copies::all_single_below |
 count the values that pass | reads::count_above | map_loops::values_over
 count the pairs that pass | reads::count_pairs |
@@ -38,7 +39,7 @@ find the least key | reads::least_key |
 find the greatest key of the pairs that pass | reads::greatest_key_above |
 find the greatest member of an operation on two sets | folds::greatest_alone |
 find the first key that passes | reads::first_key_above | map_loops::first_over
-find the first key, or the first pair, whose value passes | folds::first_above, folds::first_pair_above, answered::pair_above |
+find the first key, or the first pair, whose value passes | folds::first_above, folds::first_pair_above, answered::pair_above | values::first_with
 find the first key whose value is one of an enum with a derived `==` | | values::first_with, values::user_with
 ask whether a value is one of an enum, or keep the pairs whose value is in a set of them | uses_tests/values::is_held, uses_tests/values::keep_listed |
 find the first key whose value, a set, has a member | | map_loops::group_of
@@ -72,7 +73,7 @@ make a set of what a function makes of each | builds::set_of_halves |
 count how often each item comes, or know exactly that there are too many different ones | wholes::votes_of, builds::counts_or_none, wholes::votes_of_halves | uses/votes::tally
 count how often each item comes, as far as they fit | folds::counted |
 count in numbers that may overflow | | merging::count_numbers
-add each amount to its key's total, in a map that is there, or in a new one by entry | | merging::add_amounts, merging::totals_of
+add each amount to its key's total, in a map that is there, or in a new one by entry, and know exactly that there are too many keys | | merging::add_amounts, merging::totals_of
 add the amounts of a `Vec` by value, or of any iterator | | merging::add_vector, merging::add_all
 add amounts up to the first that doesn't fit or overflows | | merging::add_before
 keep the greatest amount of each key | | merging::keep_greatest
@@ -88,7 +89,7 @@ make a map of the pairs that pass, in another capacity, and know exactly when it
 make a map of the pairs of a map by value that pass | builds::map_above |
 make a map with other values | copies::halved | map_loops::doubled
 make a map of a list, or of two lists of keys and values, as far as they fit | folds::halves_of_list, folds::zipped |
-make a map with key and value exchanged, as far as they fit | folds::turned |
+make a map with key and value exchanged, as far as they fit; of equal values the last one's key stands | folds::turned |
 make a map with other values of the pairs that pass, all or none; as far as they fit | wholes::low_halves, folds::halves |
 copy into a new map the pairs whose keys another map lacks, or has (`lacking_any` and `shared_any` at any capacity) | copies::lacking, copies::lacking_any, copies::shared, copies::shared_any |
 make a map of the pairs of two maps | builds::map_of_maps |
@@ -114,14 +115,15 @@ add up the values, if the sum fits: of `&str` keys; in a loop, of `String` keys 
 ask whether a key passes, or count the values that pass | texts::any_long, texts::count_large |
 find how long the longest key is, or the longest `&str` among the keys | texts::longest, texts::longest_of_strings | text_maps::longest
 count the items that pass | | reads::longer
-ask whether all texts of a list are keys, or any is an item | | reads::has_names, reads::has_any
+ask whether all texts of a list are keys, so whether one is missing, or whether any is an item; of a set by `contains_by` | | reads::has_names, reads::has_any
 change all values, or keep the pairs that pass, in place | uses_tests/text_maps::double_all, uses_tests/text_maps::keep_over, uses_tests/text_maps::keep_longer |
 make a map with other values | | text_maps::doubled
 make a map of the pairs that pass | | text_maps::names_over
 clone a map or a set, in a function of its own before a loop | uses_tests/text_sets::copied, uses_tests/text_sets::copied_texts, uses_tests/text_sets::copied_words |
 ask whether two maps, or two sets, are the same | uses_tests/comparison::have_same_ages, uses_tests/comparison::have_same_words |
 ask whether a set has all words of another, or none | uses_tests/text_sets::has_words_of, uses_tests/text_sets::are_apart |
-put a map into another, or add its amounts to those there | | text_maps::add_all, merging::add_text_map
+put a map over another, whose values it replaces, as settings over defaults, up to the first pair that doesn't fit | | text_maps::add_all
+add the amounts of a map to those there | | merging::add_text_map
 make a set of the keys of a map | | text_sets::names_of
 make a set of the items that pass, or that begin with a `&str` | | text_sets::longer, text_sets::beginning
 make a set of what a text is made into | | text_sets::prefixed
@@ -137,7 +139,7 @@ change the values of some keys at once | map_tests/closures::positions |
 keep the pairs that pass | map_tests/closures::keep_even |
 keep some pairs, and know how many were dropped | nested::expire |
 take an item out of each set of a map | nested::drop_everywhere, uses_tests/values::take_built |
-add an item to a set that is a value, or keep the items of each such set that pass | uses_tests/values::grant, uses_tests/values::limit_all |
+add an item to the set that is a key's value, or keep the items of each such set that pass | uses_tests/values::grant, uses_tests/values::limit_all |
 keep some pairs, and insert one | uses_tests/copies::keep_and_insert |
 insert a pair unless its key is stored, and know whether there was room | uses_tests/copies::reserve |
 take the first pair, or the first of all and drop the others | uses_tests/generic::take_first, uses_tests/generic::first_drained, uses_tests/generic::first_key, uses_tests/generic::first_item |
