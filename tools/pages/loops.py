@@ -19,7 +19,10 @@ ask whether a pair passes | reads::any_pair |
 ask whether all values pass, or fit once each is multiplied | reads::all_below, nested::can_scale |
 ask whether all of a list are items, or are keys | members::all_stored, members::all_stored_any, members::all_keys | reads::has_all
 ask whether all values are items of a set, or all keys are in another map | members::values_are_known, members::all_keys_of |
-ask whether two maps have a key in common, so whether they have none | members::any_key |
+ask whether two maps have a key in common, or none | members::any_key, members::have_no_common_key |
+add up what a map has for each key of a list, or know that one is missing | folds::price_of |
+look a key up in several maps: the value of the first that has it; by recursion, of the last | folds::first_value | uses/scopes::value_of
+go from key to value for a number of steps | folds::follow |
 ask whether any or all members of an operation on two sets pass | copies::any_common_above, copies::all_single_below |
 count the values that pass | reads::count_above | map_loops::values_over
 count the pairs that pass | reads::count_pairs |
@@ -34,7 +37,7 @@ count the pairs of a map by value that pass | reads::count_of |
 add up the values, the pairs or the items in a wider type, by a bound on the number of values, of pairs or of items | sums::total_wide, sums::total_of_pairs, sums::total_of_items |
 add up the members of an operation on two sets, if the sum fits | | set_tests/operations::total
 find the greatest value | reads::greatest |
-find the key with the greatest value, and that value | uses/votes::winner |
+find the key with the greatest value, or with the least, and that value | uses/votes::winner, reads::cheapest |
 find the least key | reads::least_key |
 find the greatest key of the pairs that pass | reads::greatest_key_above |
 find the greatest member of an operation on two sets | folds::greatest_alone |
@@ -55,11 +58,12 @@ know that there is no pair where `get` finds nothing, or that equal keys find th
 compare two maps in their order | reads::have_equal_values, uses_tests/map_loops::have_keys_in_order |
 ask whether two maps are the same, or read the values at which they differ | uses_tests/generic::find_same, uses_tests/comparison::conflict |
 ask whether two sets have the same items, or one has all items of the other | uses_tests/comparison::have_same_items, uses_tests/comparison::includes |
-list the keys in a `Vec`, all or those whose value passes | reads::list_of_keys, reads::list_of_keys_above |
+list the keys in a `Vec`, all or those whose value passes, or the items of a set | reads::list_of_keys, reads::list_of_keys_above, reads::list_of_items |
 list the pairs of a map by value, into a `Vec` | reads::list_of_pairs |
 list the members of an operation in a `Vec`, all or those that pass | reads::list_of_union, set_tests/operations::evens |
 # Building from a list
 make a map of pairs, of two lists, of a `Vec` | builds::map_of_list, builds::map_of_lists, builds::map_of_vec |
+make a map of pairs, all or none, and know exactly that they are too many | wholes::whole, builds::whole_or_none |
 make a set of items | builds::set_of_list |
 make a set of a list, or refuse exactly if it has too many different items | | lists::distinct_items
 make a map, or a set, of any iterator | uses_tests/lists::collected_pairs, uses_tests/lists::collected_items |
@@ -95,14 +99,15 @@ copy into a new map the pairs whose keys another map lacks, or has (`lacking_any
 make a map of the pairs of two maps | builds::map_of_maps |
 make a map of the pairs that another map lacks, or has with another value | uses_tests/copies::changed |
 copy a map whose values are cloned | | map_loops::copied
-make a set of the items that pass, or that another set lacks | copies::items_above, copies::items_lacking | set_loops::items_over
+make a set of the items that pass, or that another set lacks (`items_lacking_any` at any capacity) | copies::items_above, copies::items_lacking, copies::items_lacking_any | set_loops::items_over
 make a set of the keys, or of the values | builds::set_of_keys, builds::set_of_values |
+make a set of the keys that pass | builds::set_of_keys_above |
 make a set of the keys whose value passes | | map_loops::keys_over
 make a set of a union | builds::set_of_union | set_loops::all_items
 make a set of a difference | builds::set_of_difference |
 make a set of an intersection | set_tests/operations::common_neighbours |
 know exactly when the set of an operation is refused | set_tests/operations::joined, uses_tests/lists::first_items, uses_tests/lists::common_items, uses_tests/lists::single_items |
-make a set of the items of several sets, as far as they fit | folds::gathered |
+make a set of the items of several sets, as far as they fit; without those of another set | folds::gathered, nested::effective |
 # Texts as keys or items
 make a map with `&str` keys of a list, as far as they fit | folds::named |
 make a map with `String` keys of a list, as far as they fit | results::spelled |
@@ -137,6 +142,7 @@ change all values | map_tests/closures::keys_as_values |
 multiply all values, or change nothing if one doesn't fit then | uses_tests/copies::can_scale, uses_tests/copies::scale |
 change the values of some keys at once | map_tests/closures::positions |
 keep the pairs that pass | map_tests/closures::keep_even |
+change all values, and drop the pairs that fail then, as those that reach zero | nested::lower |
 keep some pairs, and know how many were dropped | nested::expire |
 take an item out of each set of a map | nested::drop_everywhere, uses_tests/values::take_built |
 add an item to the set that is a key's value, or keep the items of each such set that pass | uses_tests/values::grant, uses_tests/values::limit_all |

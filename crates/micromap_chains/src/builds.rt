@@ -88,6 +88,13 @@ pub fn set_of_keys<const N: usize>(pairs: &Map<u8, u32, N>) -> Result<Set<u8, N>
     Set::try_from_iter(pairs.keys().copied())
 }
 
+/// Returns the keys of a map that are above 9 as a set.
+pub fn set_of_keys_above<const N: usize>(pairs: &Map<u8, u32, N>) -> Result<Set<u8, N>, Overfull>
+    ensures { IfOk result (λ s. s ≡ filter (nat_lt 9) (keys_of pairs.now)) }
+{
+    Set::try_from_iter(pairs.keys().copied().filter(|k| *k > 9))
+}
+
 /// Returns the items of a set that are above 9.
 pub fn set_above<const N: usize>(set: &Set<u8, N>) -> Result<Set<u8, N>, Overfull>
     ensures { IfOk result (λ s. s ≡ filter (nat_lt 9) set.now) }
@@ -183,4 +190,12 @@ pub fn counts_or_none<const N: usize>(list: &[u8]) -> Option<Map<u8, usize, N>>
     ensures refused { IsNone result ↔ (N < distinct_count nat_eq list.now) }
 {
     wholes::votes_of(list)
+}
+
+/// Returns the map of a list of pairs, or `None` exactly if they have too many distinct keys.
+pub fn whole_or_none<const N: usize>(list: &[(u8, u8)]) -> Option<Map<u8, u8, N>>
+    ensures made { IfSome result (λ m. m ≡ build nat_eq list.now) }
+    ensures refused { IsNone result ↔ (N < distinct_count nat_eq (keys_of list.now)) }
+{
+    wholes::whole(list)
 }

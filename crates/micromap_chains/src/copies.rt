@@ -140,3 +140,19 @@ pub fn items_lacking(set: &Set<u8, 8>, other: &Set<u8, 16>) -> Set<u8, 8>
     some.retain(|item| !other.contains(item));
     some
 }
+
+/// Returns the items of a set that another lacks, for any capacity.
+pub fn items_lacking_any<const N: usize, const M: usize>(
+    set: &Set<u8, N>,
+    other: &Set<u8, M>,
+) -> Set<u8, N>
+    ensures { result ≡ filter (λ x. not (is_member nat_eq other.now x)) set.now }
+{
+    let mut some = set.copied();
+    some.retain(
+        |item: &u8| -> bool
+            ensures { result ≡ not (is_member nat_eq other.entry.now item.now) }
+        { !other.contains(item) },
+    );
+    some
+}

@@ -2,8 +2,8 @@
 #![tactic(auto)]
 
 ghost use Rattle.std.specs.Prelude.{◌≡◌, ◌/◌, ◌+◌, ◌-◌, ◌^◌, ◌<◌, ◌&&◌, [], Some, None, List, Option, ℕ, true, filter, fold, if◌then◌else◌, is_none, length, map, max, min, nat_eq, nat_lt, not, unwrap_or};
-ghost use Rattle.std.specs.List.{enumerate_from, zip};
-ghost use Rattle.std.specs.Option.{option_and_then};
+ghost use Rattle.std.specs.List.{enumerate_from, zip, range_with_len};
+ghost use Rattle.std.specs.Option.{option_and_then, option_or};
 ghost use Rattle.std.specs.Set.{is_member};
 ghost use Rattle.std.specs.Ordering.{on};
 ghost use Rattle.std.specs.Str.{bytes_eq};
@@ -212,6 +212,39 @@ pub fn all_halves(list: &[u8]) -> Option<Map<u8, u8, 16>>
             map.checked_insert(p.0, p.1)?;
             Some(map)
         })
+}
+
+/// Returns what a map has for each key of a list, added up, or `None` if one is missing or the sum doesn't fit.
+pub fn price_of(prices: &Map<u8, u32, 16>, basket: &[u8]) -> Option<u32>
+    ensures { result ≡ fold
+        (λ (sum : Option ℕ) (k : ℕ). option_and_then (λ s. option_and_then (λ p. if nat_lt (s + p) (2 ^ 32) then Some (s + p) else None) (at nat_eq prices.now k)) sum)
+        (Some 0) basket.now }
+{
+    basket.iter().fold(Some(0), |sum: Option<u32>, k| {
+        let so_far = sum?;
+        let price = prices.get(k)?;
+        so_far.checked_add(*price)
+    })
+}
+
+/// Returns where one comes from a start by so many steps of a map, or `None` if a step is missing.
+pub fn follow(next: &Map<u8, u8, 16>, start: u8, steps: u8) -> Option<u8>
+    ensures { result ≡ fold (λ (place : Option ℕ) (_ : ℕ). option_and_then (at nat_eq next.now) place) (Some start) (range_with_len 0 steps) }
+{
+    (0..steps).fold(
+        Some(start),
+        |place: Option<u8>, _| next.get(&place?).copied(),
+    )
+}
+
+/// Returns the value of a key in the first of several maps that has it.
+pub fn first_value(layers: &[Map<u8, u32, 16>], key: u8) -> Option<u32>
+    ensures { result ≡ fold (λ (found : Option ℕ) (m : List (ℕ × ℕ)). option_or found (at nat_eq m key)) None layers.now }
+{
+    layers.iter().fold(
+        None,
+        |found: Option<u32>, layer| found.or(layer.get(&key).copied()),
+    )
 }
 
 /// Returns a map with each of the votes, as far as they fit.

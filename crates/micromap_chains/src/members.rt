@@ -1,7 +1,7 @@
 //! Chains whose tests look into another map or set.
 #![tactic(auto)]
 
-ghost use Rattle.std.specs.Prelude.{◌≡◌, count_by, nat_eq};
+ghost use Rattle.std.specs.Prelude.{◌≡◌, count_by, nat_eq, not};
 ghost use Rattle.std.specs.List.{list_all, list_any};
 ghost use Rattle.std.specs.Map.{values_of};
 ghost use Rattle.std.specs.Set.{is_member};
@@ -80,4 +80,11 @@ pub fn all_keys_of(a: &Map<u8, u32, 16>, b: &Map<u8, u32, 8>) -> bool
     ensures { result ≡ list_all (λ p. has nat_eq b.now p.0) a.now }
 {
     a.iter().all(|(k, _)| b.contains_key(k))
+}
+
+/// Returns `true` if two maps have no key in common.
+pub fn have_no_common_key(a: &Map<u8, u32, 16>, b: &Map<u8, u32, 8>) -> bool
+    ensures { result ≡ list_all (λ p. not (has nat_eq b.now p.0)) a.now }
+{
+    a.iter().all(|(k, _)| !b.contains_key(k))
 }

@@ -1,12 +1,12 @@
 //! What is read of a map, and of sets.
 #![tactic(auto, using(micromap::proofs::Rules::caller))]
 
-ghost use Rattle.std.specs.Prelude.{◌≡◌, ◌-◌, ◌^◌, ◌<◌, ◌&&◌, ◌==◌, IfOk, count_by, filter, if◌then◌else◌, length, map, max, min, nat_eq, nat_lt, position, slice_get, sum};
+ghost use Rattle.std.specs.Prelude.{◌≡◌, ◌-◌, ◌^◌, ◌<◌, ◌&&◌, ◌==◌, IfOk, count_by, filter, if◌then◌else◌, length, map, max, min, nat_eq, nat_lt, position, slice_get, sum, ◌↔◌, ◌≤◌, [], IsNone};
 ghost use Rattle.std.specs.Cmp.Lexicographic.{pointwise};
-ghost use Rattle.std.specs.List.{enumerate_from, find, fold, list_all, list_any, reduce, zip};
+ghost use Rattle.std.specs.List.{enumerate_from, find, fold, list_all, list_any, reduce, zip, All, Contains};
 ghost use Rattle.std.specs.Map.{keys_of, values_of};
 ghost use Rattle.std.specs.Map.Iter.{deref_pair};
-ghost use Rattle.std.specs.Option.{option_copied, option_map};
+ghost use Rattle.std.specs.Option.{option_copied, option_map, IfSome};
 ghost use Rattle.micromap.specs.Operations.{intersection, union};
 
 use micromap::{Map, Set};
@@ -253,4 +253,21 @@ pub fn count_common<const N: usize, const M: usize>(a: &Set<u8, N>, b: &Set<u8, 
     ensures { result ≡ length (intersection nat_eq a.now b.now) }
 {
     a.intersection(b).count()
+}
+
+/// Returns a key with the least value, and that value, or `None` if there is no key.
+pub fn cheapest<const N: usize>(prices: &Map<u8, u32, N>) -> Option<(u8, u32)>
+    ensures none { IsNone result ↔ (prices.now ≡ []) }
+    ensures found { IfSome result (Contains prices.now) }
+    ensures least { IfSome result (λ least. All (λ other. least.1 ≤ other.1) prices.now) }
+{
+    let (key, price) = prices.iter().min_by_key(|pair| *pair.1)?;
+    Some((*key, *price))
+}
+
+/// Returns the items of a set in a list.
+pub fn list_of_items<const N: usize>(alloc: Global, set: &Set<u8, N>) -> Result<Vec<u8>, AllocError>
+    ensures { IfOk result (λ v. v.items ≡ set.now) }
+{
+    set.iter().copied().collect(alloc)
 }

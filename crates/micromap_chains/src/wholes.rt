@@ -9,6 +9,14 @@ ghost use Rattle.micromap.specs.Extend.{distinct_or_refuse};
 
 use micromap::{Map, Set};
 
+/// Returns the map of a list of pairs, or `None` if they don't all fit.
+#[tactic(auto, unfolding(micromap_core::specs::Build::build_or_refuse))]
+pub fn whole<const N: usize>(list: &[(u8, u8)]) -> Option<Map<u8, u8, N>>
+    ensures { result ≡ build_or_refuse nat_eq N list.now }
+{
+    Map::of_all(list.iter().map(|p| *p))
+}
+
 /// Returns the items of a list with their halves, or `None` if they don't all fit.
 #[tactic(auto, unfolding(micromap_core::specs::Build::build_or_refuse))]
 pub fn halves<const N: usize>(list: &[u8]) -> Option<Map<u8, u8, N>>
