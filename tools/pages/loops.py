@@ -29,7 +29,7 @@ count the pairs that pass | reads::count_pairs |
 count the items that pass | reads::count_items_above | reads::items_over
 count the items of a list, or of a set, that are in a set | members::count_stored, members::count_stored_any, members::count_known |
 ask whether the values are those of a list, in order | reads::has_values |
-count the values that are their own index | reads::count_at_index |
+count the values that are their own index, or the sets of a map that are empty | reads::count_at_index, members::count_empty |
 count the members of an operation on two sets | reads::count_union, reads::count_common, set_tests/operations::missing |
 add up the values, if the sum fits; with texts as keys, see the texts below | reads::total | map_tests/walks::total
 add up the values of a map by value | reads::total_of |
@@ -119,8 +119,9 @@ find the first name at which two maps differ | uses_tests/text_maps::first_chang
 add up the values, if the sum fits: of `&str` keys; in a loop, of `String` keys | texts::total | probes::total
 ask whether a key passes, or count the values that pass | texts::any_long, texts::count_large |
 find how long the longest key is, or the longest `&str` among the keys | texts::longest, texts::longest_of_strings | text_maps::longest
+list the words of a list that a set lacks | texts::unknown_words |
 count the items that pass | | reads::longer
-ask whether all texts of a list are keys, so whether one is missing, or whether any is an item; of a set by `contains_by` | | reads::has_names, reads::has_any
+ask whether all texts of a list are items; in a loop, whether all are keys, or any is an item | texts::knows_all | reads::has_names, reads::has_any
 change all values, or keep the pairs that pass, in place | uses_tests/text_maps::double_all, uses_tests/text_maps::keep_over, uses_tests/text_maps::keep_longer |
 make a map with other values | | text_maps::doubled
 make a map of the pairs that pass | | text_maps::names_over

@@ -1,7 +1,7 @@
 //! Chains whose tests look into another map or set.
 #![tactic(auto)]
 
-ghost use Rattle.std.specs.Prelude.{◌≡◌, count_by, nat_eq, not};
+ghost use Rattle.std.specs.Prelude.{◌≡◌, count_by, nat_eq, not, length};
 ghost use Rattle.std.specs.List.{list_all, list_any};
 ghost use Rattle.std.specs.Map.{values_of};
 ghost use Rattle.std.specs.Set.{is_member};
@@ -87,4 +87,11 @@ pub fn have_no_common_key(a: &Map<u8, u32, 16>, b: &Map<u8, u32, 8>) -> bool
     ensures { result ≡ list_all (λ p. not (has nat_eq b.now p.0)) a.now }
 {
     a.iter().all(|(k, _)| !b.contains_key(k))
+}
+
+/// Returns how many sets of a map are empty.
+pub fn count_empty(groups: &Map<u8, Set<u8, 8>, 16>) -> usize
+    ensures { result ≡ count_by (λ p. nat_eq (length p.1) 0) groups.now }
+{
+    groups.iter().filter(|p| p.1.len() == 0).count()
 }

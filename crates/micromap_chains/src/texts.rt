@@ -1,12 +1,16 @@
 //! What is read of a map with texts as keys.
 #![tactic(auto, using(micromap::proofs::Rules::caller))]
 
-ghost use Rattle.std.specs.Prelude.{◌≡◌, ◌^◌, ◌<◌, count_by, filter, length, map, max, nat_lt, sum};
-ghost use Rattle.std.specs.List.{list_any, reduce};
+ghost use Rattle.std.specs.Prelude.{◌≡◌, ◌^◌, ◌<◌, count_by, filter, length, map, max, nat_lt, sum, IfOk, not};
+ghost use Rattle.std.specs.List.{list_any, reduce, list_all};
 ghost use Rattle.std.specs.Map.{keys_of, values_of};
 ghost use Rattle.std.specs.String.{string_bytes};
+ghost use Rattle.std.specs.Set.{is_member};
+ghost use Rattle.std.specs.Str.{bytes_eq};
+ghost use Rattle.micromap.specs.Texts.{item_texts};
 
-use micromap::Map;
+use micromap::{Map, Set, Text};
+use std::alloc::{AllocError, Global};
 
 /// Returns the sum of the values, which must fit.
 pub fn total<const N: usize>(names: &Map<&str, u64, N>) -> u64
@@ -58,4 +62,34 @@ pub fn large<'a, const N: usize>(names: &Map<&'a str, u64, N>) -> Map<&'a str, u
     let mut some = names.copied();
     some.retain(|_, value| *value > 5);
     some
+}
+
+/// Returns `true` if a set has all words of a list.
+pub fn knows_all<const N: usize>(words: &[&str], known: &Set<String, N>) -> bool
+    ensures { result ≡ list_all (λ w. is_member bytes_eq (item_texts known.now) w.now) words.now }
+{
+    words.iter().all(
+        |w: &&str| -> bool
+            ensures { result ≡ is_member bytes_eq (item_texts known.entry.now) w.now.now }
+        { known.contains_by(&Text(*w)) },
+    )
+}
+
+/// Returns the words of a list that a set lacks, in order.
+pub fn unknown_words<'a, const N: usize>(
+    alloc: Global,
+    words: &[&'a str],
+    known: &Set<String, N>,
+) -> Result<Vec<&'a str>, AllocError>
+    ensures { IfOk result (λ list. list.items ≡ filter (λ w. not (is_member bytes_eq (item_texts known.now) w.now)) words.now) }
+{
+    words
+        .iter()
+        .copied()
+        .filter(
+            |w: &&str| -> bool
+                ensures { result ≡ not (is_member bytes_eq (item_texts known.entry.now) w.now.now) }
+            { !known.contains_by(&Text(*w)) },
+        )
+        .collect(alloc)
 }
