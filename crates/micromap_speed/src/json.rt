@@ -6,7 +6,9 @@ use micromap::{Map, map_from_json, map_to_json};
 use std::alloc::Global;
 
 #[inline(never)]
-fn filled<const N: usize>(memory: Global, salt: u64) -> Map<String, i64, N> {
+fn filled<const N: usize>(memory: Global, salt: u64) -> Map<String, i64, N>
+    requires { N ≤ 1024 }
+{
     let mut map = Map::new();
     for index in 0..N as u64 {
         if let Ok(text) = String::from_str(memory, word(index ^ salt)) {
@@ -17,7 +19,9 @@ fn filled<const N: usize>(memory: Global, salt: u64) -> Map<String, i64, N> {
 }
 
 #[inline(never)]
-fn write<const N: usize>(memory: Global, salt: u64, rounds: u64) -> u64 {
+fn write<const N: usize>(memory: Global, salt: u64, rounds: u64) -> u64
+    requires { N ≤ 1024 }
+{
     let map = filled::<N>(memory, salt);
     let mut sum = 0u64;
     for _ in 0..rounds {
@@ -29,7 +33,9 @@ fn write<const N: usize>(memory: Global, salt: u64, rounds: u64) -> u64 {
 }
 
 #[inline(never)]
-fn read<const N: usize>(memory: Global, salt: u64, rounds: u64) -> u64 {
+fn read<const N: usize>(memory: Global, salt: u64, rounds: u64) -> u64
+    requires { N ≤ 1024 }
+{
     let mut sum = 0u64;
     if let Ok(text) = map_to_json(memory, &filled::<N>(memory, salt)) {
         for _ in 0..rounds {
