@@ -112,7 +112,7 @@ make a set of the items of several sets, as far as they fit; without those of an
 make a map with `&str` keys of a list, as far as they fit | folds::named |
 make a map with `String` keys of a list, as far as they fit | results::spelled |
 count how often each word comes: a `&str`; in a loop, a `String` by `counted`, a `&str` by `counted_strs` | wholes::words_of | text_maps::counted, text_maps::counted_strs
-make a map of names and amounts | | text_maps::amounts_of, text_maps::numbers_of
+make a map of names and amounts, or of names and texts, or know exactly that there are too many names | | text_maps::amounts_of, text_maps::numbers_of, text_maps::texts_of
 make a set of names | | text_sets::set_of
 keep the pairs whose name another map lacks | uses_tests/copies::keep_missing |
 find the first name at which two maps differ | uses_tests/text_maps::first_changed |

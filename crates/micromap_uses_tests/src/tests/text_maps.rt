@@ -12,7 +12,7 @@ ghost use Rattle.micromap.specs.Build.{build, counts, put_all};
 ghost use Rattle.micromap.specs.Items.{put_item_if_fits, take_item};
 ghost use Rattle.micromap.specs.Pairs.{at, fits, has, put, put_if_fits, take_out};
 ghost use Rattle.micromap.specs.Same.{Same, first_difference, same_at};
-ghost use Rattle.micromap.specs.Texts.{item_strs, key_strs, key_texts};
+ghost use Rattle.micromap.specs.Texts.{item_strs, key_strs, key_texts, texts};
 
 use micromap::{Map, Set, Text};
 use std::alloc::{AllocError, Global};
@@ -148,6 +148,29 @@ pub(super) fn amounts_of<const N: usize>(
         }
     }
     Ok(Some(amounts))
+}
+
+// The map of these names and texts, or `None` if there are more than `N` names. A name that comes again gets its last text.
+#[tactic(auto, using(micromap::proofs::Rules::maps, micromap::proofs::Rules::texts, micromap::proofs::Rules::lists, micromap::proofs::Rules::loops))]
+fn texts_of<const N: usize>(
+    alloc: Global,
+    pairs: &[(&str, &str)],
+) -> Result<Option<Map<String, String, N>>, AllocError>
+    ensures texts { IfOk result (λ answer. IfSome answer (λ m. texts m ≡ build bytes_eq (map (λ p. (p.0.now, p.1.now)) pairs.now))) }
+    ensures refused { IfOk result (λ answer. IsNone answer ↔ (N < length (build bytes_eq (map (λ p. (p.0.now, p.1.now)) pairs.now)))) }
+{
+    let mut made = Map::new();
+    for (name, text) in pairs {
+        let text = String::from_str(alloc, text)?;
+        if let Some(stored) = made.get_mut_by(&Text(name)) {
+            *stored = text;
+        } else if made.len() < N {
+            made.insert(String::from_str(alloc, name)?, text);
+        } else {
+            return Ok(None);
+        }
+    }
+    Ok(Some(made))
 }
 
 #[tactic(auto, using(micromap::proofs::Rules::caller))]
