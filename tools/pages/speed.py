@@ -30,6 +30,7 @@ CHOICE_WORDS = {
     "new and fill": "a new map is filled",
     "clone": "a map is cloned",
 }
+SQUARE = ["count by entries", "new and fill"]  # whose time grows with the square of the number of pairs
 NEW_MAPS = ["copied", "put one, hand on"]  # without which MAINTAINING.md says the means too
 PART = r"(^<!-- made by tools/compare: ([^\n]*) -->\n).*?(^<!-- end -->$)"
 
@@ -146,8 +147,8 @@ def choice_table(times):
         first, last = min(own), max(own)
         grows = (own[last] - own[first]) / (last - first)
         ratios = {rival: dict(zip(cells, over(cells, rival, 0))) for rival in CHOICES}
-        figures = [f"{own[first]:.1f} ns", f"{grows:.2f} ns", *(coarse(ratios[rival][at]) for rival, at in columns)]
-        yield row([f"{words} (`{workload}`)", *figures])
+        more = "" if workload in SQUARE else f"{grows:.2f} ns"
+        yield row([f"{words} (`{workload}`)", f"{own[first]:.1f} ns", more, *(coarse(ratios[rival][at]) for rival, at in columns)])
 
 
 def alone_table(alone):
