@@ -284,7 +284,8 @@ class Proved:
     @property
     def imports(self):
         """The lines `ghost use` of the file, with the words that the function's clauses name."""
-        text = "\n".join(re.findall("(?:ensures|requires).*", self.whole))
+        head, _, body = self.whole.partition("\n{\n")
+        text = "\n".join([*re.findall("(?:ensures|requires).*", head, re.S), *re.findall("(?:ensures|requires).*", body)])
         for path, names in re.findall(r"^ghost use ([\w.]+)\.\{(.*)\};$", read(self.path), re.M):
             used = [it for it in names.split(", ") if is_named(it, text)]
             if used:
