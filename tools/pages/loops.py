@@ -175,13 +175,15 @@ CHAINS_INTRO = """# Chains and calls with their contracts
 
 These are the functions to which the [index](PROVING.md#loops) leads, in its order, that need no proof by hand: chains of \
 iterators, calls, and a few loops. Each has its contract, and the line under which it is proved. Write that line as `#[..]` \
-at your function, or as `#![..]` at the head of your file. Of the imports each has those of the words in its clauses.
+at your function, or as `#![..]` at the head of your file. Of the imports each has those of the words in its clauses. \
+Their files are in micromap's own repository, not in a copy by its `tools/add`.
 
 """
 LOOPS_INTRO = """# Loops with their proofs
 
 These are the functions to which the [index](PROVING.md#loops) leads, in its order, that need an invariant, or *answers*, \
-which are proofs by hand of single goals. [PROVING](PROVING.md#an-invariant) says how an invariant is read.
+which are proofs by hand of single goals. Their files are in micromap's own repository, not in a copy by its `tools/add`. \
+[PROVING](PROVING.md#an-invariant) says how an invariant is read.
 
 - Write the line `tactic` as `#[..]` at your function, or as `#![..]` at the head of your file.
 - Each block is as its file has it, but for the path of `Given` or `Goals`. Of the imports of words it has those that the \
