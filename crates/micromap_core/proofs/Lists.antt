@@ -1,9 +1,9 @@
 -- Facts about lists and options alone.
 use Rattle.std.proofs.Common.{Bool, if◌then◌else◌, Option, Some, None, is_some, slice_get, ◌++◌, ◌≡◌, ℕ, suc, zero, ◌<◌}
 use Rattle.std.proofs.Common.{◌≤◌, List, [], ◌∷◌, length, get_or, set, take, drop, map, refl, ap, sym, ◌∙◌, arith}
-use Rattle.std.proofs.Common.{drop-cons, ◌+◌, subst}
-use Rattle.std.specs.Option.{ForSome, IfSome}
-use Rattle.std.specs.List.{remove, swap, refill}
+use Rattle.std.proofs.Common.{drop-cons, ◌+◌, subst, not, true, false, ◌&&◌}
+use Rattle.std.specs.Option.{ForSome, IfSome, MatchOption}
+use Rattle.std.specs.List.{find, list_all, remove, swap, refill}
 use Rattle.std.proofs.Math.ListN.{get_or-map}
 use Rattle.std.proofs.lemmas.List.{get_or-set_same, length-map, drop-map, drop-set-lt, map-set, map-append, take-map, take-set, length-set, take_at}
 use Rattle.std.proofs.lemmas.Option.{get_or_from_slice_get, slice_get-get_or, slice_get_within}
@@ -130,3 +130,23 @@ module _ {X Y : Type 0} (read : X → Y) (items : List X) (i : ℕ) where
   all_read P all over =
       subst P (take-map read i items)
       (all (subst (λ n. n ≤ i) (sym (length-map items read)) over))
+
+-- what is true of each item that fails a test is true of the first one, and where there is none all pass
+module _ {X : Type 0} (test : X → Bool) where
+  pub find_tells : {P : X → Type 0} (xs : List X)
+      → ((i : ℕ) (x : X) → slice_get xs i ≡ Some x → test x ≡ false → P x)
+      → MatchOption (find (λ x. not (test x)) xs) (list_all test xs ≡ true) P
+  find_tells [] each = refl
+  find_tells {P = P} (x ∷ xs) each =
+      by (test x) (each 0 x refl) (find_tells xs (λ i. each (suc i)))
+    where
+      by : (b : Bool) → (b ≡ false → P x)
+          → MatchOption (find (λ x. not (test x)) xs) (list_all test xs ≡ true) P
+          → MatchOption (if not b then Some x else find (λ x. not (test x)) xs)
+          ((b && list_all test xs) ≡ true) P
+      by true here rest = rest
+      by false here rest = here refl
+
+  pub all_by_find : (xs : List X) → list_all test xs ≡ not (is_some (find (λ x. not (test x)) xs))
+  all_by_find [] = refl
+  all_by_find (x ∷ xs) = grind (arith, all_by_find xs)

@@ -1,5 +1,6 @@
--- What a test of keys finds in a list of pairs, and what a change of a map makes of it: the lemmas behind `MapLaws` and
--- the answers of the map's calls. The first part is about the index of the first key that passes a test, and a scan for it.
+-- What a test of keys finds in a list of pairs, and what a change of a map makes of it: the lemmas behind `MapLaws`,
+-- `ProbedLaws` and the answers of the map's calls. The first part is about the index of the first key that passes a test,
+-- and a scan for it.
 use Rattle.std.proofs.Common.{◌≡◌, ℕ, zero, suc, ◌+◌, ◌<◌, ◌≤◌, Bool, true, false, not, cond, List, [], ◌∷◌, length}
 use Rattle.std.proofs.Common.{Option, Some, None, IfSome, IfNone, is_some, refl, ap, sym, arith, if◌then◌else◌, ◌++◌}
 use Rattle.std.proofs.Common.{get_or, set, slice_get, slice_set, subst, ◌∙◌, filter, reverse}
@@ -348,6 +349,19 @@ module _ {K V : Type 0} (eq : K → K → Bool) (test : K → Bool) (p : IsProbe
   unfolding IsDistinct
   keys_removed [] unique = refl
   keys_removed (e ∷ es) unique = grind (arith, keys_removed es unique.1, others eq test p e.0)
+
+  -- and none of them passes
+  pub lookup-removed : (pairs : List (K × V)) → IsUnique eq pairs
+      → lookup test (remove_entry test pairs) ≡ None
+  unfolding IsDistinct
+  lookup-removed [] unique = refl
+  lookup-removed (e ∷ es) unique = let apart = unique.0 in
+      grind (
+        arith,
+        lookup-removed es unique.1,
+        none_apart e.0 es,
+        lookup-entry test es,
+      )
 
 pub lookup-append : {K V : Type 0} (test : K → Bool) (first second : List (K × V))
     → lookup test (first ++ second) ≡ option_or (lookup test first) (lookup test second)

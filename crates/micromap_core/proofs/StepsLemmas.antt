@@ -64,7 +64,7 @@ module _ {K V : Type 0} (eq : K → K → Bool) where
 
 -- a comparison takes the steps of a walk where the lengths are equal, and else none
 module _ {K V : Type 0} (eq : K → K → Bool) (same : V → V → Bool) (first second : List (K × V))
-    (m n : ℕ) (one : m ≡ length first) (two : n ≡ length second) where
+    {m n : ℕ} (one : m ≡ length first) (two : n ≡ length second) where
   pub comparison_long : m ≡ n
       → comparison_steps eq same first second ≡ walk_steps eq same second first
   comparison_long long = ap (λ b. if b then walk_steps eq same second first else 0)

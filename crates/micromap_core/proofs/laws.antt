@@ -7,6 +7,7 @@ pub mod LoopLaws
 pub mod MapLaws
 pub mod MergeLaws
 pub mod MisfitLemmas
+pub mod ProbedLaws
 pub mod SumLaws
 pub mod TextLemmas
 pub mod TextLoops

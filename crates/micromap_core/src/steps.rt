@@ -5,8 +5,8 @@ use std::marker::Model;
 
 /// Counts comparisons of keys.
 ///
-/// A contract sees it as their number. `Map::get_counted` and `Map::eq_with_counted` make every comparison by `same`,
-/// so that the number is proved.
+/// A contract sees it as their number. `Map::get_counted` and `Map::eq_with_counted` compare keys by `same`. What each
+/// call adds to the number is proved.
 #[derive(Debug, Drop)]
 pub struct Steps {
     counted: u128,

@@ -1,7 +1,7 @@
 -- For callers: what the lengths of two lists with unequal items, or with unequal keys, tell of the two. Sameness is an
 -- equivalence. A map's or a set's `content` has the premises: `Lawful`, and the unequal items or keys.
-use Rattle.std.proofs.Common.{◌≡◌, ◌<◌, ◌≤◌, ◌↔◌, Bool, true, false, not, ◌&&◌, ◌||◌, IsTrue, List, [], ◌∷◌, filter, length, ap, ◌∙◌, inl, inr, arith}
-use Rattle.std.specs.Cmp.{IsEquivalence, first_so, second_so}
+use Rattle.std.proofs.Common.{◌≡◌, ◌<◌, ◌≤◌, ◌↔◌, Bool, true, false, not, ◌&&◌, ◌||◌, IsTrue, List, [], ◌∷◌, filter, length, ap, sym, ◌∙◌, inl, inr, arith}
+use Rattle.std.specs.Cmp.{IsEquivalence}
 use Rattle.std.specs.Cmp.Derive.{both_true}
 use Rattle.std.specs.List.{IsDistinct, list_all}
 use Rattle.std.specs.Map.{keys_of}
@@ -15,7 +15,7 @@ use Rattle.micromap_core.specs.Same.{have_equal_items, HaveEqualItems, has_value
 use Rattle.micromap_core.specs.SameLaws.{have_equal_items_equiv, is_same_equiv}
 use Rattle.micromap_core.proofs.DistinctLemmas.{length-filter_members, members_turned, missing_in_shorter}
 use Rattle.micromap_core.proofs.laws.Equalities.{lawful, of_lawful}
-use Rattle.micromap_core.proofs.SameLemmas.{long_from_same, same_from_long, filters_empty, same_from_filters, values_within}
+use Rattle.micromap_core.proofs.SameLemmas.{Comparable, comparable, long_from_same, same_by_filters, same_if_long}
 
 -- where not all items pass a test, one fails it
 some_fails : {T : Type 0} {eq : T → T → Bool} (laws : IsEquivalence eq) (test : T → Bool)
@@ -73,33 +73,22 @@ module _ {K V : Type 0} (eq : K → K → Bool) (equality : Lawful eq) where
 
     module _ (first second : List (K × V)) (unique_first : IsUnique eq first)
         (unique_second : IsUnique eq second) where
+      pair : Comparable eq same first second
+      pair = comparable (of_lawful eq equality) (of_lawful same values) unique_first unique_second
+
       -- of equally long lists, one side tells of both
       pub same_from_one_side : length first ≡ length second
           → IsTrue (list_all (has_value eq same second) first) → Same eq same first second
-      same_from_one_side = same_from_long eq same (of_lawful eq equality)
-          (of_lawful same values) first second unique_first unique_second
+      same_from_one_side long all =
+          sym (same_if_long pair long) ∙ all
 
       -- and lists that are the same are equally long
       pub length-same : Same eq same first second → length first ≡ length second
-      length-same = long_from_same eq same (of_lawful eq equality)
-          (of_lawful same values) first second unique_first unique_second
+      length-same = long_from_same pair
 
       -- they are the same exactly where no key is in one alone, and none has unequal values
       pub same_iff_filters : Same eq same first second
           ↔ ((filter (λ p. not (has eq second p.0)) first ≡ [])
           × (filter (λ p. not (has eq first p.0)) second ≡ [])
           × (filter (λ p. has eq second p.0 && not (has_value eq same second p)) first ≡ []))
-      same_iff_filters =
-          let keys = of_lawful eq equality in
-          let equal = of_lawful same values in (
-            λ are.
-                let one = filters_empty eq same keys equal first second unique_first unique_second
-                first (values_within eq same keys equal first second unique_second
-                (first_so _ _ are)) in
-                let other = filters_empty eq same keys equal second first unique_second unique_first
-                second (values_within eq same keys equal second first unique_first
-                (second_so _ _ are)) in
-                (one.0, other.0, one.1),
-            λ none. same_from_filters eq same keys equal first second unique_first unique_second
-                none.0 none.1 none.2,
-          )
+      same_iff_filters = same_by_filters pair

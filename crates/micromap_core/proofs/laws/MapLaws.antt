@@ -1,10 +1,10 @@
 -- For callers: what each change of a map does to each way of reading it. The name of a law has the reader first and
 -- then the change, as `lookup_put` and `length_take_out`. The readers are look-ups by a test (`lookup` of the value,
 -- `pair` of the pair), look-ups by a key (`at`, `has`, `fits`), the number of pairs (`length`), and that keys are
--- pairwise unequal (`unique`). The ruleset at the end, a part of `maps` of `Rules`, has the laws that a search needs.
+-- pairwise unequal (`unique`). `ProbedLaws` has the changes by probe. The ruleset at the end, a part of `maps` of `Rules`,
+-- has the laws that a search needs.
 use Rattle.std.proofs.Common.{◌≡◌, ℕ, ◌+◌, ◌||◌, Bool, true, not, List, [], ◌∷◌, ◌++◌, filter, length, reverse, Some}
-use Rattle.std.proofs.Common.{None, is_some, get_or, if◌then◌else◌, refl, ap, sym, subst, ◌∙◌, inl, inr, arith, ◌≤◌}
-use Rattle.std.proofs.Common.{false, String, string_eq}
+use Rattle.std.proofs.Common.{None, is_some, get_or, if◌then◌else◌, refl, ap, sym, subst, ◌∙◌, inl, inr, arith, ◌≤◌, false}
 use Rattle.std.specs.List.{fold, list_all, IsDistinct}
 use Rattle.std.specs.Map.{keys_of, lookup, lookup_entry, remove_entry, set_value}
 use Rattle.std.specs.Option.{option_eq, option_map, option_map_or, option_or, unwrap_or}
@@ -12,7 +12,7 @@ use Rattle.std.specs.Set.{distinct_count}
 use Rattle.std.proofs.lemmas.List.{reverse-append, length-append}
 use Rattle.std.proofs.lemmas.List.Sums.{list_all-from_AllPass}
 use Rattle.std.proofs.lemmas.Map.Entries.{length-keys_of, lookup_from_place, option_filter, none_past_head}
-use Rattle.std.proofs.lemmas.Map.{keys-set_value, length-set_value, lookup-none}
+use Rattle.std.proofs.lemmas.Map.{length-set_value, lookup-none}
 use Rattle.std.proofs.lemmas.Map.Made.{IsDistinct-keys_filter, All-is_member, is_some-lookup}
 use Rattle.std.proofs.lemmas.Bool.{cases_Bool}
 use Rattle.std.proofs.lemmas.Bool.Decides.{nat_tests}
@@ -20,18 +20,20 @@ use Rattle.std.proofs.lemmas.Map.Steps.{set_value_same}
 use Rattle.std.proofs.lemmas.Option.{slice_get-get_or}
 use Rattle.micromap_core.specs.Build.{build, put_all, put_pair}
 use Rattle.micromap_core.specs.Equalities.{Lawful, Probes}
-use Rattle.micromap_core.specs.Pairs.{at, pair, has, put, put_key, take_out, without_at, IsUnique, fits}
+use Rattle.micromap_core.specs.Pairs.{at, pair, has, put, put_key, take_out, IsUnique, fits}
 use Rattle.micromap_core.specs.Same.{has_value}
-use Rattle.micromap_core.proofs.laws.Equalities.{equalities, lawful, of_lawful, of_probes, probes_key, same_test, probes_text}
+use Rattle.micromap_core.proofs.laws.Equalities.{equalities, of_lawful, of_probes, probes_key, same_test}
 use Rattle.micromap_core.proofs.DistinctLemmas.{IsDistinct-filter}
 use Rattle.micromap_core.proofs.BuildLemmas.{IsDistinct-nil, distinct-built, length-built, pairs_keyed}
 use Rattle.micromap_core.proofs.MapLemmas.{lookup-entry, push-put, push-put_key, slice_set-put_key, IsUnique-push}
-use Rattle.micromap_core.proofs.MapLemmas.{IsUnique-set, IsUnique-set_key, IsUnique-remove, keys_of-put_new}
+use Rattle.micromap_core.proofs.MapLemmas.{IsUnique-set, IsUnique-set_key, keys_of-put_new}
 use Rattle.micromap_core.proofs.MapLemmas.{keys_of-put_stored, entry_push, entry_set, entry_set_key, none_apart}
 use Rattle.micromap_core.proofs.MapLemmas.{lookup-append, entry_new, length-remove_entry, length-set_key, keys_removed}
 use Rattle.micromap_core.proofs.MapLemmas.{by_test, lookup-set, no_value, set_put, lookup-reverse}
+use Rattle.micromap_core.proofs.laws.ProbedLaws.{keys_remove_entry, lookup_remove_entry, lookup_remove_text}
+use Rattle.micromap_core.proofs.laws.ProbedLaws.{remove_entry_missing, remove_entry_set_value, set_value_missing}
+use Rattle.micromap_core.proofs.laws.ProbedLaws.{unique_remove_entry, unique_set_value}
 use Rattle.micromap_core.proofs.laws.TextLemmas.{each_map_text}
-use Rattle.micromap_core.specs.Probe.{is_text}
 
 -- by a test: the pair that is found, and its value
 module _ {K V : Type 0} (eq : K → K → Bool) (test : K → Bool) where
@@ -379,59 +381,6 @@ module _ {K V : Type 0} (eq : K → K → Bool) where
   take_out_first p behind laws =
       ap (λ b. if b then behind else p ∷ remove_entry (eq p.0) behind)
       ((of_lawful eq laws).refl p.0)
-
--- the calls by probe, said by its test
-module _ {K V : Type 0} (test : K → Bool) (pairs : List (K × V)) where
-  pub set_value_missing : (v : V) → lookup test pairs ≡ None → set_value test pairs v ≡ pairs
-  set_value_missing v none = (no_value test pairs none).written v
-
-  pub remove_entry_missing : lookup test pairs ≡ None → remove_entry test pairs ≡ pairs
-  remove_entry_missing none = (no_value test pairs none).taken
-
-  module _ (eq : K → K → Bool) where
-    -- at the key that matches each is the plain call's word
-    pub matched_test : (k : K) → Probes eq test → test k ≡ true → test ≡ eq k
-    matched_test k probes passes = let p = of_probes eq test probes in
-        same_test eq test p.alike_keys p.equal_keys k passes
-
-    pub keys_remove_entry : Probes eq test → IsUnique eq pairs
-        → keys_of (remove_entry test pairs) ≡ filter (λ q. not (test q)) (keys_of pairs)
-    keys_remove_entry probes unique = keys_removed eq test (of_probes eq test probes) pairs unique
-
-    pub lookup_remove_entry : Probes eq test → IsUnique eq pairs
-        → lookup test (remove_entry test pairs) ≡ None
-    unfolding take_out
-    lookup_remove_entry probes unique =
-        let p = of_probes eq test probes in
-        by_test test pairs (lookup test (remove_entry test pairs) ≡ None)
-        (λ n. ap (lookup test) n.taken ∙ n.value)
-        (λ i f. subst (λ t. lookup t (remove_entry t pairs) ≡ None)
-        (sym (matched_test f.pair.0 probes f.passes))
-        (at_take_out_same eq pairs f.pair.0 (lawful eq p.laws) unique))
-
-    pub unique_set_value : (v : V) → IsUnique eq pairs → IsUnique eq (set_value test pairs v)
-    unique_set_value v unique = subst (IsDistinct eq) (sym (keys-set_value test pairs v)) unique
-
-    pub unique_remove_entry : Lawful eq → IsUnique eq pairs → IsUnique eq (remove_entry test pairs)
-    unfolding without_at
-    unique_remove_entry laws unique =
-        by_test test pairs (IsUnique eq (remove_entry test pairs))
-        (λ n. subst (IsUnique eq) (sym n.taken) unique)
-        (λ i f. subst (IsUnique eq) (sym f.taken)
-        (IsUnique-remove eq (of_lawful eq laws) pairs unique i f.pair f.here))
-
--- a value that is written at a key which is then removed
-module _ {K V : Type 0} (test : K → Bool) where
-  pub remove_entry_set_value : (pairs : List (K × V)) (v : V)
-      → remove_entry test (set_value test pairs v) ≡ remove_entry test pairs
-  remove_entry_set_value [] v = refl
-  remove_entry_set_value (e ∷ pairs) v = grind (arith, remove_entry_set_value pairs v)
-
--- the same of a text, which is found from the words alone
-pub lookup_remove_text : {Z V : Type 0} (bytes : List ℕ) (pairs : List (String Z × V))
-    → IsUnique string_eq pairs → lookup (is_text bytes) (remove_entry (is_text bytes) pairs) ≡ None
-lookup_remove_text {Z} bytes pairs unique =
-    lookup_remove_entry (is_text bytes) pairs string_eq (probes_text Z bytes) unique
 
 -- each pair that a loop over a map comes to is what its key finds: so of what is left at the start, which is all
 module _ {K V : Type 0} (eq : K → K → Bool) where

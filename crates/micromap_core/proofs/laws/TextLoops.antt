@@ -6,6 +6,7 @@ use Rattle.std.proofs.lemmas.List.{length-append}
 use Rattle.std.proofs.lemmas.Map.Made.{IsDistinct-keys_filter}
 use Rattle.std.proofs.lemmas.Simd.{map-map}
 use Rattle.std.proofs.lemmas.Str.Pattern.{starts_text}
+use Rattle.std.specs.Ordering.{on}
 use Rattle.micromap_core.specs.Build.{build, merge_pair, merged, put_all}
 use Rattle.micromap_core.specs.Pairs.{at, put, IsUnique}
 use Rattle.micromap_core.specs.Texts.{key_strs, key_texts, str_eq, texts_by}
@@ -41,6 +42,13 @@ module _ {K V W : Type 0} (see : K → List ℕ) (read : V → W) where
       → texts_by see read (build eq items) ≡ build bytes_eq (texts_by see read items)
   unfolding texts_by
   texts_build eq items compares = texts_put_all eq [] items compares
+
+  -- and what is put of texts is put of their pairs, so that a search finds what a map extended by another has
+  pub extended_texts : (pairs items : List (K × V))
+      → put_all bytes_eq (texts_by see read pairs) (texts_by see read items)
+      ≡ texts_by see read (put_all (on see bytes_eq) pairs items)
+  extended_texts pairs items =
+      sym (texts_put_all (on see bytes_eq) pairs items (λ x y. refl))
 
 -- values as they are
 module _ {K V : Type 0} (see : K → List ℕ) (eq : K → K → Bool) where

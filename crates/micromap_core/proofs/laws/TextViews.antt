@@ -19,7 +19,8 @@ use Rattle.micromap_core.specs.Same.{first_difference, first_missing, first_uneq
 use Rattle.micromap_core.specs.Texts.{items_by, key_strs, key_texts, str_eq, texts, texts_by}
 use Rattle.micromap_core.proofs.laws.Equalities.{probes_by}
 use Rattle.micromap_core.proofs.MapLemmas.{by_test, lookup-entry}
-use Rattle.micromap_core.proofs.laws.MapLaws.{matched_test, pair_key}
+use Rattle.micromap_core.proofs.laws.MapLaws.{pair_key}
+use Rattle.micromap_core.proofs.laws.ProbedLaws.{matched_test}
 use Rattle.micromap_core.proofs.laws.TextLemmas.{map_text_known}
 use Rattle.micromap_core.proofs.Views.{clones-map, distinct-map, equal_items-map, front-map, printed-map}
 

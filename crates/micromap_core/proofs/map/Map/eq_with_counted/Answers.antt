@@ -8,14 +8,14 @@ returns-then-lengths g c =
     let one = c.len.ensures.answer in
     let two = c.len-2.ensures.answer in
     let steps = comparison_long g.K.PartialEq.eq g.V.PartialEq.eq c.args.self.now c.args.other.now
-    c.len.result c.len-2.result one two c.if-lengths.true in
+    one two c.if-lengths.true in
     let most = walk_steps-square g.K.PartialEq.eq g.V.PartialEq.eq c.args.other.now c.args.self.now
     (sym one ∙ c.if-lengths.true ∙ two) in
     let bounded : c.is_within_counted.new.steps ≤ c.args.steps.now + length c.args.self.now * length
     c.args.self.now = omega (arith, c.is_within_counted.ensures.count, most) in
     assumption (
       compared_long g.met.V.Eq.laws c.len.ensures.content c.len-2.ensures.content one two
-          c.if-lengths.true _ c.is_within_counted.ensures.answer,
+          c.if-lengths.true c.is_within_counted.ensures.answer,
       rw (← steps) at c.is_within_counted.ensures.count,
       bounded,
     )
@@ -25,7 +25,7 @@ returns-else-lengths g c =
     let one = c.len.ensures.answer in
     let two = c.len-2.ensures.answer in
     let steps = comparison_short g.K.PartialEq.eq g.V.PartialEq.eq c.args.self.now c.args.other.now
-    c.len.result c.len-2.result one two c.if-lengths.false in
+    one two c.if-lengths.false in
     let all = compared_short g.met.V.Eq.laws c.len.ensures.content c.len-2.ensures.content one two
     c.if-lengths.false in
     record {

@@ -1,4 +1,4 @@
-use Rattle.std.proofs.Common.{true, false, refl, sym, ◌∙◌}
+use Rattle.std.proofs.Common.{refl, sym, ◌∙◌}
 use Rattle.micromap_core.proofs.map.Map.first_missing.Goals as goal
 use Rattle.micromap_core.proofs.SameLemmas.{missing_step}
 
@@ -10,10 +10,10 @@ loop-key-init g c = rw (
 
 pub returns-then-not-contains_key : goal.returns-then-not-contains_key
 returns-then-not-contains_key g c =
-    sym (missing_step g.K.PartialEq.eq c.args.other.now c.in-Some.ensures.steps false
+    sym (missing_step g.K.PartialEq.eq c.args.other.now c.in-Some.ensures.steps
     c.if-not-contains_key.ensures) ∙ c.loop-key.invariant
 
 pub loop-key-preserved : goal.loop-key-preserved
 loop-key-preserved g c = sym
-    (missing_step g.K.PartialEq.eq c.args.other.now c.in-Some.ensures.steps true
+    (missing_step g.K.PartialEq.eq c.args.other.now c.in-Some.ensures.steps
     c.if-not-contains_key.ensures) ∙ c.loop-key.invariant

@@ -1,7 +1,7 @@
 use Rattle.std.proofs.Common.{◌≡◌, ◌+◌, Some, ap, arith, option_map, sym, unwrap_or, ◌∙◌}
 use Rattle.std.proofs.lemmas.List.{length_push}
 use Rattle.micromap_core.specs.Build.{count_one}
-use Rattle.micromap_core.specs.Pairs.{at, fits, put, with_value_at}
+use Rattle.micromap_core.specs.Pairs.{at, put, with_value_at}
 use Rattle.micromap_core.proofs.CountLemmas.{counts_first, counts_more, counts_without}
 use Rattle.micromap_core.proofs.MapLemmas.{with_value_at-put}
 use Rattle.micromap_core.proofs.map.build.Map+K+usize+N.counts_of.Goals as goal

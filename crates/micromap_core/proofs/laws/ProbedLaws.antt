@@ -1,0 +1,56 @@
+-- For callers: what the changes of a map by probe do to each way of reading it. They are `set_value` and `remove_entry` of
+-- the standard library, which take the probe's test of keys. The ruleset `map_laws` of `MapLaws` has what a search needs.
+use Rattle.std.proofs.Common.{◌≡◌, ℕ, Bool, true, not, List, [], ◌∷◌, filter, String, string_eq, None, refl, sym, subst, arith}
+use Rattle.std.specs.List.{IsDistinct}
+use Rattle.std.specs.Map.{keys_of, lookup, remove_entry, set_value}
+use Rattle.std.proofs.lemmas.Map.{keys-set_value}
+use Rattle.micromap_core.specs.Equalities.{Lawful, Probes}
+use Rattle.micromap_core.specs.Pairs.{without_at, IsUnique}
+use Rattle.micromap_core.specs.Probe.{is_text}
+use Rattle.micromap_core.proofs.laws.Equalities.{of_lawful, of_probes, same_test, probes_text}
+use Rattle.micromap_core.proofs.MapLemmas.{by_test, keys_removed, lookup-removed, no_value, IsUnique-remove}
+
+module _ {K V : Type 0} (test : K → Bool) (pairs : List (K × V)) where
+  pub set_value_missing : (v : V) → lookup test pairs ≡ None → set_value test pairs v ≡ pairs
+  set_value_missing v none = (no_value test pairs none).written v
+
+  pub remove_entry_missing : lookup test pairs ≡ None → remove_entry test pairs ≡ pairs
+  remove_entry_missing none = (no_value test pairs none).taken
+
+  module _ (eq : K → K → Bool) where
+    -- at the key that matches each change is the plain call's
+    pub matched_test : (k : K) → Probes eq test → test k ≡ true → test ≡ eq k
+    matched_test k probes passes = let p = of_probes eq test probes in
+        same_test eq test p.alike_keys p.equal_keys k passes
+
+    pub keys_remove_entry : Probes eq test → IsUnique eq pairs
+        → keys_of (remove_entry test pairs) ≡ filter (λ q. not (test q)) (keys_of pairs)
+    keys_remove_entry probes unique = keys_removed eq test (of_probes eq test probes) pairs unique
+
+    pub lookup_remove_entry : Probes eq test → IsUnique eq pairs
+        → lookup test (remove_entry test pairs) ≡ None
+    lookup_remove_entry probes unique = lookup-removed eq test (of_probes eq test probes) pairs unique
+
+    pub unique_set_value : (v : V) → IsUnique eq pairs → IsUnique eq (set_value test pairs v)
+    unique_set_value v unique = subst (IsDistinct eq) (sym (keys-set_value test pairs v)) unique
+
+    pub unique_remove_entry : Lawful eq → IsUnique eq pairs → IsUnique eq (remove_entry test pairs)
+    unfolding without_at
+    unique_remove_entry laws unique =
+        by_test test pairs (IsUnique eq (remove_entry test pairs))
+        (λ n. subst (IsUnique eq) (sym n.taken) unique)
+        (λ i f. subst (IsUnique eq) (sym f.taken)
+        (IsUnique-remove eq (of_lawful eq laws) pairs unique i f.pair f.here))
+
+-- a value that is written at a key which is then removed
+module _ {K V : Type 0} (test : K → Bool) where
+  pub remove_entry_set_value : (pairs : List (K × V)) (v : V)
+      → remove_entry test (set_value test pairs v) ≡ remove_entry test pairs
+  remove_entry_set_value [] v = refl
+  remove_entry_set_value (e ∷ pairs) v = grind (arith, remove_entry_set_value pairs v)
+
+-- `lookup_remove_entry` of a text, which a search finds from the words alone
+pub lookup_remove_text : {Z V : Type 0} (bytes : List ℕ) (pairs : List (String Z × V))
+    → IsUnique string_eq pairs → lookup (is_text bytes) (remove_entry (is_text bytes) pairs) ≡ None
+lookup_remove_text {Z} bytes pairs unique =
+    lookup_remove_entry (is_text bytes) pairs string_eq (probes_text Z bytes) unique
