@@ -1,18 +1,19 @@
 -- A list of pairwise unequal items, or the list of their clones, is put into a set item by item. Each item is new, and
 -- goes last.
-use Rattle.std.proofs.Common.{◌≡◌, ℕ, All, ◌<◌, ◌≤◌, Bool, true, false, ◌||◌, List, [], ◌∷◌, ◌++◌, length, get_or}
+use Rattle.std.proofs.Common.{◌≡◌, ℕ, All, ◌<◌, ◌≤◌, Bool, true, false, not, ◌||◌, List, [], ◌∷◌, ◌++◌, filter, length, get_or}
 use Rattle.std.proofs.Common.{IsTrue, refl, ap, sym, subst, ◌∙◌, append_assoc, arith, append-nil, length-append, lt-ltb}
 use Rattle.std.specs.Cmp.{IsEquivalence}
 use Rattle.std.specs.List.{AllZip, IsDistinct}
 use Rattle.std.specs.Set.{is_member, ClonesAreEqual}
 use Rattle.std.proofs.Math.Seq.{get_or-append_seam}
+use Rattle.std.proofs.lemmas.List.Filters.{length-filter_both}
 use Rattle.std.proofs.lemmas.List.Elements.{AllZip-push, length_all_zip}
 use Rattle.std.specs.Map.{keys_of}
-use Rattle.micromap_core.proofs.DistinctLemmas.{new_behind}
+use Rattle.micromap_core.proofs.DistinctLemmas.{IsDistinct-filter, new_behind}
 use Rattle.micromap_core.proofs.StreamLemmas.{built_in_turn}
 use Rattle.micromap.specs.Extend.{put_all_items}
 use Rattle.micromap.specs.ItemEntries.{entries_of}
-use Rattle.micromap.specs.Items.{put_item, item_fits}
+use Rattle.micromap.specs.Items.{put_item, item_fits, IsItems}
 use Rattle.micromap.proofs.EntryItems.{keys_of-entries}
 use Rattle.micromap.proofs.ItemLemmas.{keys_put_all_items}
 use Rattle.micromap.proofs.laws.SetLaws.{put_item_new}
@@ -32,6 +33,22 @@ module _ {T : Type 0} {eq : T → T → Bool} (laws : IsEquivalence eq) where
       ap (put_all_items eq []) (sym back) ∙ sym (keys_put_all_items eq [] (entries_of xs))
       ∙ ap keys_of (built_in_turn laws [] (entries_of xs)
       (subst (IsDistinct eq) (sym back) distinct)) ∙ back
+
+  -- so it has those of a set's items that pass a test, of which there are no more than the set has room for
+  pub passing : {N : ℕ} {xs ys : List T} → IsItems eq N xs → ys ≡ xs → (test : T → Bool)
+      → (length (filter test ys) ≤ N) × IsDistinct eq (filter test xs)
+      × (put_all_items eq [] (filter test xs) ≡ filter test xs)
+  passing {xs = xs} {ys} items is test =
+      let unique = IsDistinct-filter eq test xs items.unique in (
+        omega (
+          arith,
+          items.bounded,
+          ap length is,
+          length-filter_both test (λ x. not (test x)) (λ x. refl) ys,
+        ),
+        unique,
+        added_all (filter test xs) unique,
+      )
 
   module _ {C : T → T → Type 0} (equal : ClonesAreEqual eq C) where
     -- an item has an equal one among the clones where an equal item has one among their sources

@@ -1,14 +1,12 @@
 -- A loop that reads the elements of an array, or the members of an object: one more of them, and the end of the loop.
-use Rattle.std.proofs.Common.{◌≡◌, ℕ, ◌<◌, ◌≤◌, Bool, true, false, ◌&&◌, List, [], ◌∷◌, ◌++◌, length, Option, Some}
-use Rattle.std.proofs.Common.{None, option_map, option_and_then, ok_or, if◌then◌else◌, Ok, Err, String, string_bytes}
-use Rattle.std.proofs.Common.{bytes_eq, string_cmp, Global, ℤ, refl, ap, sym, subst, ◌∙◌, arith, string_eq, true≢false}
-use Rattle.std.proofs.Common.{lt-ltb, le-ltb, ltb-false, append_assoc, append-nil}
+use Rattle.std.proofs.Common.{◌≡◌, ℕ, ◌<◌, ◌≤◌, Bool, true, false, ◌&&◌, List, [], ◌∷◌, length, Option, Some}
+use Rattle.std.proofs.Common.{None, option_map, option_and_then, ok_or, if◌then◌else◌, Result, Ok, Err, String, string_bytes}
+use Rattle.std.proofs.Common.{bytes_eq, string_cmp, Global, ℤ, refl, ap, sym, subst, ◌∙◌, arith, string_eq}
+use Rattle.std.proofs.Common.{lt-ltb, le-ltb, ltb-false}
 use Rattle.std.specs.Cmp.Lexicographic.{nat_list_eq_equiv}
 use Rattle.std.specs.List.{IsDistinct, fold}
 use Rattle.std.specs.List.Sorted.{IsStrictlySortedBy}
 use Rattle.std.specs.Map.{keys_of}
-use Rattle.std.proofs.lemmas.Iterator.Adapters.{option_map_id}
-use Rattle.std.proofs.lemmas.List.Sums.{fold_push}
 use Rattle.std.proofs.lemmas.Map.Keys.{IsDistinct-from_sorted}
 use Rattle.std.proofs.lemmas.Map.Text.{is_eq-slice_cmp}
 use Rattle.serde_json.specs.Data.{Data, Items, item}
@@ -32,126 +30,98 @@ use Rattle.micromap_core.proofs.laws.TextViews.{length_texts, texts_put}
 pub few : {X : Type 0} (N : ℕ) (xs : List X) → length xs ≤ N → items_for N xs ≡ Ok xs
 few N xs short = ap (λ b. if b then Err TooMany else Ok xs) (le-ltb N (length xs) short)
 
--- of a text that is read part by part, these parts were put so far, unless there are too many
-pub record HasRead {B : Type 0} (put : List B → B → List B) (N : ℕ) (all rest : Option (List B))
-    (now : List B) (all_fit : Bool) : Type 0 where
-  pub before : List B
-  pub split : all ≡ option_map (λ more. before ++ more) rest
-  pub fit : all_fit ≡ true → now ≡ fold put [] before
-  pub misfit : all_fit ≡ false → N < length (fold put [] before)
+-- the answer, if these parts are left, and the list has what was put so far unless one didn't fit
+abbrev answer_of : {B : Type 0} → (List B → B → List B) → ℕ → JsonFault → List B → Bool
+    → Option (List B) → Result (List B) JsonFault
+answer_of put N fault now all_fit rest = and_then (ok_or rest fault)
+    (λ parts. if all_fit then items_for N (fold put now parts) else Err TooMany)
 
-pub none_read : {B : Type 0} (put : List B → B → List B) (N : ℕ) (all : Option (List B))
-    → HasRead put N all all [] true
-none_read put N all = record {
-  before = [];
-  split = sym (option_map_id all);
-  fit =
-      λ _. refl;
-  misfit = λ over. absurd (true≢false over);
-}
+pub record ReadsOn {B : Type 0} (put : List B → B → List B) (N : ℕ) (fault : JsonFault)
+    (now : List B) (all_fit : Bool) (rest : Option (List B)) (answer : Result (List B) JsonFault) :
+    Type 0 where
+  pub is : answer_of put N fault now all_fit rest ≡ answer
 
-module _ {B Y : Type 0} {put : List B → B → List B} {N : ℕ} {all rest : Option (List B)}
-    {now : List B} {all_fit : Bool} (has : HasRead put N all rest now all_fit) (part : Y → B)
-    (later : Option (List B)) (next : Option Y)
-    (first : rest ≡ option_and_then (λ y. option_map (λ more. part y ∷ more) later) next) where
-  -- what comes next isn't read
-  pub not_read : next ≡ None → all ≡ None
-  not_read is = rw (has.split, first, is) refl
+module _ {B : Type 0} {put : List B → B → List B} {N : ℕ} {fault : JsonFault} {now : List B}
+    {all_fit : Bool} {rest : Option (List B)} {answer : Result (List B) JsonFault}
+    (has : ReadsOn put N fault now all_fit rest answer) where
+  module _ {Y : Type 0} (part : Y → B) (later : Option (List B)) (next : Option Y)
+      (first : rest ≡ option_and_then (λ y. option_map (λ more. part y ∷ more) later) next) where
+    -- what comes next isn't read
+    pub not_read : next ≡ None → answer ≡ Err fault
+    not_read is = sym has.is ∙ rw (first, is) refl
 
-  module _ (y : Y) (is : next ≡ Some y)
-      (grows : (c : List B) → length c ≤ length (put c (part y))) where
-    joined : (rest : Option (List B))
-        → option_map (λ more. has.before ++ more)
-        (option_map (λ more. part y ∷ more) rest)
-        ≡ option_map (λ more. (has.before ++ part y ∷ []) ++ more) rest
-    joined None = refl
-    joined (Some more) = ap Some (sym (append_assoc has.before (part y ∷ []) more))
+    module _ (y : Y) (is : next ≡ Some y) (grows : (c : List B) (b : B) → length c ≤ length (put c b))
+      where
+        grown : (c more : List B) → length c ≤ length (fold put c more)
+        grown c [] = omega arith
+        grown c (b ∷ more) = omega (arith, grows c b, grown (put c b) more)
 
-    more : fold put [] (has.before ++ part y ∷ []) ≡ put (fold put [] has.before) (part y)
-    more = fold_push put [] has.before (part y)
+        -- one more, which is put or doesn't fit
+        read_one : {new : List B} (fit : Bool) → (fit ≡ true → new ≡ put now (part y))
+            → (fit ≡ false → N < length (put now (part y)))
+            → ReadsOn put N fault new (all_fit && fit) later answer
+        read_one {new} fit stored misfit = record { is = by later (rw (first, is) at has.is) }
+          where
+            by : (later : Option (List B))
+                → answer_of put N fault now all_fit (option_map (λ more. part y ∷ more) later) ≡ answer
+                → answer_of put N fault new (all_fit && fit) later ≡ answer
+            by None has = has
+            by (Some more) has =
+                let wider = put now (part y) in
+                grind (arith, has, stored, misfit, lt-ltb N (length (fold put wider more)), grown wider more)
 
-    -- one more, which wider has as well, is put or doesn't fit
-    read_one : {new wider : List B} (fit : Bool) → wider ≡ put now (part y)
-        → (fit ≡ true → new ≡ wider) → (fit ≡ false → N < length wider)
-        → HasRead put N all later new (all_fit && fit)
-    read_one fit made fits misfits = record {
-      before = has.before ++ part y ∷ [];
-      split = rw (has.split, first, is) (joined later);
-      fit = λ whole. grind (arith, whole, has.fit, made, fits, more);
-      misfit = λ over. grind (
-        arith,
-        over,
-        has.fit,
-        has.misfit,
-        made,
-        misfits,
-        more,
-        grows (fold put [] has.before),
-      );
-    }
+  module _ (end : rest ≡ Some []) where
+    pub read_whole : all_fit ≡ true → length now ≤ N → answer ≡ Ok now
+    read_whole whole short = sym has.is ∙ rw (end, whole) (few N now short)
 
-module _ {B : Type 0} {put : List B → B → List B} {N : ℕ} {all rest : Option (List B)}
-    {now : List B} {all_fit : Bool} (has : HasRead put N all rest now all_fit)
-    (end : rest ≡ Some []) (fault : JsonFault) where
-  pub read_whole : all_fit ≡ true → length now ≤ N
-      → and_then (ok_or all fault) (λ parts. items_for N (fold put [] parts)) ≡ Ok now
-  read_whole whole short = rw (has.split, end, append-nil has.before, ← has.fit whole)
-      (few N now short)
-
-  pub read_beyond : all_fit ≡ false
-      → and_then (ok_or all fault) (λ parts. items_for N (fold put [] parts)) ≡ Err TooMany
-  read_beyond over = rw (has.split, end, append-nil has.before)
-      (ap (λ b. if b then Err TooMany else Ok (fold put [] has.before))
-      (lt-ltb N (length (fold put [] has.before)) (has.misfit over)))
+    pub read_beyond : all_fit ≡ false → answer ≡ Err TooMany
+    read_beyond over = sym has.is ∙ rw (end, over) refl
 
 -- an element that is a text, in a set
-module _ {N : ℕ} {all : Option (List Bytes)} {rest later : Items} {d : Data}
-    (items : List (String Global)) {all_fit : Bool}
-    (has : HasRead (put_item bytes_eq) N all (all_texts rest) (item_texts items) all_fit)
+module _ {N : ℕ} {fault : JsonFault} {answer : Result (List Bytes) JsonFault} {rest later : Items}
+    {d : Data} (items : List (String Global)) {all_fit : Bool}
+    (has : ReadsOn (put_item bytes_eq) N fault (item_texts items) all_fit (all_texts rest) answer)
     (first : rest ≡ item d later) (x : String Global) (is : as_str d ≡ Some (string_bytes x)) where
   pub text_put : {new : List (String Global)} {fit : Bool} → fit ≡ item_fits string_eq N items x
       → new ≡ put_item_if_fits string_eq N items x
-      → HasRead (put_item bytes_eq) N all (all_texts later) (item_texts new) (all_fit && fit)
-  text_put {fit = fit} answer made =
-      read_one has (λ t. t) (all_texts later) (as_str d) (ap all_texts first)
-      (string_bytes x) is (λ texts. grind (
-        arith,
-        length_put_item bytes_eq texts (string_bytes x),
-      )) fit
-      (item_texts_put_item string_bytes items string_eq x (λ x y. refl))
-      (λ fits. grind (arith, answer, made, fits))
+      → ReadsOn (put_item bytes_eq) N fault (item_texts new) (all_fit && fit) (all_texts later) answer
+  text_put {fit = fit} tells made =
+      let put = item_texts_put_item string_bytes items string_eq x (λ x y. refl) in
+      read_one has (λ t. t) (all_texts later) (as_str d) (ap all_texts first) (string_bytes x) is
+      (λ texts t. grind (arith, length_put_item bytes_eq texts t)) fit
+      (λ fits. grind (arith, tells, made, fits, put))
       (λ misfit. grind (
         arith,
-        not_fits string_eq items x N (sym answer ∙ misfit),
+        put,
+        not_fits string_eq items x N (sym tells ∙ misfit),
         length_put_item string_eq items x,
         length_item_texts string_bytes (put_item string_eq items x),
       ))
 
 -- a member whose value is whole, in a map
-module _ {N : ℕ} {all : Option (List (Bytes × ℤ))} {rest later : List Entry} {k : String Global}
-    {value : Value} (pairs : Pairs) {all_fit : Bool}
-    (has : HasRead (put_pair bytes_eq) N all (whole_members (members_view rest)) (key_texts pairs)
-    all_fit) (first : rest ≡ (k, value) ∷ later) (n : ℤ) (is :
-    whole_number (view value) ≡ Some n) where
+module _ {N : ℕ} {fault : JsonFault} {answer : Result (List (Bytes × ℤ)) JsonFault}
+    {rest later : List Entry} {k : String Global} {value : Value} (pairs : Pairs) {all_fit : Bool}
+    (has : ReadsOn (put_pair bytes_eq) N fault (key_texts pairs) all_fit
+    (whole_members (members_view rest)) answer) (first : rest ≡ (k, value) ∷ later) (n : ℤ)
+    (is : whole_number (view value) ≡ Some n) where
   pub member_put : {new : Pairs} {fit : Bool} → fit ≡ fits string_eq N pairs k
       → new ≡ put_if_fits string_eq N pairs k n
-      → HasRead (put_pair bytes_eq) N all (whole_members (members_view later)) (key_texts new)
-      (all_fit && fit)
-  member_put {fit = fit} answer made =
+      → ReadsOn (put_pair bytes_eq) N fault (key_texts new) (all_fit && fit)
+      (whole_members (members_view later)) answer
+  member_put {fit = fit} tells made =
+      let put_is = texts_put string_bytes (λ v. v) k string_eq pairs n (λ x y. refl) in
       read_one has (λ i. (string_bytes k, i)) (whole_members (members_view later))
-      (whole_number (view value))
-      (ap (λ es. whole_members (members_view es)) first) n is
-      (λ ps. grind (arith, length_put bytes_eq ps (string_bytes k) n)) fit
-      (texts_put string_bytes (λ v. v) k string_eq pairs n (λ x y. refl))
-      (λ fits. grind (arith, answer, made, fits))
+      (whole_number (view value)) (ap (λ es. whole_members (members_view es)) first) n is
+      (λ ps p. grind (arith, length_put bytes_eq ps p.0 p.1)) fit
+      (λ fits. grind (arith, tells, made, fits, put_is))
       (λ misfit. grind (
         arith,
-        answer,
+        put_is,
+        tells,
         misfit,
         ltb-false (length pairs) N,
         length_put string_eq pairs k n,
-        length_texts string_bytes (λ v. v)
-            (put string_eq pairs k n),
+        length_texts string_bytes (λ v. v) (put string_eq pairs k n),
       ))
 
 -- the names of an object's whole members

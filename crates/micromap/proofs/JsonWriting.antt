@@ -156,29 +156,27 @@ same_items first second same =
     ∙ first_so _ _ (bytes_equiv.refl second) in
     both_true one other
 
--- the text of these members has the pairs, for any capacity that holds them
-pub written : {ms : Members} {rest all : Pairs} (text : Bytes) → HasWritten ms rest all → rest ≡ []
-    → (depth (object ms) ≤ max_depth → read text ≡ Some (object ms)) → (M : ℕ) → length all ≤ M
-    → HasPairs M text all
-written {ms} {all = all} text has none reads_back M short =
-    let whole : has.before ≡ all = sym (append-nil has.before)
-    ∙ ap (λ r. has.before ++ r) (sym none) ∙ has.split in
-    let is = reads_back (rw has.flat (omega arith)) in (
-      has.pairs,
-      rw (is, has.whole)
-          (few M has.pairs (omega (arith, has.count, ap length whole, short))),
-      same_items has.pairs (key_texts all)
-          (λ test. sym (has.alike test ∙ ap (λ l. list_any test (key_texts l)) whole)),
-    )
+module _ {ms : Members} {rest all : Pairs} (text : Bytes) (has : HasWritten ms rest all)
+    (none : rest ≡ []) where
+  whole : has.before ≡ all
+  whole = sym (append-nil has.before) ∙ ap (λ r. has.before ++ r) (sym none) ∙ has.split
 
--- and is that of all pairs' members
-pub written_text : {ms : Members} {rest all : Pairs} (text : Bytes) → HasWritten ms rest all
-    → rest ≡ [] → (has_float (object ms) ≡ false → text ≡ compact_text (object ms))
-    → text ≡ compact_text (object (members all))
-written_text {ms} {all = all} text has none is =
-    let whole : has.before ≡ all = sym (append-nil has.before)
-    ∙ ap (λ r. has.before ++ r) (sym none) ∙ has.split in
-    is has.none_is_float ∙ ap (λ ms. compact_text (object ms)) (has.made ∙ ap members whole)
+  -- the text of these members has the pairs, for any capacity that holds them
+  pub written : (depth (object ms) ≤ max_depth → read text ≡ Some (object ms)) → (M : ℕ)
+      → length all ≤ M → HasPairs M text all
+  written reads_back M short = (
+    has.pairs,
+    rw (reads_back (rw has.flat (omega arith)), has.whole)
+        (few M has.pairs (omega (arith, has.count, ap length whole, short))),
+    same_items has.pairs (key_texts all)
+        (λ test. sym (has.alike test ∙ ap (λ l. list_any test (key_texts l)) whole)),
+  )
+
+  -- and is that of all pairs' members
+  pub written_text : (has_float (object ms) ≡ false → text ≡ compact_text (object ms))
+      → text ≡ compact_text (object (members all))
+  written_text is =
+      is has.none_is_float ∙ ap (λ ms. compact_text (object ms)) (has.made ∙ ap members whole)
 
 -- a set's items as the elements of an array
 abbrev pub as_data : List (String Global) → List Data

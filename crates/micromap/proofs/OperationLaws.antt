@@ -1,12 +1,12 @@
 -- The members of an operation on two lists of items are pairwise unequal. An operation that doesn't care which list is
 -- first has equal members if the lists change places. For callers: `same_members`.
-use Rattle.std.proofs.Common.{◌≡◌, ◌+◌, Bool, true, false, not, ◌&&◌, ◌||◌, ◌↔◌, List, [], ◌∷◌, length, filter}
+use Rattle.std.proofs.Common.{◌≡◌, ◌+◌, Bool, true, not, ◌&&◌, ◌||◌, ◌↔◌, List, [], ◌∷◌, length, filter}
 use Rattle.std.proofs.Common.{if◌then◌else◌, IsTrue, refl, ap, sym, ◌∙◌, arith, length-append}
 use Rattle.std.specs.Cmp.{IsEquivalence, both_ways, first_so, second_so}
 use Rattle.std.specs.Cmp.Derive.{both_true}
 use Rattle.std.specs.List.{IsDistinct, list_all}
 use Rattle.std.proofs.Math.Bool.{not-not, or-true}
-use Rattle.std.proofs.lemmas.Bool.{false≢true}
+use Rattle.std.proofs.lemmas.Bool.{false≢true, not-true}
 use Rattle.std.proofs.lemmas.List.Folds.{list_any-append}
 use Rattle.std.proofs.lemmas.List.Sums.{list_all-from_AllPass}
 use Rattle.std.proofs.lemmas.Map.Made.{is_member-filter}
@@ -96,20 +96,6 @@ module _ {T : Type 0} (test opposite : T → Bool) (turns : (x : T) → opposite
     λ none. grind (arith, none, turns x, none_pass xs),
   )
 
-module _ {T : Type 0} (eq : T → T → Bool) (xs ys : List T) (answer : Bool) where
-  -- a set is a subset exactly where the difference is empty, and disjoint exactly where the intersection is; the answer
-  -- of a call says the same
-  pub subset_answered : answer ≡ list_all (is_member eq ys) xs → IsTrue answer
-      ↔ (difference eq xs ys ≡ [])
-  subset_answered is = rw is
-      (none_pass (λ x. not (is_member eq ys x)) (is_member eq ys)
-      (λ x. sym (not-not (is_member eq ys x))) xs)
-
-  pub disjoint_answered : answer ≡ list_all (λ x. not (is_member eq ys x)) xs → IsTrue answer
-      ↔ (intersection eq xs ys ≡ [])
-  disjoint_answered is = rw is
-      (none_pass (is_member eq ys) (λ x. not (is_member eq ys x)) (λ x. refl) xs)
-
 -- that nothing is in both sets is said from either side
 module _ {T : Type 0} {eq : T → T → Bool} (laws : IsEquivalence eq) where
   none_equal : (x : T) (p : T → Bool) (ys : List T)
@@ -124,30 +110,43 @@ module _ {T : Type 0} {eq : T → T → Bool} (laws : IsEquivalence eq) where
   disjoint_turned (x ∷ xs) ys = ap (λ b. not (is_member eq ys x) && b) (disjoint_turned xs ys)
       ∙ sym (none_equal x (is_member eq xs) ys)
 
--- each item of either set has an equal one in the other exactly where both have the same members
+-- each item of a list passes a test exactly where each does that has an equal one there, if equal items pass it alike
+module _ {T : Type 0} {eq : T → T → Bool} (laws : IsEquivalence eq) (test : T → Bool)
+    (alike : (x y : T) → eq x y ≡ true → test x ≡ test y) where
+  each_passes : (xs : List T) → IsTrue (list_all test xs)
+      ↔ ((q : T) → IsTrue (is_member eq xs q) → IsTrue (test q))
+  each_passes [] = (λ all q there. absurd (false≢true there), λ each. refl)
+  each_passes (x ∷ xs) = (
+    λ all q there. grind (arith, all, there, alike q x, (each_passes xs).0),
+    λ each. both_true (each x (ap (λ b. b || is_member eq xs x) (laws.refl x)))
+        ((each_passes xs).1 (λ q there. each q (ap (λ b. eq q x || b) there ∙ or-true (eq q x)))),
+  )
+
 module _ {T : Type 0} {eq : T → T → Bool} (laws : IsEquivalence eq) where
-  is_member_within : (xs ys : List T) → list_all (is_member eq ys) xs ≡ true → (q : T)
-      → is_member eq xs q ≡ true → is_member eq ys q ≡ true
-  is_member_within [] ys all q there = absurd (false≢true there)
-  is_member_within (x ∷ xs) ys all q there =
-      grind (arith, all, there, list_any_congr laws q x ys, is_member_within xs ys)
+  within : (xs ys : List T) → IsTrue (list_all (is_member eq ys) xs) ↔ IsSubset eq xs ys
+  within xs ys = each_passes laws (is_member eq ys) (λ x y. list_any_congr laws x y ys) xs
+
+  apart : (xs ys : List T) → IsTrue (list_all (λ x. not (is_member eq ys x)) xs) ↔ IsDisjoint eq xs ys
+  apart xs ys =
+      let none = each_passes laws (λ x. not (is_member eq ys x))
+      (λ x y same. ap not (list_any_congr laws x y ys same)) xs in (
+        λ all q there. not-true _ (none.0 all q there),
+        λ each. none.1 (λ q there. ap not (each q there)),
+      )
 
   pub within_is_member : (xs ys : List T)
       → ((q : T) → is_member eq xs q ≡ true → is_member eq ys q ≡ true)
       → list_all (is_member eq ys) xs ≡ true
-  within_is_member [] ys each = refl
-  within_is_member (x ∷ xs) ys each =
-      both_true (each x (ap (λ b. b || is_member eq xs x) (laws.refl x)))
-      (within_is_member xs ys
-      (λ q there. each q (ap (λ b. eq q x || b) there ∙ or-true (eq q x))))
+  within_is_member xs ys = (within xs ys).1
 
+  -- each item of either set has an equal one in the other exactly where both have the same members
   pub same_members : (xs ys : List T) → HaveEqualItems eq xs ys ↔ HaveEquals eq xs ys
   same_members xs ys = (
     λ equal q. both_ways (is_member eq xs q) (is_member eq ys q)
-        (is_member_within xs ys (first_so _ _ equal) q)
-        (is_member_within ys xs (second_so _ _ equal) q),
-    λ same. both_true (within_is_member xs ys (λ q there. sym (same q) ∙ there))
-        (within_is_member ys xs (λ q there. same q ∙ there)),
+        ((within xs ys).0 (first_so _ _ equal) q)
+        ((within ys xs).0 (second_so _ _ equal) q),
+    λ same. both_true ((within xs ys).1 (λ q there. sym (same q) ∙ there))
+        ((within ys xs).1 (λ q there. same q ∙ there)),
   )
 
   -- a comparison's answer says both
@@ -155,28 +154,20 @@ module _ {T : Type 0} {eq : T → T → Bool} (laws : IsEquivalence eq) where
       → (IsTrue answer ↔ HaveEqualItems eq xs ys) × (IsTrue answer ↔ HaveEquals eq xs ys)
   members_answered xs ys answer is = rw is ((λ yes. yes, λ yes. yes), same_members xs ys)
 
-  is_member_apart : (xs ys : List T) → list_all (λ x. not (is_member eq ys x)) xs ≡ true → (q : T)
-      → is_member eq xs q ≡ true → is_member eq ys q ≡ false
-  is_member_apart [] ys all q there = absurd (false≢true there)
-  is_member_apart (x ∷ xs) ys all q there =
-      grind (arith, all, there, list_any_congr laws q x ys, is_member_apart xs ys)
+  -- the answers of `is_subset` and `is_disjoint` say the same of every item. A set is a subset exactly where the
+  -- difference is empty, and disjoint exactly where the intersection is
+  pub subset_answered : (xs ys : List T) (answer : Bool) → answer ≡ list_all (is_member eq ys) xs
+      → (IsTrue answer ↔ IsSubset eq xs ys) × (IsTrue answer ↔ (difference eq xs ys ≡ []))
+  subset_answered xs ys answer is = rw is (
+    within xs ys,
+    none_pass (λ x. not (is_member eq ys x)) (is_member eq ys)
+        (λ x. sym (not-not (is_member eq ys x))) xs,
+  )
 
-  apart_is_member : (xs ys : List T)
-      → ((q : T) → is_member eq xs q ≡ true → is_member eq ys q ≡ false)
-      → list_all (λ x. not (is_member eq ys x)) xs ≡ true
-  apart_is_member [] ys each = refl
-  apart_is_member (x ∷ xs) ys each =
-      both_true (ap not (each x (ap (λ b. b || is_member eq xs x) (laws.refl x))))
-      (apart_is_member xs ys (λ q there. each q (ap (λ b. eq q x || b) there
-      ∙ or-true (eq q x))))
-
-  -- the answers of `is_subset` and `is_disjoint` say the same of every item
-  pub is_subset_answered : (xs ys : List T) (answer : Bool) → answer ≡ list_all (is_member eq ys) xs
-      → IsTrue answer ↔ IsSubset eq xs ys
-  is_subset_answered xs ys answer is =
-      rw is (λ all q there. is_member_within xs ys all q there, λ each. within_is_member xs ys each)
-
-  pub is_disjoint_answered : (xs ys : List T) (answer : Bool)
-      → answer ≡ list_all (λ x. not (is_member eq ys x)) xs → IsTrue answer ↔ IsDisjoint eq xs ys
-  is_disjoint_answered xs ys answer is =
-      rw is (λ all q there. is_member_apart xs ys all q there, λ each. apart_is_member xs ys each)
+  pub disjoint_answered : (xs ys : List T) (answer : Bool)
+      → answer ≡ list_all (λ x. not (is_member eq ys x)) xs
+      → (IsTrue answer ↔ IsDisjoint eq xs ys) × (IsTrue answer ↔ (intersection eq xs ys ≡ []))
+  disjoint_answered xs ys answer is = rw is (
+    apart xs ys,
+    none_pass (is_member eq ys) (λ x. not (is_member eq ys x)) (λ x. refl) xs,
+  )

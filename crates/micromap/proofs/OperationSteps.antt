@@ -1,7 +1,8 @@
 -- What an iterator over an operation has left after a call of `next`, and that its hint bounds the members left.
-use Rattle.std.proofs.Common.{◌≡◌, ℕ, suc, ◌+◌, ◌-◌, ◌^◌, ◌≤◌, min, Bool, true, false, not, List, [], ◌∷◌, ◌++◌, length}
+use Rattle.std.proofs.Common.{◌≡◌, ℕ, zero, suc, ◌+◌, ◌-◌, ◌^◌, ◌≤◌, min, Bool, true, false, not, List, [], ◌∷◌, ◌++◌, length}
 use Rattle.std.proofs.Common.{drop, filter, Option, Some, None, if◌then◌else◌, IfSome, refl, ap, sym, subst, ◌∙◌, arith}
 use Rattle.std.proofs.Common.{Bor}
+use Rattle.std.proofs.Math.Bool.{beq}
 use Rattle.std.specs.Cmp.{IsEquivalence}
 use Rattle.std.specs.Iterator.{MakesProgress, UpTo, YieldsFirstBy, at_most, item_count}
 use Rattle.std.specs.Iterator.Runs.{ItemsMapTo, EveryRun, YieldsInOrder}
@@ -13,7 +14,7 @@ use Rattle.std.proofs.lemmas.Map.Keys.{IsDistinct-tail}
 use Rattle.micromap_core.proofs.DistinctLemmas.{length-filter_members}
 use Rattle.std.specs.Set.{is_member}
 use Rattle.micromap.specs.Operations.{difference, difference_left, difference_on, intersection, sum_of, symmetric_left}
-use Rattle.micromap.specs.Operations.{symmetric_on, if_empty, GivesNext, TwoWalks, Walk}
+use Rattle.micromap.specs.Operations.{symmetric_on, if_empty, GivesNext, TwoWalks}
 
 module _ {S A X : Type 0} (shows : A → X) (left : S → List X) (on : S → S) where
   -- each run of such an iterator gives what was left, in order
@@ -37,62 +38,55 @@ pub items_in_order : {S X : Type 0} (left : S → List X) (on : S → S)
     → YieldsInOrder (GivesNext (λ (x : X). x) left on) left
 items_in_order left on p seen = as_is p (left p.from) (left_in_order (λ x. x) left on p seen)
 
--- a walk over a difference or an intersection, whose members pass a test that the other list decides
-module _ {T : Type 0} (eq : T → T → Bool) (test : List T → T → Bool) where
-  abbrev left : Walk T (List T) → List T
-  left w = filter (test w.other) w.rest
+-- the test of a walk over a difference or an intersection, by what `contains` returned
+pub as_asked : {found there : Bool} (common : Bool) → found ≡ there
+    → (if common then there else not there) ≡ beq found common
+as_asked true is = grind (arith, is)
+as_asked false is = grind (arith, is)
 
-  abbrev on : Walk T (List T) → Walk T (List T)
-  on w = record w { rest = after_first (test w.other) w.rest }
+-- a walk over a list, up to and including the first item that passes a test
+module _ {T : Type 0} (test : T → Bool) where
+  -- it began at start, and has met no such item up to now
+  pub record MeetsNone (start now : List T) : Type 0 where
+    pub members : filter test now ≡ filter test start
+    pub after : after_first test now ≡ after_first test start
 
-  -- it began at start, and has met no member up to now
-  pub record MeetsNone (start now : Walk T (List T)) : Type 0 where
-    pub members : left now ≡ left start
-    pub after : on now ≡ on start
-    pub distinct : IsDistinct eq now.rest
-
-  module _ {start now : Walk T (List T)} (walk : MeetsNone start now) where
-    module _ {x : T} {next : List T} (first : now.rest ≡ x ∷ next) where
-      pub distinct_behind : IsDistinct eq next
-      distinct_behind = IsDistinct-tail eq x next (subst (IsDistinct eq) first walk.distinct)
-
-      pub meets_none : test now.other x ≡ false → MeetsNone start (record now { rest = next })
-      meets_none fails =
-          let further : (1 + position_or_len (test now.other) next) + 1
-          ≡ suc (position_or_len (test now.other) next + 1) = omega arith in
-          record {
-            members = grind (arith, walk.members, first, fails);
-            after = sym (ap (λ xs. record now { rest = after_first (test now.other) xs }) first
-                ∙ ap (λ b. record now {
-                  rest =
-                      drop ((if not b then 1 + position_or_len (test now.other) next else 0) + 1)
-                      (x ∷ next);
-                }) fails ∙ ap (λ n. record now { rest = drop n (x ∷ next) })
-                further) ∙ walk.after;
-            distinct = distinct_behind;
-          }
-
-    -- it gives the member that it meets, or nothing at the end
-    pub walk_gives : {x : Bor T} {next : List T} → now.rest ≡ x.now ∷ next
-        → test now.other x.now ≡ true
-        → GivesNext deref left on start (Some x) (record now { rest = next })
-    walk_gives {next = next} first passes =
-        let passed : next ≡ after_first (test now.other) now.rest = grind (arith, first, passes) in
-        record {
-          member = grind (arith, walk.members, first, passes);
-          led =
-              ap (λ xs. record now { rest = xs }) passed ∙ walk.after;
+  module _ {start now next : List T} (walk : MeetsNone start now) where
+    pub meets_none : {x : T} → now ≡ x ∷ next → test x ≡ false → MeetsNone start next
+    meets_none {x} first fails =
+        let further : (1 + position_or_len test next) + 1 ≡ suc (position_or_len test next + 1) =
+        omega arith in record {
+          members = grind (arith, walk.members, first, fails);
+          after = sym (ap (after_first test) first
+              ∙ ap (λ b. drop ((if not b then 1 + position_or_len test next else 0) + 1) (x ∷ next)) fails
+              ∙ ap (λ n. drop n (x ∷ next)) further) ∙ walk.after;
         }
 
-    pub walk_ends : {next : List T} → now.rest ≡ [] → next ≡ []
-        → GivesNext deref left on start None (record now { rest = next })
-    walk_ends {next} none end =
-        let over : next ≡ after_first (test now.other) now.rest = grind (arith, none, end) in
-        record {
-          member = (grind (arith, walk.members, none), grind (arith, end));
-          led =
-              ap (λ xs. record now { rest = xs }) over ∙ walk.after;
-        }
+    -- it gives the item that it meets, or nothing at the end
+    pub walk_gives : {x : Bor T} → now ≡ x.now ∷ next → test x.now ≡ true
+        → GivesNext deref (filter test) (after_first test) start (Some x) next
+    walk_gives first passes = record {
+      member = grind (arith, walk.members, first, passes);
+      led = grind (arith, walk.after, first, passes);
+    }
+
+    pub walk_ends : now ≡ [] → next ≡ [] → GivesNext deref (filter test) (after_first test) start None next
+    walk_ends none end = record {
+      member = (grind (arith, walk.members, none), grind (arith, end));
+      led = grind (arith, walk.after, none, end);
+    }
+
+-- what such a walk leaves is distinct
+module _ {T : Type 0} (eq : T → T → Bool) where
+  IsDistinct-drop : (n : ℕ) (xs : List T) → IsDistinct eq xs → IsDistinct eq (drop n xs)
+  IsDistinct-drop zero xs distinct = distinct
+  IsDistinct-drop (suc n) [] distinct = distinct
+  IsDistinct-drop (suc n) (x ∷ xs) distinct = IsDistinct-drop n xs (IsDistinct-tail eq x xs distinct)
+
+  pub distinct_after : (test : T → Bool) (xs ys : List T) → IsDistinct eq xs → ys ≡ after_first test xs
+      → IsDistinct eq ys
+  distinct_after test xs ys distinct led =
+      subst (IsDistinct eq) (sym led) (IsDistinct-drop (position_or_len test xs + 1) xs distinct)
 
 -- once the first of two walks has ended, a call at the second is a call at both
 pub second_gives : {T : Type 0} (eq : T → T → Bool) (s t : TwoWalks T (List T) (List T))

@@ -7,7 +7,7 @@ use Rattle.micromap_core.proofs.laws.LoopLaws.{loop_laws}
 use Rattle.micromap_core.proofs.laws.MapLaws.{map_laws}
 use Rattle.micromap_core.proofs.laws.MergeLaws.{merge_laws, merged_counts}
 use Rattle.micromap_core.proofs.laws.SumLaws.{sum_laws}
-use Rattle.micromap_core.proofs.laws.TextLoops.{text_loops}
+use Rattle.micromap_core.proofs.laws.TextLoops.{extended_texts, text_loops}
 use Rattle.micromap_core.proofs.laws.TextViews.{text_views, texts_clone}
 use Rattle.micromap.proofs.laws.ChainLaws.{chain_laws}
 use Rattle.micromap.proofs.laws.FoundLaws.{found_items, found_laws}
@@ -15,7 +15,7 @@ use Rattle.micromap.proofs.laws.ItemCounts.{item_counts}
 use Rattle.micromap.proofs.laws.MergedKeys.{keys_merged}
 use Rattle.micromap.proofs.laws.SetLaws.{set_laws}
 use Rattle.micromap.proofs.laws.SetLoopLaws.{set_loop_laws}
-use Rattle.micromap.proofs.laws.SetTextLoops.{set_text_loops}
+use Rattle.micromap.proofs.laws.SetTextLoops.{extended_item_texts, set_text_loops}
 use Rattle.micromap.proofs.laws.SetTextViews.{each_item_str, each_item_text, each_str_item, each_text_item, set_text_operations, set_texts}
 
 -- a map, its sums and searches of it
@@ -25,7 +25,7 @@ pub ruleset maps = (map_laws, sum_laws, found_laws)
 pub ruleset sets = (set_laws, found_items)
 
 -- texts as keys, values or items, by their bytes
-pub ruleset texts = (text_views, set_texts, starts_text)
+pub ruleset texts = (text_views, set_texts, extended_texts, extended_item_texts, starts_text)
 
 -- closures that change no capture
 pub ruleset closures = closure_laws
@@ -48,4 +48,13 @@ pub ruleset comparison = (
 )
 
 -- what most functions need
-pub ruleset caller = (map_laws, text_views, set_laws, set_texts, closure_laws, starts_text)
+pub ruleset caller = (
+  map_laws,
+  text_views,
+  set_laws,
+  set_texts,
+  extended_texts,
+  extended_item_texts,
+  closure_laws,
+  starts_text,
+)

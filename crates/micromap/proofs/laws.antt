@@ -16,6 +16,7 @@ pub use Rattle.micromap_core.proofs.laws.LoopLaws
 pub use Rattle.micromap_core.proofs.laws.MapLaws
 pub use Rattle.micromap_core.proofs.laws.MergeLaws
 pub use Rattle.micromap_core.proofs.laws.MisfitLemmas
+pub use Rattle.micromap_core.proofs.laws.ProbedLaws
 pub use Rattle.micromap_core.proofs.laws.SumLaws
 pub use Rattle.micromap_core.proofs.laws.TextLemmas
 pub use Rattle.micromap_core.proofs.laws.TextLoops

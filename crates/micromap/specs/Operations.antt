@@ -27,6 +27,10 @@ if_empty [] x y = x
 if_empty (_ ∷ _) x y = y
 
 module _ {T : Type 0} (eq : T → T → Bool) where
+  -- whether x has an equal one in ys, or else whether it has none
+  abbrev pub passes : Bool → List T → T → Bool
+  passes common ys x = if common then is_member eq ys x else not (is_member eq ys x)
+
   -- the items of xs without an equal one in ys
   abbrev pub difference : List T → List T → List T
   difference xs ys = filter (λ x. not (is_member eq ys x)) xs

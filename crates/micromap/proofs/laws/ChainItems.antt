@@ -1,7 +1,7 @@
 -- For callers: what a map or a set is once it is built or extended by any chain of iterators, and when it is refused. The
 -- last argument of each law says which list the chain yields. The laws `YieldsList-from_..` of
 -- `Rattle.std.proofs.lemmas.Iterator` make it, one for each step of the chain, and so does `YieldsList-from_values` here.
-use Rattle.std.proofs.Common.{◌≡◌, ◌↔◌, ℕ, ◌+◌, ◌<◌, ◌≤◌, Bool, true, List, ◌++◌, length, map, take, Option, Result, Ok}
+use Rattle.std.proofs.Common.{◌≡◌, ◌↔◌, ℕ, ◌+◌, ◌<◌, ◌≤◌, Bool, true, List, ◌++◌, length, take, Option, Result, Ok}
 use Rattle.std.proofs.Common.{Err, IfErr, IfOk, IsErr, refl, sym, ap, subst, ◌∙◌, arith, fold}
 use Rattle.std.proofs.iter.Yields.{gives_left}
 use Rattle.std.proofs.iter.runs.Made.{took}

@@ -19,7 +19,8 @@ use Rattle.std.proofs.option.Match.{None-if_not_some}
 use Rattle.micromap_core.proofs.laws.MapLaws.{lookup_put, lookup_put_key, lookup_take_out, pair_put, pair_put_key}
 use Rattle.micromap_core.proofs.laws.MapLaws.{pair_take_out, length_put, length_put_key, length_take_out, unique_put}
 use Rattle.micromap_core.proofs.laws.MapLaws.{unique_put_key, unique_take_out, take_out_missing, keys_take_out}
-use Rattle.micromap_core.proofs.laws.MapLaws.{keys_remove_entry, has_behind}
+use Rattle.micromap_core.proofs.laws.MapLaws.{has_behind}
+use Rattle.micromap_core.proofs.laws.ProbedLaws.{keys_remove_entry}
 use Rattle.micromap.specs.ItemEntries.{entries_of}
 use Rattle.micromap.specs.Extend.{put_all_items}
 use Rattle.micromap.specs.Items.{put_item, replace_item, find_item, item_fits, take_item}

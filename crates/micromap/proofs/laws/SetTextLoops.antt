@@ -106,6 +106,13 @@ module _ {T : Type 0} (see : T → List ℕ) where
           (subst (λ e. IsDistinct e (symmetric_difference eq a b)) (compares_by see eq compares)
           unique))
 
+  -- what is put of texts is put of their items, so that a search finds what a set extended by another has
+  pub extended_item_texts : (items xs : List T)
+      → put_all_items bytes_eq (items_by see items) (items_by see xs)
+      ≡ items_by see (put_all_items (on see bytes_eq) items xs)
+  extended_item_texts items xs =
+      sym (item_texts_put_all (on see bytes_eq) items xs (λ x y. refl))
+
 pub ruleset set_text_loops = (
   item_texts_empty,
   item_texts_first,

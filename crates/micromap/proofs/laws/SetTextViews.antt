@@ -1,7 +1,7 @@
 -- For callers: what each change of a set of texts does to the list of the texts' bytes. The laws hold for `String` and for
 -- `&str`.
 use Rattle.std.proofs.Common.{◌≡◌, ℕ, Some, codes, Bool, true, not, IsTrue, IsFalse, List, [], ◌∷◌, ◌++◌, Bor, drop}
-use Rattle.std.proofs.Common.{filter, length, slice_get, Result, IfOk, String, is_some, refl, ap, sym, subst, ◌∙◌}
+use Rattle.std.proofs.Common.{filter, length, slice_get, String, is_some, refl, ap, sym, subst, ◌∙◌}
 use Rattle.std.proofs.Common.{string_bytes, arith, bytes_eq, option_map, string_eq}
 use Rattle.std.specs.Fmt.{◌++?◌}
 use Rattle.std.specs.List.{AllZip, IsDistinct, find, items_where_true, list_all, list_any}

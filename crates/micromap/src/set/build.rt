@@ -83,9 +83,7 @@ impl<T: Eq + Drop, const N: usize> Set<T, N> {
         let _content = self.len();
         let mut all_fit = true;
         for x in items {
-            if !self.put(x) {
-                all_fit = false;
-            }
+            all_fit &= self.put(x);
         }
         all_fit
     }

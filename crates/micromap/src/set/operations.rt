@@ -1,7 +1,9 @@
 //! The operations on two sets, which may have different capacities. Each call returns an iterator over references to
 //! the members, and compares nothing. Each call of `next` walks up to and including the next member.
-ghost use Rattle.std.specs.Prelude.{◌≡◌};
-ghost use Rattle.micromap.specs.Operations.{both_hints};
+ghost use Rattle.std.specs.Prelude.{◌≡◌, filter};
+ghost use Rattle.std.specs.List.{after_first};
+ghost use Rattle.std.specs.Map.Iter.{deref};
+ghost use Rattle.micromap.specs.Operations.{both_hints, passes, GivesNext};
 
 mod cloned;
 mod difference;
@@ -10,11 +12,32 @@ mod intersection;
 mod symmetric_difference;
 mod union;
 
+use crate::Set;
+use crate::set::Iter;
 pub use difference::Difference;
 pub use difference_ref::DifferenceRef;
 pub use intersection::Intersection;
 pub use symmetric_difference::SymmetricDifference;
 pub use union::Union;
+
+// Returns the next item for which `other.contains` returns `common`, or `None` at the end. It is inlined, so that
+// `common` is a constant.
+#[inline(always)]
+fn next_where<'a, T: Eq, const M: usize>(
+    rest: &mut Iter<'a, T>,
+    other: &Set<T, M>,
+    common: bool,
+) -> Option<&'a T>
+    ensures { GivesNext deref (filter (passes T.eq common other.now)) (after_first (passes T.eq common other.now))
+        rest.old result rest.new }
+{
+    while let Some(x) = rest.next() {
+        if other.contains(x) == common {
+            return Some(x);
+        }
+    }
+    None
+}
 
 // Returns the size hint of two iterators, one after the other.
 fn hint_of_both(

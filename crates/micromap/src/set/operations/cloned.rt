@@ -1,11 +1,12 @@
 //! The set of the clones of a difference or an intersection.
-ghost use Rattle.std.specs.Prelude.{◌≡◌, All, IsOk, IfOk};
+ghost use Rattle.std.specs.Prelude.{◌≡◌, All, IsOk, IfOk, filter};
 ghost use Rattle.std.specs.List.{AllZip};
 ghost use Rattle.std.specs.Set.{ClonesAreEqual};
 ghost use Rattle.micromap.specs.Clones.{AreIdentical};
 ghost use Rattle.micromap.specs.Items.{IsItems};
-ghost use Rattle.micromap.specs.Operations.{difference, intersection};
+ghost use Rattle.micromap.specs.Operations.{difference, intersection, passes};
 
+use super::next_where;
 use crate::Set;
 use std::alloc::AllocError;
 
@@ -23,12 +24,7 @@ impl<T: Eq + Clone + Drop, const N: usize> Set<T, N> {
         ensures content { IfOk result (IsItems T.eq N) }
         ensures succeeds { All T.is_infallible (intersection T.eq self.now other.now) → IsOk result }
     {
-        let mut both: Self = Set::new();
-        for x in self.intersection(other) {
-            both.insert(x.clone()?);
-        }
-        let _content = both.len();
-        Ok(both)
+        self.clones_where(other, true)
     }
 
     /// Returns a set of the clones of the items that have no equal one in `other`, in their order.
@@ -43,11 +39,29 @@ impl<T: Eq + Clone + Drop, const N: usize> Set<T, N> {
         ensures content { IfOk result (IsItems T.eq N) }
         ensures succeeds { All T.is_infallible (difference T.eq self.now other.now) → IsOk result }
     {
-        let mut rest: Self = Set::new();
-        for x in self.difference(other) {
-            rest.insert(x.clone()?);
+        self.clones_where(other, false)
+    }
+
+    // Returns a set of the clones of the items for which `other.contains` returns `common`.
+    #[inline]
+    fn clones_where<const M: usize>(
+        &self,
+        other: &Set<T, M>,
+        common: bool,
+    ) -> Result<Self, AllocError>
+        requires { ClonesAreEqual T.eq T.is_clone }
+        ensures clones { IfOk result (AllZip T.is_clone (filter (passes T.eq common other.now) self.now)) }
+        ensures same { AreIdentical T.is_clone
+            → IfOk result (λ new. new ≡ filter (passes T.eq common other.now) self.now) }
+        ensures content { IfOk result (IsItems T.eq N) }
+        ensures succeeds { All T.is_infallible (filter (passes T.eq common other.now) self.now) → IsOk result }
+    {
+        let mut rest = self.iter();
+        let mut kept: Self = Set::new();
+        while let Some(x) = next_where(&mut rest, other, common) {
+            kept.insert(x.clone()?);
         }
-        let _content = rest.len();
-        Ok(rest)
+        let _content = kept.len();
+        Ok(kept)
     }
 }

@@ -7,6 +7,7 @@ ghost use Rattle.std.specs.Map.Iter.{deref};
 ghost use Rattle.micromap.specs.Extend.{distinct};
 ghost use Rattle.micromap.specs.Operations.{difference, difference_hint, difference_left, difference_on, GivesMembers, GivesNext};
 
+use super::next_where;
 use crate::Set;
 use crate::set::Iter;
 use std::alloc::AllocError;
@@ -61,12 +62,7 @@ impl<'a, 'b, T: Eq, const M: usize> Iterator for DifferenceIn<'a, 'b, T, Set<T, 
     ghost remaining = { item_count (difference_left T.eq) };
 
     fn next(&mut self) -> Option<&'a T> {
-        while let Some(x) = self.rest.next() {
-            if !self.other.contains(x) {
-                return Some(x);
-            }
-        }
-        None
+        next_where(&mut self.rest, self.other, false)
     }
 
     fn size_hint(&self) -> (usize, Option<usize>)
@@ -104,7 +100,6 @@ impl<T: Eq, const N: usize> Set<T, N> {
         ensures builds { let xs = difference T.eq self.now other.now in distinct T.eq xs ≡ xs }
         ensures runs { GivesMembers (difference_left T.eq) (difference_on T.eq) }
     {
-        let _content = self.len();
         DifferenceIn {
             rest: self.iter(),
             other,

@@ -7,6 +7,7 @@ ghost use Rattle.std.specs.Map.Iter.{deref};
 ghost use Rattle.micromap.specs.Extend.{distinct};
 ghost use Rattle.micromap.specs.Operations.{intersection, intersection_hint, intersection_left, intersection_on, Commutes, GivesMembers, GivesNext};
 
+use super::next_where;
 use crate::Set;
 use crate::set::Iter;
 use std::alloc::AllocError;
@@ -61,12 +62,7 @@ impl<'a, T: Eq, const M: usize> Iterator for IntersectionIn<'a, T, Set<T, M>> {
     ghost remaining = { item_count (intersection_left T.eq) };
 
     fn next(&mut self) -> Option<&'a T> {
-        while let Some(x) = self.rest.next() {
-            if self.other.contains(x) {
-                return Some(x);
-            }
-        }
-        None
+        next_where(&mut self.rest, self.other, true)
     }
 
     fn size_hint(&self) -> (usize, Option<usize>)
@@ -104,7 +100,6 @@ impl<T: Eq, const N: usize> Set<T, N> {
         ensures turned { Commutes T.eq (intersection T.eq) self.now other.now }
         ensures runs { GivesMembers (intersection_left T.eq) (intersection_on T.eq) }
     {
-        let _content = self.len();
         IntersectionIn {
             rest: self.iter(),
             other,

@@ -1,12 +1,12 @@
 use Rattle.std.specs.Str.{bytes_eq}
 use Rattle.serde_json.specs.View.{members_view}
 use Rattle.micromap.specs.Build.{put_pair}
-use Rattle.micromap.specs.Json.{whole_members}
+use Rattle.micromap.specs.Json.{pairs_in, whole_members}
 use Rattle.micromap.specs.Texts.{key_texts}
-use Rattle.micromap.proofs.JsonReading.{HasRead}
+use Rattle.micromap.specs.declared.json.JsonFault.TheVariants.{NotWhole}
+use Rattle.micromap.proofs.JsonReading.{ReadsOn}
 use Rattle.micromap.proofs.json.read.map_of_members.Given as goal
 
 abbrev pub invariant-loop-name : goal.invariant-loop-name
-invariant-loop-name g l =
-    HasRead (put_pair bytes_eq) g.row.N (whole_members (members_view l.fn.members.entries))
-    (whole_members (members_view l.name-iterator)) (key_texts l.map) l.all_fit
+invariant-loop-name g l = ReadsOn (put_pair bytes_eq) g.row.N NotWhole (key_texts l.map) l.all_fit
+    (whole_members (members_view l.name-iterator)) (pairs_in g.row.N (members_view l.fn.members.entries))

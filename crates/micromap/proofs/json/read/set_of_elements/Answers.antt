@@ -1,11 +1,8 @@
-use Rattle.std.proofs.Common.{ok_or, sym, ap, ◌∙◌, string_bytes, bytes_eq, arith, rules}
+use Rattle.std.proofs.Common.{refl, sym, ap, ◌∙◌, string_bytes, arith, rules}
 use Rattle.std.proofs.lemmas.List.{nil_from_length}
 use Rattle.serde_json.specs.View.{items_view}
-use Rattle.micromap.specs.Extend.{distinct}
-use Rattle.micromap.specs.Items.{put_item}
-use Rattle.micromap.specs.Json.{all_texts, and_then, items_for}
-use Rattle.micromap.specs.declared.json.JsonFault.TheVariants.{NotText}
-use Rattle.micromap.proofs.JsonReading.{none_read, not_read, read_beyond, read_whole, text_put}
+use Rattle.micromap.specs.Json.{all_texts}
+use Rattle.micromap.proofs.JsonReading.{not_read, read_beyond, read_whole, text_put}
 use Rattle.micromap.proofs.laws.SetTextViews.{item_texts_empty, length_item_texts}
 use Rattle.micromap.proofs.json.read.set_of_elements.Goals as goal
 
@@ -14,14 +11,12 @@ loop-element-init g c = rw (
   c.into_iter-element-iterator.ensures.into_iter_gives.0,
   c.new-set.ensures.answer,
   item_texts_empty,
-) (none_read (put_item bytes_eq) g.row.N
-    (all_texts (items_view c.args.elements.items)))
+) (record { is = refl })
 
 pub returns-in_default-clause-fault : goal.returns-in_default-clause-fault
 returns-in_default-clause-fault g c =
-    ap (λ o. and_then (ok_or o NotText) (λ texts. items_for g.row.N (distinct bytes_eq texts)))
-    (not_read c.loop-element.invariant (λ t. t) _ _
-    (ap (λ vs. all_texts (items_view vs)) c.in-Some.ensures.steps.0) (search rules))
+    not_read c.loop-element.invariant (λ t. t) _ _
+    (ap (λ vs. all_texts (items_view vs)) c.in-Some.ensures.steps.0) (search rules)
 
 pub loop-element-preserved : goal.loop-element-preserved
 loop-element-preserved g c =
@@ -33,8 +28,7 @@ returns-then-all_fit-clause-texts g c =
     read_whole c.loop-element.invariant
     (ap (λ vs. all_texts (items_view vs))
     (nil_from_length c.loop-element.element-iterator.rest.items
-    (sym c.loop-element.element-iterator.rest.ok.0 ∙ c.in-None.ensures.steps.0))) NotText
-    c.if-all_fit.true
+    (sym c.loop-element.element-iterator.rest.ok.0 ∙ c.in-None.ensures.steps.0))) c.if-all_fit.true
     (omega (
       arith,
       c.len-content.ensures.content.bounded,
@@ -46,5 +40,4 @@ returns-else-all_fit-clause-fault g c =
     read_beyond c.loop-element.invariant
     (ap (λ vs. all_texts (items_view vs))
     (nil_from_length c.loop-element.element-iterator.rest.items
-    (sym c.loop-element.element-iterator.rest.ok.0 ∙ c.in-None.ensures.steps.0))) NotText
-    c.if-all_fit.false
+    (sym c.loop-element.element-iterator.rest.ok.0 ∙ c.in-None.ensures.steps.0))) c.if-all_fit.false

@@ -8,15 +8,26 @@ use Rattle.micromap.proofs.JsonWriting.{none_written, writes_one, written, writt
 use Rattle.micromap.proofs.json.write.map_to_json.Goals as goal
 
 pub loop-name-init : goal.loop-name-init
-loop-name-init g c = rw (c.new-members.ensures.empty, c.into_iter-name-iterator.ensures.into_iter_gives.0) (none_written c.args.map.now)
+loop-name-init g c = rw (c.new-members.ensures.empty, c.into_iter-name-iterator.ensures.into_iter_gives.0)
+    (none_written c.args.map.now)
 
 pub loop-name-preserved : goal.loop-name-preserved
-loop-name-preserved g c = writes_one (view c.value_of.result) c.loop-name.invariant c.len-content.ensures.content.unique c.in-Some.ensures.steps (search rules) (search rules) c.value_of.ensures.flat (search rules)
-
-pub returns-clause-object : goal.returns-clause-object
-returns-clause-object g c =
-    written _ c.loop-name.invariant c.in-None.ensures.steps.0 (subst (λ d. depth d ≤ max_depth → read (string_bytes c.in_ok-to_string.field-0) ≡ Some d) (view-Object c.loop-name.members) (c.in_ok-to_string.ensures.reads_back))
+loop-name-preserved g c =
+    writes_one (view c.value_of.result) c.loop-name.invariant
+    c.len-content.ensures.content.unique c.in-Some.ensures.steps (search rules) (search rules)
+    c.value_of.ensures.flat (search rules)
 
 pub returns-clause-text : goal.returns-clause-text
 returns-clause-text g c =
-    written_text _ c.loop-name.invariant c.in-None.ensures.steps.0 (subst (λ d. has_float d ≡ false → string_bytes c.in_ok-to_string.field-0 ≡ compact_text d) (view-Object c.loop-name.members) c.in_ok-to_string.ensures.text)
+    let text = string_bytes c.in_ok-to_string.field-0 in
+    written_text _ c.loop-name.invariant c.in-None.ensures.steps.0
+    (subst (λ d. has_float d ≡ false → text ≡ compact_text d) (view-Object c.loop-name.members)
+    c.in_ok-to_string.ensures.text)
+
+-- what the text is read as
+pub returns-clause-object : goal.returns-clause-object
+returns-clause-object g c =
+    let read_from = string_bytes c.in_ok-to_string.field-0 in
+    written _ c.loop-name.invariant c.in-None.ensures.steps.0
+    (subst (λ d. depth d ≤ max_depth → read read_from ≡ Some d) (view-Object c.loop-name.members)
+    c.in_ok-to_string.ensures.reads_back)

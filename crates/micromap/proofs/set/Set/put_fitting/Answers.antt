@@ -1,5 +1,4 @@
-use Rattle.std.proofs.Common.{true, false, refl, sym, ◌∙◌}
-use Rattle.micromap.specs.Items.{item_fits, put_item}
+use Rattle.std.proofs.Common.{◌≡◌, ◌&&◌, false, if◌then◌else◌, refl, sym, arith}
 use Rattle.micromap_core.proofs.BuildLemmas.{has_put_fitting}
 use Rattle.micromap.proofs.set.Set.put_fitting.Goals as goal
 
@@ -14,30 +13,16 @@ loop-x-init g c =
       put = record { all = refl; made = refl };
     })
 
-pub loop-x-preserved-then-not-put : goal.loop-x-preserved-then-not-put
-loop-x-preserved-then-not-put g c =
-    let l = c.loop-x in
-    let goes = c.in-Some.ensures.goes.on l.invariant.finite in
-    record {
-      can = goes.0;
-      finite = goes.1;
-      put = has_put_fitting (item_fits g.T.PartialEq.eq g.row.N)
-          (put_item g.T.PartialEq.eq) c.args.self.now l.yielded l.all_fit l.self c.put.new.self
-          c.in-Some.x false l.invariant.put c.put.ensures.items (sym c.put.ensures.answer
-          ∙ c.if-not-put.true);
-      content = c.put.ensures.content.1;
-    }
-
 pub loop-x-preserved : goal.loop-x-preserved
 loop-x-preserved g c =
     let l = c.loop-x in
     let goes = c.in-Some.ensures.goes.on l.invariant.finite in
+    let fit = c.put-all_fit.result in
+    let both : (l.all_fit && fit) ≡ (if fit then l.all_fit else false) = grind arith in
     record {
       can = goes.0;
       finite = goes.1;
-      put = has_put_fitting (item_fits g.T.PartialEq.eq g.row.N)
-          (put_item g.T.PartialEq.eq) c.args.self.now l.yielded l.all_fit l.self c.put.new.self
-          c.in-Some.x true l.invariant.put c.put.ensures.items (sym c.put.ensures.answer
-          ∙ c.if-not-put.false);
-      content = c.put.ensures.content.1;
+      put = rw both (has_put_fitting _ _ _ _ _ _ _ _ fit l.invariant.put
+          c.put-all_fit.ensures.items (sym c.put-all_fit.ensures.answer));
+      content = c.put-all_fit.ensures.content.1;
     }

@@ -13,7 +13,9 @@ loop-x-preserved g c =
       can = goes.0;
       finite = goes.1;
       counted = omega (arith, goes.2, l.invariant.counted);
-      put = has_put_more (item_fits eq g.row.N) (put_item eq) c.args.self.now l.yielded l.at l.self c.put.new.self c.in-Some.x l.invariant.put c.put.ensures.items (sym c.put.ensures.answer ∙ c.if-not-put.false);
+      put = has_put_more (item_fits eq g.row.N) (put_item eq) c.args.self.now l.yielded l.at l.self
+          c.put.new.self c.in-Some.x l.invariant.put c.put.ensures.items
+          (sym c.put.ensures.answer ∙ c.if-not-put.false);
       content = c.put.ensures.content.1;
     }
 
@@ -28,7 +30,9 @@ returns-then-not-put g c =
     record {
       runs = tt;
       stops =
-          run_stops (item_fits eq g.row.N) (put_item eq) c.args.self.now l.yielded l.at l.self c.put.new.self c.in-Some.x l.invariant.put c.put.ensures.items g.I.Iterator.next_gives c.args.items c.next.new.self misfit
+          run_stops (item_fits eq g.row.N) (put_item eq) c.args.self.now l.yielded l.at l.self
+          c.put.new.self c.in-Some.x l.invariant.put c.put.ensures.items g.I.Iterator.next_gives
+          c.args.items c.next.new.self misfit
           (rw (← c.into_iter-x-iterator.ensures.into_iter_gives) (l.x-iterator, l.yielded_by, c.in-Some.ensures.steps));
       full = full;
       content = (c.len-content.ensures.content, c.put.ensures.content.1);

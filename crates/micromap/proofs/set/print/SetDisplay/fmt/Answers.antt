@@ -60,29 +60,24 @@ returns-clause-styled g c =
 -- a failed call says nothing of a text
 pub returns-in_err-write_str : goal.returns-in_err-write_str
 returns-in_err-write_str g c =
-    record {
-      writes = failed_plain g.W.Write.write_str_gives c.args.f.now _ _ _
-          c.from_residual.ensures.0;
-      styled =
-          failed_styled g.W.Write.write_str_gives c.args.f.now _ _ _ c.from_residual.ensures.0;
+    let failed = c.from_residual.ensures.0 in
+    let took = g.W.Write.write_str_gives in record {
+      writes = failed_plain took c.args.f.now _ _ _ failed;
+      styled = failed_styled took c.args.f.now _ _ _ failed;
     }
 
 pub returns-in_err-fmt : goal.returns-in_err-fmt
-returns-in_err-fmt g c = record {
-  writes =
-      failed_plain g.W.Write.write_str_gives c.args.f.now _ _ _
-      c.from_residual-in_err-fmt.ensures.0;
-  styled =
-      failed_styled g.W.Write.write_str_gives c.args.f.now _ _ _
-      c.from_residual-in_err-fmt.ensures.0;
-}
+returns-in_err-fmt g c =
+    let failed = c.from_residual-in_err-fmt.ensures.0 in
+    let took = g.W.Write.write_str_gives in record {
+      writes = failed_plain took c.args.f.now _ _ _ failed;
+      styled = failed_styled took c.args.f.now _ _ _ failed;
+    }
 
 pub returns-in_err-write_str-2 : goal.returns-in_err-write_str-2
 returns-in_err-write_str-2 g c =
-    record {
-      writes = failed_plain g.W.Write.write_str_gives c.args.f.now _ _ _
-          c.from_residual-in_err-write_str-2.ensures.0;
-      styled =
-          failed_styled g.W.Write.write_str_gives c.args.f.now _ _ _
-          c.from_residual-in_err-write_str-2.ensures.0;
+    let failed = c.from_residual-in_err-write_str-2.ensures.0 in
+    let took = g.W.Write.write_str_gives in record {
+      writes = failed_plain took c.args.f.now _ _ _ failed;
+      styled = failed_styled took c.args.f.now _ _ _ failed;
     }

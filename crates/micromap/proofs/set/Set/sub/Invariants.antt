@@ -1,8 +1,0 @@
-use Rattle.micromap.specs.Operations.{difference, difference_left}
-use Rattle.micromap.proofs.AddedItems.{ClonesTo}
-use Rattle.micromap.proofs.set.Set.sub.Given as goal
-
--- the set has the clones of the members given
-abbrev pub invariant-loop-x : goal.invariant-loop-x
-invariant-loop-x g l = ClonesTo g.T.Clone.is_clone (difference g.T.PartialEq.eq l.self l.other)
-    (difference_left g.T.PartialEq.eq l.x-iterator) l.rest
