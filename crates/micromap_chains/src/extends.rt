@@ -1,10 +1,13 @@
 //! Maps and sets that are extended by chains.
 #![tactic(auto, using(micromap::proofs::Rules::caller))]
 
-ghost use Rattle.std.specs.Prelude.{◌≡◌, OnOk, filter, nat_eq, nat_lt};
+ghost use Rattle.std.specs.Prelude.{◌≡◌, ◌<◌, IsFalse, OnOk, filter, length, nat_eq, nat_lt};
+ghost use Rattle.std.specs.Bool.{OnTrue};
 ghost use Rattle.std.specs.Map.{keys_of};
+ghost use Rattle.std.specs.Str.{bytes_eq};
 ghost use Rattle.micromap.specs.Build.{put_all};
 ghost use Rattle.micromap.specs.Extend.{put_all_items};
+ghost use Rattle.micromap.specs.Texts.{item_strs, key_strs};
 
 use micromap::{Map, Overfull, Set};
 
@@ -65,4 +68,29 @@ pub fn put_above<const N: usize>(set: &mut Set<u8, N>, list: &[u8]) -> Result<()
     ensures { OnOk result (set.new ≡ put_all_items nat_eq set.old (filter (nat_lt 9) list.now)) }
 {
     set.try_extend(list.iter().copied().filter(|x| *x > 9))
+}
+
+/// Puts settings over others, all or nothing, and returns whether there was room for all.
+pub fn overlay<'a, const N: usize, const M: usize>(
+    settings: &mut Map<&'a str, u32, N>,
+    other: &Map<&'a str, u32, M>,
+) -> bool
+    ensures put { OnTrue result (key_strs settings.new ≡ put_all bytes_eq (key_strs settings.old) (key_strs other.now)) }
+    ensures unchanged { IsFalse result → settings.new ≡ settings.old }
+    ensures refused { IsFalse result → N < length (put_all bytes_eq (key_strs settings.old) (key_strs other.now)) }
+{
+    settings.try_extend_from(other).is_ok()
+}
+
+/// Puts the words of two sets into another, up to the first set that doesn't fit as a whole.
+pub fn add_words<'a, const N: usize, const M: usize>(
+    words: &mut Set<&'a str, N>,
+    one: &Set<&'a str, M>,
+    other: &Set<&'a str, M>,
+) -> Result<(), Overfull>
+    ensures { OnOk result (item_strs words.new
+        ≡ put_all_items bytes_eq (put_all_items bytes_eq (item_strs words.old) (item_strs one.now)) (item_strs other.now)) }
+{
+    words.try_extend_from(one)?;
+    words.try_extend_from(other)
 }

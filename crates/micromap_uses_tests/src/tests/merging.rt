@@ -15,9 +15,9 @@ ghost use Rattle.micromap.specs.Build.{AllItems, ItemsUpTo, MergeStopsAt, all_me
 ghost use Rattle.micromap.specs.Extend.{put_all_items};
 ghost use Rattle.micromap.specs.Pairs.{at, fits};
 ghost use Rattle.micromap.specs.Texts.{key_texts};
-ghost use Rattle.micromap_uses_tests.specs.Totals.{greater, is_summed, saturated_sum, sum};
+ghost use Rattle.micromap_uses_tests.specs.Totals.{greater, is_summed, saturated_sum, sum, with_member};
 
-use micromap::{Map, Overfull};
+use micromap::{Map, Overfull, Set};
 use std::alloc::AllocError;
 
 // Adds each amount to its number's total. If there is no room for a number, there would be more than `N`.
@@ -67,6 +67,25 @@ fn totals_of<const N: usize>(amounts: &[(u8, u32)]) -> Option<Map<u8, u32, N>>
     }
     let _content = totals.len();
     Some(totals)
+}
+
+// The members of each group of a list, up to `M` of a group. They are refused exactly if it has more than `N` groups.
+fn groups_of<const N: usize, const M: usize>(list: &[(u8, u8)]) -> Option<Map<u8, Set<u8, M>, N>>
+    ensures groups { IfSome result (λ groups. groups ≡ merged nat_eq (with_member M) [] list.now) }
+    ensures refused { IsNone result ↔ (N < distinct_count nat_eq (keys_of list.now)) }
+{
+    let mut groups: Map<u8, Set<u8, M>, N> = Map::new();
+    for (group, member) in list {
+        if !groups.fits(group) {
+            return None;
+        }
+        groups
+            .entry(*group)
+            .or_insert(Set::new())
+            .checked_insert(*member);
+    }
+    let _content = groups.len();
+    Some(groups)
 }
 
 // Keeps the greatest amount of each number.
@@ -242,5 +261,15 @@ mod tests {
         assert!(rt; totals_of::<1>(&amounts).is_none());
         assert!(rt; count_numbers::<1>(&amounts).is_none());
         assert!(rt; count_numbers::<2>(&amounts).is_some());
+    }
+
+    #[test]
+    fn members_are_put_into_the_set_of_their_group(rt: HostRuntime) {
+        let list = [(1, 5), (2, 6), (1, 7), (1, 5), (2, 8), (2, 9)];
+        assert!(rt; groups_of::<1, 2>(&list).is_none());
+        if let Some(groups) = groups_of::<2, 2>(&list) {
+            assert_eq!(rt; groups.get(&1), Some(&Set::from([5, 7])));
+            assert_eq!(rt; groups.get(&2), Some(&Set::from([8, 6])));
+        }
     }
 }
