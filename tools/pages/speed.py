@@ -32,14 +32,16 @@ CHOICE_WORDS = {
 }
 SQUARE = ["count by entries", "new and fill"]  # whose time grows with the square of the number of pairs
 NEW_MAPS = ["copied", "put one, hand on"]  # without which MAINTAINING.md says the means too
+# The table of calls that build a map or a set: its capacities, and the ways that the calls are set beside.
+BUILD_CAPACITIES, LOOPS = [2, 8, 64], ["loop", "loop in place"]
 PART = r"(^<!-- made by tools/compare: ([^\n]*) -->\n).*?(^<!-- end -->$)"
 
 
 def parsed(text):
     """A record's or the driver's lines, as where it is from, {(subject, workload): {capacity: (nanoseconds, ratios)}},
-    {workload: {capacity: nanoseconds}} of what is timed alone, and {type: {capacity: sizes}}. A ratio is a number with its
-    mark."""
-    source, times, alone, sizes = "", defaultdict(dict), defaultdict(dict), defaultdict(dict)
+    {workload: {capacity: nanoseconds}} of what is timed alone, {(call, way): {capacity: nanoseconds}} of the ways to build
+    a map or a set, and {type: {capacity: sizes}}. A ratio is a number with its mark."""
+    source, (times, alone, builds, sizes) = "", (defaultdict(dict) for _ in range(4))
     for kind, *words in (line.split("\t") for line in text.splitlines()):
         if kind == "source":
             source = words[0]
@@ -49,18 +51,21 @@ def parsed(text):
             times[subject, workload][int(capacity)] = float(nanoseconds), marked
         elif kind == "alone":
             alone[words[0]][int(words[1])] = float(words[2])
+        elif kind == "build":
+            builds[words[0], words[1]][int(words[2])] = float(words[3])
         elif kind == "size":
             sizes[words[0]][int(words[1])] = int(words[2]), int(words[3])
-    return source, times, alone, sizes
+    return source, times, alone, builds, sizes
 
 
-def record(source, times, alone, sizes):
+def record(source, times, alone, builds, sizes):
     """The text of a record."""
     lines = [["source", source]]
     for (subject, workload), cells in times.items():
         for at, (nanoseconds, ratios) in cells.items():
             lines.append(["time", subject, workload, at, f"{nanoseconds:.2f}", *(f"{it:.4f}{mark}" for it, mark in ratios)])
     lines += (["alone", name, at, f"{nanoseconds:.2f}"] for name, cells in alone.items() for at, nanoseconds in cells.items())
+    lines += (["build", *key, at, f"{nanoseconds:.2f}"] for key, cells in builds.items() for at, nanoseconds in cells.items())
     lines += (["size", name, at, *both] for name, cells in sizes.items() for at, both in cells.items())
     return "".join("\t".join(map(str, it)) + "\n" for it in lines)
 
@@ -72,7 +77,7 @@ def mean(ratios):
 
 
 def averaged_alone(runs):
-    """The geometric means of several runs' figures of what is timed alone."""
+    """The geometric means of several runs' nanoseconds."""
     return {name: {at: mean([(run[name][at], "") for run in runs])[0] for at in cells} for name, cells in runs[0].items()}
 
 
@@ -157,6 +162,21 @@ def alone_table(alone):
     yield from (row([name, *(f"{it:.0f}" for it in cells.values())]) for name, cells in alone.items())
 
 
+def build_table(builds):
+    """The nanoseconds of each call that builds a map or a set, and its time over that of each loop that it replaces: the
+    mean and the greatest ratio."""
+    if not builds:
+        yield "The record has no figures of these calls."
+        return
+    own = {call: cells for (call, way), cells in builds.items() if way == "call"}
+    yield from heading("Nanoseconds", [*BUILD_CAPACITIES, *(f"Over the {way}" for way in LOOPS)])
+    for call, cells in own.items():
+        loops = [builds.get((call, way), {}) for way in LOOPS]
+        ratios = [[(cells[at] / it[at], "") for at in it] for it in loops]
+        nanoseconds = (f"{cells[at]:.{1 if cells[at] < 9.95 else 0}f}" for at in BUILD_CAPACITIES)
+        yield row([f"`{call}`", *nanoseconds, *(worst(it, both) if it else "" for it, both in zip(loops, ratios))])
+
+
 def speed_list(times):
     """In which workloads on numbers this library is as fast as the Rust crate, faster and slower."""
     means = {name: round(mean(ratios_of(cells, 0))[0], 2) for (subject, name), cells in times.items() if subject == "numbers"}
@@ -217,13 +237,14 @@ def charts(source, times):
 
 def made(text):
     """The files that a record makes: the charts, and the pages with their parts."""
-    source, times, alone, _ = parsed(text)
+    source, times, alone, builds, _ = parsed(text)
     files = dict(charts(source, times))
     makers = {
         "times relative to Map's": lambda _: choice_table(times),
         "times relative to the Rust crate's": lambda _: speed_list(times),
         "what takes longer than the layout": lambda part: causes_table(times, part),
         "what is timed alone": lambda _: alone_table(alone),
+        "what replaces a loop": lambda _: build_table(builds),
     }
 
     def part_of(found):

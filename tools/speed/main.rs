@@ -3,13 +3,15 @@
 //!
 //!     time  SUBJECT  WORKLOAD  CAPACITY  NANOSECONDS  RATIO..
 //!     alone  WORKLOAD  CAPACITY  NANOSECONDS
+//!     build  CALL  WAY  CAPACITY  NANOSECONDS
 //!     size  TYPE  CAPACITY  BYTES  BYTES
 //!
 //! The nanoseconds are those of a round at the Rust crate. The ratios are the times over the Rust crate's of this library,
 //! of its layout in `unsafe` Rust and, for numbers, of the scan by hand, `IndexMap`, `HashMap` and `BTreeMap`. Each figure
 //! is a median over the turns. A `~` follows a ratio if the medians over the first half of the turns and over the second
-//! differ by more than a tenth. What is timed alone has this library's nanoseconds. The bytes are this library's and the
-//! Rust crate's.
+//! differ by more than a tenth. What is timed alone has this library's nanoseconds. So have the ways to build a map or a
+//! set: a call, the loop that it replaces and, for some, that loop in place. The bytes are this library's and the Rust
+//! crate's.
 
 // The files of workloads are those of the static library, so that both sides run the same text.
 #[path = "../../crates/micromap_speed/src/both.rt"]
@@ -33,6 +35,7 @@ use micromap::{Map, Set};
 use platform::Global;
 use std::hint::black_box;
 use std::mem::size_of;
+use std::ops::Range;
 use std::time::Instant;
 
 extern "C" {
@@ -43,6 +46,30 @@ extern "C" {
 const CAPACITIES: [u64; 6] = [2, 4, 8, 16, 32, 64];
 /// The subject of the static library that is timed alone, and its workloads.
 const ALONE: (u64, [&str; 2]) = (9, ["JSON out", "JSON in"]);
+/// The subject of the static library that has calls beside the loops that they replace, and those calls, each with the
+/// first of its workloads and with how many of `WAYS` it has.
+const BUILDS: (u64, [(&str, u64, usize); 15]) = (
+    10,
+    [
+        ("Map::of_all", 0, 3),
+        ("Map::of_fitting", 3, 2),
+        ("Map::with_all", 5, 2),
+        ("Map::with_fitting", 7, 2),
+        ("Map::counts_of", 9, 2),
+        ("Map::try_from_iter", 11, 2),
+        ("Map::try_extend", 13, 2),
+        ("Map::try_extend_from", 15, 2),
+        ("Set::of_all", 17, 3),
+        ("Set::of_fitting", 20, 2),
+        ("Set::with_all", 22, 2),
+        ("Set::with_fitting", 24, 2),
+        ("Set::try_from_iter", 26, 2),
+        ("Set::try_extend", 28, 2),
+        ("Set::try_extend_from", 30, 2),
+    ],
+);
+/// The ways to build a map or a set, in the order of a call's workloads.
+const WAYS: [&str; 3] = ["call", "loop", "loop in place"];
 
 type NumberMap<const N: usize> = Map<u64, u64, N>;
 type ByteSet<const N: usize> = Set<u8, N>;
@@ -134,8 +161,17 @@ fn marked(ratios: &[f64]) -> String {
     format!("{:.4}{}", median(ratios), if differs { "~" } else { "" })
 }
 
+/// A workload at one capacity, over a number of rounds.
+type Rounds = Box<dyn Fn(u64) -> u64>;
+
+/// A workload of the static library.
+fn linked(subject: u64, workload: u64, capacity: u64) -> Rounds {
+    // SAFETY: it is a function over numbers alone, which asks nothing of its caller.
+    Box::new(move |rounds| unsafe { micromap_speed(subject, workload, capacity, black_box(0), rounds) })
+}
+
 /// How many rounds take about half a millisecond.
-fn enough_rounds(run: &dyn Fn(u64) -> u64) -> u64 {
+fn enough_rounds(run: &Rounds) -> u64 {
     let mut rounds = 16;
     loop {
         let (seconds, _) = timed(|| run(rounds));
@@ -146,43 +182,46 @@ fn enough_rounds(run: &dyn Fn(u64) -> u64) -> u64 {
     }
 }
 
-/// A workload at one capacity: the Rust crate's nanoseconds for a round, and the ratio of each rival's time to its. Each
-/// turn starts with another of them.
-fn measured(subject: &Subject, workload: usize, at: usize, turns: usize) -> (f64, Vec<String>) {
-    let (number, capacity) = (workload as u64, CAPACITIES[at]);
-    let in_rust = |run: Run| Box::new(move |rounds| run(Global, number, black_box(0), rounds)) as Box<dyn Fn(u64) -> u64>;
-    let mut runs = vec![in_rust(subject.runs[at])];
-    for &rival in subject.rivals {
-        // SAFETY: both are functions over numbers alone, which ask nothing of their caller.
-        runs.push(Box::new(move |rounds| unsafe { micromap_speed(rival, number, capacity, black_box(0), rounds) }));
-    }
-    runs.insert(2, in_rust(subject.layout_runs[at]));
+/// The seconds of some runs in each turn, and the number of their rounds. Each turn starts with another run. Fails where
+/// they don't all return the same.
+fn in_turns(runs: &[Rounds], turns: usize, name: &str) -> (Vec<Vec<f64>>, f64) {
     let rounds = enough_rounds(&runs[0]);
     let expected = runs[0](rounds);
-    let (mut nanoseconds, mut ratios) = (Vec::new(), vec![Vec::new(); runs.len() - 1]);
-    for turn in 0..turns {
+    let turn = |turn: usize| {
         let mut seconds = vec![0.0; runs.len()];
         for step in 0..runs.len() {
             let which = (turn + step) % runs.len();
             let (time, result) = timed(|| runs[which](black_box(rounds)));
-            assert_eq!(result, expected, "{}, {}, capacity {capacity}: run {which}", subject.name, subject.workloads[workload]);
+            assert_eq!(result, expected, "{name}: run {which}");
             seconds[which] = time;
         }
-        nanoseconds.push(seconds[0] * 1e9 / rounds as f64);
-        for (ratio, time) in ratios.iter_mut().zip(&seconds[1..]) {
-            ratio.push(time / seconds[0]);
-        }
-    }
-    (median(&nanoseconds), ratios.iter().map(|ratios| marked(ratios)).collect())
+        seconds
+    };
+    ((0..turns).map(turn).collect(), rounds as f64)
 }
 
-/// The nanoseconds of a round of a workload that is timed alone, at one capacity.
-fn alone(workload: u64, capacity: u64, turns: usize) -> f64 {
-    // SAFETY: it is a function over numbers alone, which asks nothing of its caller.
-    let run = |rounds| unsafe { micromap_speed(ALONE.0, workload, capacity, black_box(0), rounds) };
-    let rounds = enough_rounds(&run);
-    let seconds: Vec<f64> = (0..turns).map(|_| timed(|| run(black_box(rounds))).0).collect();
-    median(&seconds) * 1e9 / rounds as f64
+/// A workload at one capacity: the Rust crate's nanoseconds for a round, and the ratio of each rival's time to its.
+fn measured(subject: &Subject, workload: usize, at: usize, turns: usize) -> (f64, Vec<String>) {
+    let (number, capacity) = (workload as u64, CAPACITIES[at]);
+    let in_rust = |run: Run| Box::new(move |rounds| run(Global, number, black_box(0), rounds)) as Rounds;
+    let mut runs = vec![in_rust(subject.runs[at])];
+    runs.extend(subject.rivals.iter().map(|rival| linked(*rival, number, capacity)));
+    runs.insert(2, in_rust(subject.layout_runs[at]));
+    let name = format!("{}, {}, capacity {capacity}", subject.name, subject.workloads[workload]);
+    let (seconds, rounds) = in_turns(&runs, turns, &name);
+    let nanoseconds: Vec<f64> = seconds.iter().map(|turn| turn[0] * 1e9 / rounds).collect();
+    let ratios = |run: usize| seconds.iter().map(|turn| turn[run] / turn[0]).collect::<Vec<f64>>();
+    (median(&nanoseconds), (1..runs.len()).map(|run| marked(&ratios(run))).collect())
+}
+
+/// The nanoseconds of a round of some workloads of one subject of the static library, at one capacity.
+fn own(subject: u64, workloads: Range<u64>, capacity: u64, turns: usize, name: &str) -> Vec<f64> {
+    let runs: Vec<Rounds> = workloads.map(|workload| linked(subject, workload, capacity)).collect();
+    // The sum is 0 where nothing was made, and the greatest number where there is no such workload.
+    assert!(runs.iter().all(|run| ![0, u64::MAX].contains(&run(1))), "{name}, capacity {capacity}: nothing was found");
+    let (seconds, rounds) = in_turns(&runs, turns, &format!("{name}, capacity {capacity}"));
+    let of_run = |run: usize| seconds.iter().map(|turn| turn[run] * 1e9 / rounds).collect::<Vec<f64>>();
+    (0..runs.len()).map(|run| median(&of_run(run))).collect()
 }
 
 fn main() {
@@ -201,7 +240,17 @@ fn main() {
     }
     for (workload, name) in ALONE.1.iter().enumerate() {
         for capacity in CAPACITIES {
-            println!("alone\t{name}\t{capacity}\t{:.2}", alone(workload as u64, capacity, turns));
+            let workload = workload as u64;
+            let nanoseconds = own(ALONE.0, workload..workload + 1, capacity, turns, name);
+            println!("alone\t{name}\t{capacity}\t{:.2}", nanoseconds[0]);
+        }
+    }
+    for (call, first, ways) in BUILDS.1 {
+        for capacity in CAPACITIES {
+            let nanoseconds = own(BUILDS.0, first..first + ways as u64, capacity, turns, call);
+            for (way, nanoseconds) in WAYS.iter().zip(nanoseconds) {
+                println!("build\t{call}\t{way}\t{capacity}\t{nanoseconds:.2}");
+            }
         }
     }
     for subject in subjects().iter().filter(|subject| subject.name != "two maps") {

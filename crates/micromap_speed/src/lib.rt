@@ -2,14 +2,16 @@
 //!
 //! `inputs` and the files of workloads (`both`, `bytes`, `numbers`, `texts` and `wide`) have no clause and are Rust as well:
 //! the driver compiles the same files. `library` has the workloads' calls at this library's types, and `scan`,
-//! `index_map`, `hash_map` and `btree_map` have them at types that a user might take in their place. `json` is timed alone. A workload is proved
-//! to be safe and to end. The driver compares what it returns.
+//! `index_map`, `hash_map` and `btree_map` have them at types that a user might take in their place. `builds` has calls beside
+//! the loops that they replace, and `json` is timed alone. A workload is proved to be safe and to end. The driver compares
+//! what it returns.
 #![tactic(auto)]
 
 ghost use Rattle.std.specs.Prelude.{◌≤◌};
 
 pub mod both;
 mod btree_map;
+mod builds;
 pub mod bytes;
 mod hash_map;
 mod index_map;
@@ -38,6 +40,10 @@ type ByteSet<const N: usize> = Set<u8, N>;
 type TextMap<const N: usize> = Map<String, u64, N>;
 
 type WideMap<const N: usize> = Map<u64, [u64; 3], N>;
+
+type CountMap<const N: usize> = Map<u64, usize, N>;
+
+type NumberSet<const N: usize> = Set<u64, N>;
 
 /// Runs a workload of a subject for some rounds at a capacity, and returns a sum of what it found; the greatest number
 /// where there is no such workload. The salt is 0, which no compiler can know, nor so the keys.
@@ -75,6 +81,7 @@ fn run<const N: usize>(memory: Global, subject: u64, workload: u64, salt: u64, r
         7 => numbers::run::<BTreeMap<u64, u64>, N>(memory, workload, salt, rounds),
         8 => both::run::<NumberMap<N>, N>(memory, workload, salt, rounds),
         9 => json::run::<N>(memory, workload, salt, rounds),
+        10 => builds::run::<N>(workload, salt, rounds),
         _ => u64::MAX,
     }
 }
