@@ -16,6 +16,7 @@ PROGRAMS = {
     "micromap_bench": "The worked rows",
     "micromap_replay": "Recorded calls",
     "micromap_uses": "Example libraries",
+    "micromap_contract": "A caller with a contract",
     "micromap_headers": "An example program",
 }
 HEAD = """# Claims
@@ -197,16 +198,23 @@ class Claims:
             calls = ", ".join(f"`{it}`" for it in silent[verdict])
             yield from [f"- **{verdict[0].upper()}{verdict[1:]}**, {count} clauses: {why}. {calls}"] * bool(count)
 
-    def totals(self):
-        """How many clauses have an edit, how many have refused planted bodies alone, and how many have neither."""
+    def counts(self):
+        """How many clauses have an edit, how many have refused planted bodies alone, how many have neither, and all."""
         unnamed, library = self.unnamed(), self.library()
         without = {call: len(names) for call, names in unnamed.items()}
         tried = sum(count for call, count in without.items() if self.verdict(call) not in SILENT)
-        rows = {
-            "with an edit": len(library) - sum(without.values()),
-            f"[without an edit](#{anchor(WITHOUT)}), but with planted bodies that were judged": tried,
-            "with neither": sum(without.values()) - tried,
-            "all": len(library),
-        }
+        untried = sum(without.values()) - tried
+        return len(library) - tried - untried, tried, untried, len(library)
+
+    def totals(self):
+        """The table of these."""
+        names = ["with an edit", f"[without an edit](#{anchor(WITHOUT)}), but with planted bodies that were judged", "with neither", "all"]
         yield "| The library's clauses | |\n|---|---|"
-        yield from (f"| {what} | {count} |" for what, count in rows.items())
+        yield from (f"| {what} | {count} |" for what, count in zip(names, self.counts()))
+
+    def wrong_of_readme(self):
+        """What is amiss in the README's sentence about these."""
+        edited, tried, untried, library = self.counts()
+        wanted = (f"Of the library's {library} clauses, {edited} have such a body. For {tried} more, bodies that a tool made were refused. "
+                  f"For the other {untried}, no refusal is known to be theirs.")
+        return [] if wanted in read("README.md") else [f"README.md doesn't say: {wanted}"]

@@ -81,6 +81,7 @@ add each amount to its key's total, in a map that is there, or in a new one by e
 add the amounts of a `Vec` by value, or of any iterator | | merging::add_vector, merging::add_all
 add amounts up to the first that doesn't fit or overflows | | merging::add_before
 keep the greatest amount of each key | | merging::keep_greatest
+make a map of sets, as the members of each group, and know exactly that there are too many keys | | merging::groups_of
 merge by a step of one's own that may fail | | uses/headers::collect
 put pairs into a map | extends::put_list |
 put pairs into a map, and know when they are refused | uses_tests/lists::put_pairs, uses_tests/generic::put_items | generic::put_each
@@ -129,6 +130,7 @@ clone a map or a set, in a function of its own before a loop | uses_tests/text_s
 ask whether two maps, or two sets, are the same | uses_tests/comparison::have_same_ages, uses_tests/comparison::have_same_words |
 ask whether a set has all words of another, or none | uses_tests/text_sets::has_words_of, uses_tests/text_sets::are_apart |
 put a map over another, whose values it replaces, as settings over defaults, up to the first pair that doesn't fit | | text_maps::add_all
+put a map, or two sets, with `&str` into another, all or nothing | extends::overlay, extends::add_words |
 add the amounts of a map to those there | | merging::add_text_map
 make a set of the keys of a map | | text_sets::names_of
 make a set of the items that pass, or that begin with a `&str` | | text_sets::longer, text_sets::beginning
@@ -176,7 +178,7 @@ CHAINS_INTRO = """# Chains and calls with their contracts
 These are the functions to which the [index](PROVING.md#loops) leads, in its order, that need no proof by hand: chains of \
 iterators, calls, and a few loops. Each has its contract, and the line under which it is proved. Write that line as `#[..]` \
 at your function, or as `#![..]` at the head of your file. Of the imports each has those of the words in its clauses. \
-Their files are in micromap's own repository, not in a copy by its `tools/add`.
+Imports of types are as [CALLING](CALLING.md#callers) has them. Their files are in micromap's own repository, not in a copy by its `tools/add`.
 
 """
 LOOPS_INTRO = """# Loops with their proofs
