@@ -127,7 +127,7 @@ change all values, or keep the pairs that pass, in place | uses_tests/text_maps:
 make a map with other values | | text_maps::doubled
 make a map of the pairs that pass | | text_maps::names_over
 clone a map or a set, in a function of its own before a loop | uses_tests/text_sets::copied, uses_tests/text_sets::copied_texts, uses_tests/text_sets::copied_words |
-ask whether two maps, or two sets, are the same | uses_tests/comparison::have_same_ages, uses_tests/comparison::have_same_words |
+ask whether two maps, or two sets, are the same | uses_tests/comparison::have_same_ages, texts::have_same_settings, uses_tests/comparison::have_same_words |
 ask whether a set has all words of another, or none | uses_tests/text_sets::has_words_of, uses_tests/text_sets::are_apart |
 put a map over another, whose values it replaces, as settings over defaults, up to the first pair that doesn't fit | | text_maps::add_all
 put a map, or two sets, with `&str` into another, all or nothing | extends::overlay, extends::add_words |

@@ -1,13 +1,14 @@
 //! What is read of a map with texts as keys.
 #![tactic(auto, using(micromap::proofs::Rules::caller))]
 
-ghost use Rattle.std.specs.Prelude.{◌≡◌, ◌^◌, ◌<◌, count_by, filter, length, map, max, nat_lt, sum, IfOk, not};
+ghost use Rattle.std.specs.Prelude.{◌≡◌, ◌↔◌, ◌^◌, ◌<◌, count_by, filter, length, map, max, nat_lt, sum, IfOk, IsTrue, not};
 ghost use Rattle.std.specs.List.{list_any, reduce, list_all};
 ghost use Rattle.std.specs.Map.{keys_of, values_of};
 ghost use Rattle.std.specs.String.{string_bytes};
 ghost use Rattle.std.specs.Set.{is_member};
 ghost use Rattle.std.specs.Str.{bytes_eq};
-ghost use Rattle.micromap.specs.Texts.{item_texts};
+ghost use Rattle.micromap.specs.Same.{Same};
+ghost use Rattle.micromap.specs.Texts.{item_texts, str_eq};
 
 use micromap::{Map, Set, Text};
 use std::alloc::{AllocError, Global};
@@ -73,6 +74,16 @@ pub fn knows_all<const N: usize>(words: &[&str], known: &Set<String, N>) -> bool
             ensures { result ≡ is_member bytes_eq (item_texts known.entry.now) w.now.now }
         { known.contains_by(&Text(*w)) },
     )
+}
+
+/// Returns `true` if two lists of settings have the same ones, in any order.
+pub fn have_same_settings<'a, const N: usize, const M: usize>(
+    one: &Map<&'a str, &'a str, N>,
+    other: &Map<&'a str, &'a str, M>,
+) -> bool
+    ensures { IsTrue result ↔ Same str_eq str_eq one.now other.now }
+{
+    one.eq_with(other)
 }
 
 /// Returns the words of a list that a set lacks, in order.

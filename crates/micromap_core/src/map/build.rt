@@ -83,7 +83,7 @@ impl<K: Eq + Drop, V: Drop, const N: usize> Map<K, V, N> {
         let _content = self.len();
         let mut at = 0;
         for (key, value) in items {
-            if self.checked_insert(key, value).is_none() {
+            if !self.put(key, value) {
                 return Err(Overfull { at });
             }
             at += 1;
@@ -127,9 +127,7 @@ impl<K: Eq + Drop, V: Drop, const N: usize> Map<K, V, N> {
         let _content = self.len();
         let mut all_fit = true;
         for (key, value) in items {
-            if self.checked_insert(key, value).is_none() {
-                all_fit = false;
-            }
+            all_fit &= self.put(key, value);
         }
         all_fit
     }

@@ -86,6 +86,16 @@ impl<K: Eq + Drop, V: Drop, const N: usize> Map<K, V, N> {
         }
     }
 
+    // Inserts the pair if it fits, and returns whether it did.
+    #[inline]
+    pub(crate) fn put(&mut self, key: K, value: V) -> bool
+        ensures answer { result ≡ fits K.eq N self.old key }
+        ensures pairs { self.new ≡ put_if_fits K.eq N self.old key value }
+        ensures content { AreContents K.eq N self.old self.new }
+    {
+        self.checked_insert(key, value).is_some()
+    }
+
     /// Inserts the pair if its key is new and there is room. Returns `Ok(None)` then, `Ok(Some((key, value)))` if an equal
     /// key is stored, and `Err((key, value))` if the key is new and the map is full.
     ///

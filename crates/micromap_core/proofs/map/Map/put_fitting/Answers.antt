@@ -1,6 +1,5 @@
-use Rattle.std.proofs.Common.{true, false, refl}
-use Rattle.micromap_core.specs.Build.{pair_fits, put_pair}
-use Rattle.micromap_core.proofs.BuildLemmas.{fits_checked, has_put_fitting}
+use Rattle.std.proofs.Common.{◌≡◌, ◌&&◌, false, if◌then◌else◌, refl, sym, arith}
+use Rattle.micromap_core.proofs.BuildLemmas.{has_put_fitting}
 use Rattle.micromap_core.proofs.map.Map.put_fitting.Goals as goal
 
 pub loop-key-init : goal.loop-key-init
@@ -14,38 +13,16 @@ loop-key-init g c =
       put = record { all = refl; made = refl };
     })
 
-pub loop-key-preserved-then-is_none : goal.loop-key-preserved-then-is_none
-loop-key-preserved-then-is_none g c =
-    let l = c.loop-key in
-    let goes = c.in-Some.ensures.goes.on l.invariant.finite in
-    let misfit = fits_checked g.K.PartialEq.eq g.row.N l.self c.in-Some.key
-    c.checked_insert.ensures.answer c.if-is_none.ensures in
-    record {
-      can = goes.0;
-      finite = goes.1;
-      put = has_put_fitting (pair_fits g.K.PartialEq.eq g.row.N)
-          (put_pair g.K.PartialEq.eq) c.args.self.now l.yielded l.all_fit l.self
-          c.checked_insert.new.self (
-            c.in-Some.key,
-            c.in-Some.value,
-          ) false l.invariant.put c.checked_insert.ensures.pairs misfit;
-      content = c.checked_insert.ensures.content.1;
-    }
-
 pub loop-key-preserved : goal.loop-key-preserved
 loop-key-preserved g c =
     let l = c.loop-key in
     let goes = c.in-Some.ensures.goes.on l.invariant.finite in
-    let fit = fits_checked g.K.PartialEq.eq g.row.N l.self c.in-Some.key
-    c.checked_insert.ensures.answer c.if-is_none.ensures in
+    let fit = c.put-all_fit.result in
+    let both : (l.all_fit && fit) ≡ (if fit then l.all_fit else false) = grind arith in
     record {
       can = goes.0;
       finite = goes.1;
-      put = has_put_fitting (pair_fits g.K.PartialEq.eq g.row.N)
-          (put_pair g.K.PartialEq.eq) c.args.self.now l.yielded l.all_fit l.self
-          c.checked_insert.new.self (
-            c.in-Some.key,
-            c.in-Some.value,
-          ) true l.invariant.put c.checked_insert.ensures.pairs fit;
-      content = c.checked_insert.ensures.content.1;
+      put = rw both (has_put_fitting _ _ _ _ _ _ _ (c.in-Some.key, c.in-Some.value) fit
+          l.invariant.put c.put-all_fit.ensures.pairs (sym c.put-all_fit.ensures.answer));
+      content = c.put-all_fit.ensures.content.1;
     }

@@ -1,7 +1,7 @@
-use Rattle.std.proofs.Common.{◌≡◌, length, ap, ◌∙◌, arith, refl}
+use Rattle.std.proofs.Common.{◌≡◌, false, length, refl, ap, sym, ◌∙◌, arith}
 use Rattle.micromap_core.specs.Build.{pair_fits, put_pair}
-use Rattle.micromap_core.specs.Pairs.{has}
-use Rattle.micromap_core.proofs.BuildLemmas.{fits_checked, full_is, has_put_more, run_puts, run_stops}
+use Rattle.micromap_core.specs.Pairs.{fits, has}
+use Rattle.micromap_core.proofs.BuildLemmas.{full_is, has_put_more, run_puts, run_stops}
 use Rattle.micromap_core.proofs.map.Map.try_extend.Goals as goal
 
 pub loop-key-init : goal.loop-key-init
@@ -27,22 +27,21 @@ loop-key-preserved g c =
       counted = omega (arith, goes.2, l.invariant.counted);
       put = has_put_more (pair_fits g.K.PartialEq.eq g.row.N)
           (put_pair g.K.PartialEq.eq) c.args.self.now l.yielded l.at l.self
-          c.checked_insert.new.self (
+          c.put.new.self (
             c.in-Some.key,
             c.in-Some.value,
-          ) l.invariant.put c.checked_insert.ensures.pairs
-          (fits_checked g.K.PartialEq.eq g.row.N l.self c.in-Some.key
-          c.checked_insert.ensures.answer c.if-is_none.ensures);
-      content = c.checked_insert.ensures.content.1;
+          ) l.invariant.put c.put.ensures.pairs
+          (sym c.put.ensures.answer ∙ c.if-not-put.false);
+      content = c.put.ensures.content.1;
     }
 
 -- the map is as it was before the item that didn't fit, and full
-pub returns-then-is_none : goal.returns-then-is_none
-returns-then-is_none g c =
+pub returns-then-not-put : goal.returns-then-not-put
+returns-then-not-put g c =
     let l = c.loop-key in
-    let misfit = fits_checked g.K.PartialEq.eq g.row.N l.self c.in-Some.key
-    c.checked_insert.ensures.answer c.if-is_none.ensures in
-    let kept : c.checked_insert.new.self ≡ l.self = rw misfit at c.checked_insert.ensures.pairs in
+    let misfit : fits g.K.PartialEq.eq g.row.N l.self c.in-Some.key ≡ false =
+    sym c.put.ensures.answer ∙ c.if-not-put.true in
+    let kept : c.put.new.self ≡ l.self = rw misfit at c.put.ensures.pairs in
     let full = ap length kept
     ∙ full_is (has g.K.PartialEq.eq l.self c.in-Some.key)
     (length l.self) g.row.N misfit (c.loop-key.invariant.content.bounded) in
@@ -51,10 +50,10 @@ returns-then-is_none g c =
       stops =
           run_stops (pair_fits g.K.PartialEq.eq g.row.N)
           (put_pair g.K.PartialEq.eq) c.args.self.now l.yielded l.at l.self
-          c.checked_insert.new.self (
+          c.put.new.self (
             c.in-Some.key,
             c.in-Some.value,
-          ) l.invariant.put c.checked_insert.ensures.pairs
+          ) l.invariant.put c.put.ensures.pairs
           g.I.Iterator.next_gives c.args.items c.next.new.self misfit
           (rw (← c.into_iter-key-iterator.ensures.into_iter_gives) (
             l.key-iterator,
@@ -62,7 +61,7 @@ returns-then-is_none g c =
             c.in-Some.ensures.steps,
           ));
       full = full;
-      content = (c.len-content.ensures.content, c.checked_insert.ensures.content.1);
+      content = (c.len-content.ensures.content, c.put.ensures.content.1);
     }
 
 pub returns : goal.returns
