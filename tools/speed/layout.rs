@@ -374,6 +374,18 @@ impl<const N: usize> Bytes for Columns<u8, (), N> {
         }
         (set.has(item) as u64).wrapping_add(set.count())
     }
+
+    #[inline]
+    fn total_apart_and_common(&self, other: &Self, mask: u64) -> u64 {
+        let mut sum = 0u64;
+        for item in self.keys.items().filter(|item| !other.has(**item)) {
+            sum = sum.wrapping_add(*item as u64 ^ mask);
+        }
+        for item in self.keys.items().filter(|item| other.has(**item)) {
+            sum = sum.wrapping_add(*item as u64 ^ mask);
+        }
+        sum
+    }
 }
 
 impl<const N: usize> Wide for Columns<u64, [u64; 3], N> {

@@ -154,6 +154,18 @@ impl<const N: usize> Bytes for Set<u8, N> {
         let set: Self = self.union(other).copied().collect();
         (set.has(item) as u64).wrapping_add(set.count())
     }
+
+    #[inline]
+    fn total_apart_and_common(&self, other: &Self, mask: u64) -> u64 {
+        let mut sum = 0u64;
+        for item in self.difference(other) {
+            sum = sum.wrapping_add(*item as u64 ^ mask);
+        }
+        for item in self.intersection(other) {
+            sum = sum.wrapping_add(*item as u64 ^ mask);
+        }
+        sum
+    }
 }
 
 impl<const N: usize> Wide for Map<u64, [u64; 3], N> {

@@ -24,6 +24,9 @@ pub trait Bytes: Drop {
 
     /// Makes the set of the union with another set, and returns whether it has an item, plus the number of its items.
     fn join_and_find(&self, other: &Self, item: u8) -> u64;
+
+    /// The sum of the items that another set lacks, and of those that it has, each with the bits of `mask` flipped.
+    fn total_apart_and_common(&self, other: &Self, mask: u64) -> u64;
 }
 
 // The byte of an index: below 128, and another for each index below 128.
@@ -105,15 +108,21 @@ fn retain<S: Bytes, const N: usize>(salt: u64, rounds: u64) -> u64 {
     sum
 }
 
+// A set that has half as many items as there is room for, from another index on.
+#[inline(never)]
+fn half_filled<S: Bytes, const N: usize>(from: u64, salt: u64) -> S {
+    let mut set = S::empty();
+    for index in 0..(N as u64) >> 1 {
+        set.put(byte(index.wrapping_add(from), salt));
+    }
+    set
+}
+
 // The union of two sets that have half as many items as there is room for, some of them in both.
 #[inline(never)]
 fn union<S: Bytes, const N: usize>(salt: u64, rounds: u64) -> u64 {
-    let mut first = S::empty();
-    let mut second = S::empty();
-    for index in 0..(N as u64) >> 1 {
-        first.put(byte(index, salt));
-        second.put(byte(index.wrapping_add((N as u64) >> 2), salt));
-    }
+    let first: S = half_filled::<S, N>(0, salt);
+    let second: S = half_filled::<S, N>((N as u64) >> 2, salt);
     let mut sum = 0u64;
     for _ in 0..rounds {
         sum = sum.wrapping_add(first.join_and_find(&second, byte(sum, salt)));
@@ -121,13 +130,26 @@ fn union<S: Bytes, const N: usize>(salt: u64, rounds: u64) -> u64 {
     sum
 }
 
+// The difference and the intersection of such sets, item by item.
+#[inline(never)]
+fn walk_apart_and_common<S: Bytes, const N: usize>(salt: u64, rounds: u64) -> u64 {
+    let first: S = half_filled::<S, N>(0, salt);
+    let second: S = half_filled::<S, N>((N as u64) >> 2, salt);
+    let mut sum = 0u64;
+    for round in 0..rounds {
+        sum = sum.wrapping_add(first.total_apart_and_common(&second, round));
+    }
+    sum
+}
+
 /// The names of the workloads, by their numbers.
-pub const NAMES: [&'static str; 5] = [
+pub const NAMES: [&'static str; 6] = [
     "new and fill",
     "contains, miss",
     "walk",
     "retain half and put back",
     "set of a union",
+    "walk a difference, an intersection",
 ];
 
 /// Runs a workload for some rounds at sets with room for `N` items.
@@ -143,6 +165,7 @@ pub fn run<S: Bytes, const N: usize>(
         2 => walk::<S, N>(salt, rounds),
         3 => retain::<S, N>(salt, rounds),
         4 => union::<S, N>(salt, rounds),
+        5 => walk_apart_and_common::<S, N>(salt, rounds),
         _ => u64::MAX,
     }
 }

@@ -188,6 +188,18 @@ impl<const N: usize> Bytes for Set<u8, N> {
             Err(_) => u64::MAX,
         }
     }
+
+    #[inline]
+    fn total_apart_and_common(&self, other: &Self, mask: u64) -> u64 {
+        let mut sum = 0u64;
+        for item in self.difference(other) {
+            sum = sum.wrapping_add(*item as u64 ^ mask);
+        }
+        for item in self.intersection(other) {
+            sum = sum.wrapping_add(*item as u64 ^ mask);
+        }
+        sum
+    }
 }
 
 impl<const N: usize> Wide for Map<u64, [u64; 3], N> {

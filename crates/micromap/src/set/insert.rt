@@ -96,6 +96,6 @@ impl<T: Eq + Drop, const N: usize> Set<T, N> {
         ensures items { self.new ≡ put_item_if_fits T.eq N self.old item }
         ensures content { AreItems T.eq N self.old self.new }
     {
-        self.map.checked_insert(item, ()).is_some()
+        self.try_insert(item).is_ok()
     }
 }
