@@ -119,7 +119,7 @@ keep the pairs whose name another map lacks | uses_tests/copies::keep_missing |
 find the first name at which two maps differ | uses_tests/text_maps::first_changed |
 add up the values, if the sum fits: of `&str` keys; in a loop, of `String` keys | texts::total | probes::total
 ask whether a key passes, or count the values that pass | texts::any_long, texts::count_large |
-find how long the longest key is, or the longest `&str` among the keys | texts::longest, texts::longest_of_strings | text_maps::longest
+find how long the longest key is, or 0; in a loop the longest `&str` among the keys | texts::longest, texts::longest_of_strings, texts::longest_or_zero | text_maps::longest
 list the words of a list that a set lacks | texts::unknown_words |
 count the items that pass | | reads::longer
 ask whether all texts of a list are items; in a loop, whether all are keys, or any is an item | texts::knows_all | reads::has_names, reads::has_any
@@ -129,8 +129,9 @@ make a map of the pairs that pass | | text_maps::names_over
 clone a map or a set, in a function of its own before a loop | uses_tests/text_sets::copied, uses_tests/text_sets::copied_texts, uses_tests/text_sets::copied_words |
 ask whether two maps, or two sets, are the same | uses_tests/comparison::have_same_ages, texts::have_same_settings, uses_tests/comparison::have_same_words |
 ask whether a set has all words of another, or none | uses_tests/text_sets::has_words_of, uses_tests/text_sets::are_apart |
-put a map over another, whose values it replaces, as settings over defaults, up to the first pair that doesn't fit | | text_maps::add_all
-put a map, or two sets, with `&str` into another, all or nothing | extends::overlay, extends::add_words |
+put clones of a key and a value, if there is room | uses_tests/text_maps::put_clones |
+put a map over another, whose values it replaces, as settings over defaults, up to the first pair that doesn't fit; with `String` values by a function that puts the clones | | text_maps::add_all, text_maps::overlay
+put a map, or two sets, with `&str` into another, all or nothing; a map of `String` into a clone | extends::overlay, extends::add_words, uses_tests/text_maps::overlay_whole |
 add the amounts of a map to those there | | merging::add_text_map
 make a set of the keys of a map | | text_sets::names_of
 make a set of the items that pass, or that begin with a `&str` | | text_sets::longer, text_sets::beginning

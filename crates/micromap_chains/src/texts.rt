@@ -1,7 +1,7 @@
 //! What is read of a map with texts as keys.
 #![tactic(auto, using(micromap::proofs::Rules::caller))]
 
-ghost use Rattle.std.specs.Prelude.{◌≡◌, ◌↔◌, ◌^◌, ◌<◌, count_by, filter, length, map, max, nat_lt, sum, IfOk, IsTrue, not};
+ghost use Rattle.std.specs.Prelude.{◌≡◌, ◌↔◌, ◌^◌, ◌<◌, count_by, filter, fold, length, map, max, nat_lt, sum, IfOk, IsTrue, not};
 ghost use Rattle.std.specs.List.{list_any, reduce, list_all};
 ghost use Rattle.std.specs.Map.{keys_of, values_of};
 ghost use Rattle.std.specs.String.{string_bytes};
@@ -40,6 +40,15 @@ pub fn longest<const N: usize>(names: &Map<&str, u64, N>) -> Option<usize>
     ensures { result ≡ reduce max (map (λ k. length k.now) (keys_of names.now)) }
 {
     names.keys().map(|k| k.len()).max()
+}
+
+/// Returns how many bytes the longest key has, or 0 if there is none.
+pub fn longest_or_zero<const N: usize>(settings: &Map<String, String, N>) -> usize
+    ensures { result ≡ fold (λ most k. max most (length (string_bytes k))) 0 (keys_of settings.now) }
+{
+    settings
+        .keys()
+        .fold(0, |most: usize, key| most.max(key.len()))
 }
 
 /// Returns how many bytes the longest key has, if any, by the pairs.

@@ -1,7 +1,7 @@
 //! Maps with texts as keys, `String` or `&str`, known by their bytes. Loops and closures make and change them.
 #![tactic(auto, using(micromap::proofs::Rules::loops, micromap::proofs::Rules::closures))]
 
-ghost use Rattle.std.specs.Prelude.{◌≡◌, ◌<◌, ◌+◌, ◌↔◌, [], IfOk, IsFalse, IsNone, IsTrue, None, Some, filter, fold, if◌then◌else◌, length, map, min, nat_eq, nat_lt, not};
+ghost use Rattle.std.specs.Prelude.{◌≡◌, ◌<◌, ◌+◌, ◌↔◌, [], IfErr, IfOk, IsFalse, IsNone, IsTrue, None, Some, filter, fold, if◌then◌else◌, length, map, min, nat_eq, nat_lt, not};
 ghost use Rattle.std.specs.Bool.{OnTrue};
 ghost use Rattle.std.specs.Map.{keys_of};
 ghost use Rattle.std.specs.Option.{IfSome, option_map, option_map_or};
@@ -58,6 +58,55 @@ fn add_all<const N: usize, const M: usize>(
         }
         amounts.insert(name.clone()?, *amount);
     }
+    Ok(true)
+}
+
+// Puts clones of a name and a value if there is room, and returns whether there was.
+#[tactic(auto, using(micromap::proofs::Rules::caller))]
+fn put_clones<const N: usize>(
+    settings: &mut Map<String, String, N>,
+    name: &String,
+    value: &String,
+) -> Result<bool, AllocError>
+    ensures answer { IfOk result (λ fit. fit ≡ fits bytes_eq N (texts settings.old) (string_bytes name.now)) }
+    ensures settings { IfOk result (λ _. texts settings.new ≡ put_if_fits bytes_eq N (texts settings.old) (string_bytes name.now) (string_bytes value.now)) }
+{
+    let name = name.clone()?;
+    let value = value.clone()?;
+    Ok(settings.checked_insert(name, value).is_some())
+}
+
+// Puts the settings of another map, up to the first that doesn't fit. If one doesn't, they would be more than `N`.
+fn overlay<const N: usize, const M: usize>(
+    settings: &mut Map<String, String, N>,
+    other: &Map<String, String, M>,
+) -> Result<bool, AllocError>
+    ensures settings { IfOk result (λ all. OnTrue all (texts settings.new ≡ put_all bytes_eq (texts settings.old) (texts other.now))) }
+    ensures refused { IfOk result (λ all. IsFalse all → N < length (put_all bytes_eq (texts settings.old) (texts other.now))) }
+{
+    for (name, value) in other {
+        if !put_clones(settings, name, value)? {
+            return Ok(false);
+        }
+    }
+    Ok(true)
+}
+
+// Puts all settings of another map, or none if they don't all fit or there is no memory for their clones.
+#[tactic(auto, using(micromap::proofs::Rules::caller, micromap::proofs::Rules::comparison))]
+fn overlay_whole<const N: usize, const M: usize>(
+    settings: &mut Map<String, String, N>,
+    other: &Map<String, String, M>,
+) -> Result<bool, AllocError>
+    ensures settings { IfOk result (λ all. OnTrue all (texts settings.new ≡ put_all bytes_eq (texts settings.old) (texts other.now))) }
+    ensures refused { IfOk result (λ all. IsFalse all → (N < length (put_all bytes_eq (texts settings.old) (texts other.now))) × (settings.new ≡ settings.old)) }
+    ensures failed { IfErr result (λ _. settings.new ≡ settings.old) }
+{
+    let mut whole = settings.clone()?;
+    if !overlay(&mut whole, other)? {
+        return Ok(false);
+    }
+    *settings = whole;
     Ok(true)
 }
 
