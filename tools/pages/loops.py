@@ -29,7 +29,7 @@ count the pairs that pass | reads::count_pairs |
 count the items that pass | reads::count_items_above | reads::items_over
 count the items of a list, or of a set, that are in a set | members::count_stored, members::count_stored_any, members::count_known |
 ask whether the values are those of a list, in order | reads::has_values |
-count the values that are their own index, or the sets of a map that are empty | reads::count_at_index, members::count_empty |
+count the values that are their own index, or the sets of a map that are empty, or that have an item | reads::count_at_index, members::count_empty, members::count_groups_of |
 count the members of an operation on two sets | reads::count_union, reads::count_common, set_tests/operations::missing |
 add up the values, if the sum fits; with texts as keys, see the texts below | reads::total | map_tests/walks::total
 add up the values of a map by value | reads::total_of |
@@ -37,7 +37,7 @@ count the pairs of a map by value that pass | reads::count_of |
 add up the values, the pairs or the items in a wider type, by a bound on the number of values, of pairs or of items | sums::total_wide, sums::total_of_pairs, sums::total_of_items |
 add up the members of an operation on two sets, if the sum fits | | set_tests/operations::total
 find the greatest value | reads::greatest |
-find the key with the greatest value, or with the least, and that value | uses/votes::winner, reads::cheapest |
+find the key with the greatest value, or with the least, and that value, or with the greatest set | uses/votes::winner, reads::cheapest, members::largest_group |
 find the least key | reads::least_key |
 find the greatest key of the pairs that pass | reads::greatest_key_above |
 find the greatest member of an operation on two sets | folds::greatest_alone |

@@ -1,9 +1,11 @@
 //! Chains whose tests look into another map or set.
 #![tactic(auto)]
 
-ghost use Rattle.std.specs.Prelude.{◌≡◌, count_by, nat_eq, not, length};
-ghost use Rattle.std.specs.List.{list_all, list_any};
+ghost use Rattle.std.specs.Prelude.{◌≡◌, ◌≤◌, ◌↔◌, [], IsNone, count_by, nat_eq, not, length};
+ghost use Rattle.std.specs.List.{All, Contains, list_all, list_any};
 ghost use Rattle.std.specs.Map.{values_of};
+ghost use Rattle.std.specs.Map.Iter.{deref_pair};
+ghost use Rattle.std.specs.Option.{IfSome};
 ghost use Rattle.std.specs.Set.{is_member};
 ghost use Rattle.micromap.specs.Pairs.{has};
 
@@ -94,4 +96,30 @@ pub fn count_empty(groups: &Map<u8, Set<u8, 8>, 16>) -> usize
     ensures { result ≡ count_by (λ p. nat_eq (length p.1) 0) groups.now }
 {
     groups.iter().filter(|p| p.1.len() == 0).count()
+}
+
+/// Returns how many sets of a map, of any capacity, have an item.
+pub fn count_groups_of<const N: usize, const M: usize>(
+    groups: &Map<u8, Set<u16, M>, N>,
+    member: u16,
+) -> usize
+    ensures { result ≡ count_by (λ p. is_member nat_eq p.1 member) groups.now }
+{
+    groups
+        .iter()
+        .filter(
+            |p: &(&u8, &Set<u16, M>)| -> bool
+                ensures { result ≡ is_member nat_eq p.now.1.now member }
+            { p.1.contains(&member) },
+        )
+        .count()
+}
+
+/// Returns a key with the greatest set, and that set, or `None` if there is no key.
+pub fn largest_group(groups: &Map<u8, Set<u16, 8>, 16>) -> Option<(&u8, &Set<u16, 8>)>
+    ensures none { IsNone result ↔ (groups.now ≡ []) }
+    ensures found { IfSome result (λ most. Contains groups.now (deref_pair most)) }
+    ensures most { IfSome result (λ most. All (λ other. length other.1 ≤ length most.1.now) groups.now) }
+{
+    groups.iter().max_by_key(|p| p.1.len())
 }
