@@ -103,14 +103,14 @@ pub fn count_groups_of<const N: usize, const M: usize>(
     groups: &Map<u8, Set<u16, M>, N>,
     member: u16,
 ) -> usize
-    ensures { result ≡ count_by (λ p. is_member nat_eq p.1 member) groups.now }
+    ensures { result ≡ count_by (λ s. is_member nat_eq s member) (values_of groups.now) }
 {
     groups
-        .iter()
+        .values()
         .filter(
-            |p: &(&u8, &Set<u16, M>)| -> bool
-                ensures { result ≡ is_member nat_eq p.now.1.now member }
-            { p.1.contains(&member) },
+            |s: &&Set<u16, M>| -> bool
+                ensures { result ≡ is_member nat_eq s.now.now member }
+            { s.contains(&member) },
         )
         .count()
 }
