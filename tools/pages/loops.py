@@ -29,7 +29,7 @@ count the pairs that pass | reads::count_pairs |
 count the items that pass | reads::count_items_above | reads::items_over
 count the items of a list, or of a set, that are in a set | members::count_stored, members::count_stored_any, members::count_known |
 ask whether the values are those of a list, in order | reads::has_values |
-count the values that are their own index, or the sets of a map that are empty, or that have an item | reads::count_at_index, members::count_empty, members::count_groups_of |
+count the values that are their own index, or the sets of a map that are empty, that have an item, or that have more than so many | reads::count_at_index, members::count_empty, members::count_groups_of, members::count_larger |
 count the members of an operation on two sets | reads::count_union, reads::count_common, set_tests/operations::missing |
 add up the values, if the sum fits; with texts as keys, see the texts below | reads::total | map_tests/walks::total
 add up the values of a map by value | reads::total_of |
@@ -129,8 +129,7 @@ make a map of the pairs that pass | | text_maps::names_over
 clone a map or a set, in a function of its own before a loop | uses_tests/text_sets::copied, uses_tests/text_sets::copied_texts, uses_tests/text_sets::copied_words |
 ask whether two maps, or two sets, are the same | uses_tests/comparison::have_same_ages, texts::have_same_settings, uses_tests/comparison::have_same_words |
 ask whether a set has all words of another, or none | uses_tests/text_sets::has_words_of, uses_tests/text_sets::are_apart |
-put clones of a key and a value, if there is room | uses_tests/text_maps::put_clones |
-put a map over another, whose values it replaces, as settings over defaults, up to the first pair that doesn't fit; with `String` values by a function that puts the clones | | text_maps::add_all, text_maps::overlay
+put a map over another, whose values it replaces, as settings over defaults, up to the first pair that doesn't fit; with `String` values | | text_maps::add_all, text_maps::overlay
 put a map, or two sets, with `&str` into another, all or nothing; a map of `String` into a clone | extends::overlay, extends::add_words, uses_tests/text_maps::overlay_whole |
 add the amounts of a map to those there | | merging::add_text_map
 make a set of the keys of a map | | text_sets::names_of

@@ -1,7 +1,7 @@
 //! Chains whose tests look into another map or set.
 #![tactic(auto)]
 
-ghost use Rattle.std.specs.Prelude.{◌≡◌, ◌≤◌, ◌↔◌, [], IsNone, count_by, nat_eq, not, length};
+ghost use Rattle.std.specs.Prelude.{◌≡◌, ◌≤◌, ◌↔◌, [], IsNone, count_by, nat_eq, nat_lt, not, length};
 ghost use Rattle.std.specs.List.{All, Contains, list_all, list_any};
 ghost use Rattle.std.specs.Map.{values_of};
 ghost use Rattle.std.specs.Map.Iter.{deref_pair};
@@ -92,7 +92,7 @@ pub fn have_no_common_key(a: &Map<u8, u32, 16>, b: &Map<u8, u32, 8>) -> bool
 }
 
 /// Returns how many sets of a map are empty.
-pub fn count_empty(groups: &Map<u8, Set<u8, 8>, 16>) -> usize
+pub fn count_empty<const N: usize>(groups: &Map<u8, Set<u8, 8>, N>) -> usize
     ensures { result ≡ count_by (λ p. nat_eq (length p.1) 0) groups.now }
 {
     groups.iter().filter(|p| p.1.len() == 0).count()
@@ -111,6 +111,23 @@ pub fn count_groups_of<const N: usize, const M: usize>(
             |s: &&Set<u16, M>| -> bool
                 ensures { result ≡ is_member nat_eq s.now.now member }
             { s.contains(&member) },
+        )
+        .count()
+}
+
+/// Returns how many sets of a map, of any capacity, have more than so many items.
+pub fn count_larger<const N: usize, const M: usize>(
+    groups: &Map<u8, Set<u8, M>, N>,
+    most: usize,
+) -> usize
+    ensures { result ≡ count_by (λ p. nat_lt most (length p.1)) groups.now }
+{
+    groups
+        .iter()
+        .filter(
+            |p: &(&u8, &Set<u8, M>)| -> bool
+                ensures { result ≡ nat_lt most (length p.now.1.now) }
+            { p.1.len() > most },
         )
         .count()
 }

@@ -278,6 +278,17 @@ keys_updated {F = F} {K = K} {V = V} {g = g} {f = f} {pairs = pairs} {new = new}
     more done s p t before turn = ap keys_of turn.3 ∙ map_push (λ e. e.0) s.1 (p.0, turn.1)
         ∙ (λ i. before i ++ p.0 ∷ []) ∙ sym (map_push (λ e. e.0) done p)
 
+-- what holds after each turn of a closure that leaves its captures as they are
+changes_no_capture : {F P A : Type 0} (R : F × P → A → F × P → Type 0) (f : F)
+    (holds : List A → P → Type 0)
+    → ((done : List A) (p : P) (x : A) (t : F × P) → holds done p → R (f, p) x t
+    → (t.0 ≡ f) × holds (done ++ x ∷ []) t.1)
+    → (xs : List A) (p : P) (q : F × P) → holds [] p → FoldsTo R (f, p) xs q → holds xs q.1
+changes_no_capture R f holds more xs p q begins turns =
+    (chained_keeps R (λ done s. (s.0 ≡ f) × holds done s.1)
+    (λ done s x t before turn. more done s.1 x t before.1
+    (subst (λ u. R (u, s.1) x t) before.0 turn)) xs (f, p) q (refl, begins) turns).1
+
 -- `update_all` by a function of pairs, of what `see` shows of each
 module _ {F K V R A : Type 0}
     (g : Mut F (Bor K × (MutBor V × Unit {0})) (R × (MutBor V × Unit {0}))) (f last : F)
@@ -285,23 +296,13 @@ module _ {F K V R A : Type 0}
   pub seen : FoldsTo (UpdateAllTurn g) (f, []) pairs (last, new)
       → ((k : K) (v : V) (r : R) (w : V) (t : F) → CalledOnPair g f k v r w t
       → (see (k, w) ≡ h (see (k, v))) × (t ≡ f)) → map see new ≡ map (λ p. h (see p)) pairs
-  seen turns pure =
-      (chained_keeps {P = F × List (K × V)} (UpdateAllTurn g) (λ done s. (s.0 ≡ f)
-      × (map see s.1 ≡ map (λ p. h (see p)) done)) more pairs (f, []) (last, new) (
-        refl,
-        refl,
-      ) turns).1
-    where
-      more : (done : List (K × V)) (s : F × List (K × V)) (p : K × V) (t : F × List (K × V))
-          → (s.0 ≡ f) × (map see s.1 ≡ map (λ p. h (see p)) done) → UpdateAllTurn g s p t
-          → (t.0 ≡ f) × (map see t.1 ≡ map (λ p. h (see p)) (done ++ p ∷ []))
-      more done s p t before turn =
-          let said = pure p.0 p.1 turn.0 turn.1 t.0
-          (subst (λ u. CalledOnPair g u p.0 p.1 turn.0 turn.1 t.0) before.0 turn.2) in (
-            said.1,
-            ap (map see) turn.3 ∙ map_push see s.1 (p.0, turn.1)
-                ∙ (λ i. before.1 i ++ said.0 i ∷ []) ∙ sym (map_push (λ p. h (see p)) done p),
-          )
+  seen turns pure = changes_no_capture (UpdateAllTurn g) f
+      (λ done now. map see now ≡ map (λ p. h (see p)) done) (λ done now p t before turn.
+      let said = pure p.0 p.1 turn.0 turn.1 t.0 turn.2 in (
+        said.1,
+        ap (map see) turn.3 ∙ map_push see now (p.0, turn.1)
+            ∙ (λ i. before i ++ said.0 i ∷ []) ∙ sym (map_push (λ p. h (see p)) done p),
+      )) pairs [] (last, new) refl turns
 
 -- `update_all` by a function of key and value
 pub updated_by : {F K V R : Type 0}
@@ -323,25 +324,17 @@ pub updated_at_keys : {F K V R : Type 0} {eq : K → K → Bool}
     → (w ≡ h i v) × (t ≡ f)) → new ≡ updated_disjoint eq h pairs keys
 updated_at_keys {F = F} {K = K} {V = V} {R = R} {eq = eq} {g = g} {f = f} {pairs = pairs}
     {new = new} {keys = keys} h updates pure =
-    (chained_keeps {P = F × List (K × V)} (UpdateDisjointTurn eq g) (λ done s. (s.0 ≡ f)
-    × (s.1 ≡ fold (written_by eq h) pairs done)) more (enumerate_from 0 keys) (
-      f,
-      pairs,
-    ) (updates.last, new) (refl, refl) updates.turns).1
+    changes_no_capture (UpdateDisjointTurn eq g) f
+    (λ done now. now ≡ fold (written_by eq h) pairs done)
+    (λ done now e t before turn. let made = one now e t (at eq now e.1) turn in
+    (made.0, made.1 ∙ rw (fold-append, before) refl))
+    (enumerate_from 0 keys) pairs (updates.last, new) refl updates.turns
   where
-    one : (s : F × List (K × V)) (e : ℕ × K) (t : F × List (K × V)) (o : Option V) → s.0 ≡ f
-        → MatchOption o (t ≡ s)
-        (λ v. (r : R) × (w : V) × CalledOnValue g s.0 e.0 v r w t.0 × (t.1 ≡ put eq s.1 e.1 w))
-        → (t.0 ≡ f) × (t.1 ≡ option_map_or (λ v. put eq s.1 e.1 (h e.0 v)) o s.1)
-    one s e t None was same = (ap (λ u. u.0) same ∙ was, ap (λ u. u.1) same)
-    one s e t (Some v) was turn =
-        let said = pure e.0 v turn.0 turn.1 t.0
-        (subst (λ u. CalledOnValue g u e.0 v turn.0 turn.1 t.0) was turn.2) in
-        (said.1, turn.3 ∙ ap (put eq s.1 e.1) said.0)
-
-    more : (done : List (ℕ × K)) (s : F × List (K × V)) (e : ℕ × K) (t : F × List (K × V))
-        → (s.0 ≡ f) × (s.1 ≡ fold (written_by eq h) pairs done) → UpdateDisjointTurn eq g s e t
-        → (t.0 ≡ f) × (t.1 ≡ fold (written_by eq h) pairs (done ++ e ∷ []))
-    more done s e t before turn =
-        let made = one s e t (at eq s.1 e.1) before.0 turn in
-        (made.0, made.1 ∙ rw (fold-append, before.1) refl)
+    one : (now : List (K × V)) (e : ℕ × K) (t : F × List (K × V)) (o : Option V)
+        → MatchOption o (t ≡ (f, now))
+        (λ v. (r : R) × (w : V) × CalledOnValue g f e.0 v r w t.0 × (t.1 ≡ put eq now e.1 w))
+        → (t.0 ≡ f) × (t.1 ≡ option_map_or (λ v. put eq now e.1 (h e.0 v)) o now)
+    one now e t None same = (ap (λ u. u.0) same, ap (λ u. u.1) same)
+    one now e t (Some v) turn =
+        let said = pure e.0 v turn.0 turn.1 t.0 turn.2 in
+        (said.1, turn.3 ∙ ap (put eq now e.1) said.0)

@@ -61,22 +61,8 @@ fn add_all<const N: usize, const M: usize>(
     Ok(true)
 }
 
-// Puts clones of a name and a value if there is room, and returns whether there was.
-#[tactic(auto, using(micromap::proofs::Rules::caller))]
-fn put_clones<const N: usize>(
-    settings: &mut Map<String, String, N>,
-    name: &String,
-    value: &String,
-) -> Result<bool, AllocError>
-    ensures answer { IfOk result (λ fit. fit ≡ fits bytes_eq N (texts settings.old) (string_bytes name.now)) }
-    ensures settings { IfOk result (λ _. texts settings.new ≡ put_if_fits bytes_eq N (texts settings.old) (string_bytes name.now) (string_bytes value.now)) }
-{
-    let name = name.clone()?;
-    let value = value.clone()?;
-    Ok(settings.checked_insert(name, value).is_some())
-}
-
 // Puts the settings of another map, up to the first that doesn't fit. If one doesn't, they would be more than `N`.
+#[tactic(auto, using(micromap::proofs::Rules::loops, micromap::proofs::Rules::texts))]
 fn overlay<const N: usize, const M: usize>(
     settings: &mut Map<String, String, N>,
     other: &Map<String, String, M>,
@@ -85,9 +71,10 @@ fn overlay<const N: usize, const M: usize>(
     ensures refused { IfOk result (λ all. IsFalse all → N < length (put_all bytes_eq (texts settings.old) (texts other.now))) }
 {
     for (name, value) in other {
-        if !put_clones(settings, name, value)? {
+        if !settings.fits(name) {
             return Ok(false);
         }
+        settings.insert(name.clone()?, value.clone()?);
     }
     Ok(true)
 }
