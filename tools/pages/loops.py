@@ -20,12 +20,12 @@ ask whether all values pass, or fit once each is multiplied | reads::all_below, 
 ask whether all of a list are items, or are keys | members::all_stored, members::all_stored_any, members::all_keys | reads::has_all
 ask whether all values are items of a set, or all keys are in another map | members::values_are_known, members::all_keys_of |
 ask whether two maps have a key in common, or none | members::any_key, members::have_no_common_key |
-add up what a map has for each key of a list, or know that one is missing | folds::price_of |
+add up what a map has for each key of a list, or for each two that follow one another, or know that one is missing | folds::price_of, folds::time_of |
 look a key up in several maps: the value of the first that has it; by recursion, of the last | folds::first_value | uses/scopes::value_of
 go from key to value for a number of steps | folds::follow |
 ask whether any or all members of an operation on two sets pass | copies::any_common_above, copies::all_single_below |
 count the values that pass | reads::count_above | map_loops::values_over
-count the pairs that pass | reads::count_pairs |
+count the pairs that pass, or whose key two other maps lack | reads::count_pairs, members::count_unlisted |
 count the items that pass | reads::count_items_above | reads::items_over
 count the items of a list, or of a set, that are in a set | members::count_stored, members::count_stored_any, members::count_known |
 ask whether the values are those of a list, in order | reads::has_values |
@@ -57,7 +57,7 @@ know that `get` finds the pair that is found first, or that no value passes | us
 know that there is no pair where `get` finds nothing, or that equal keys find the same | uses_tests/reads::reissue, uses_tests/reads::is_open, uses_tests/reads::are_one |
 compare two maps in their order | reads::have_equal_values, uses_tests/map_loops::have_keys_in_order |
 ask whether two maps are the same, or read the values at which they differ | uses_tests/generic::find_same, uses_tests/comparison::conflict |
-ask whether two sets have the same items, or one has all items of the other | uses_tests/comparison::have_same_items, uses_tests/comparison::includes |
+ask whether two sets have the same items, as two that are values, or one has all items of the other | uses_tests/comparison::have_same_items, nested::have_same_items, uses_tests/comparison::includes |
 list the keys in a `Vec`, all or those whose value passes, or the items of a set | reads::list_of_keys, reads::list_of_keys_above, reads::list_of_items |
 list the pairs of a map by value, into a `Vec` | reads::list_of_pairs |
 list the members of an operation in a `Vec`, all or those that pass | reads::list_of_union, set_tests/operations::evens |
@@ -87,6 +87,7 @@ put pairs into a map | extends::put_list |
 put pairs into a map, and know when they are refused | uses_tests/lists::put_pairs, uses_tests/generic::put_items | generic::put_each
 put items into a set, and know when they are refused | uses_tests/generic::put_set_items | generic::add_each
 put the items that pass into a set | extends::put_above |
+put a list into a set, all or nothing, or as far as it fits | wholes::with_list, wholes::put_list_whole, wholes::put_fitting |
 count how many different keys or items there are, in a local of any capacity | | generic::count_keys, generic::count_items, map_loops::count_different
 # Building from another map or set
 make a map of the pairs that pass | copies::above, builds::built_above | map_loops::pairs_over
@@ -102,7 +103,7 @@ make a map of the pairs that another map lacks, or has with another value | uses
 copy a map whose values are cloned | | map_loops::copied
 make a set of the items that pass, or that another set lacks (`items_lacking_any` at any capacity) | copies::items_above, copies::items_lacking, copies::items_lacking_any | set_loops::items_over
 make a set of the keys, or of the values | builds::set_of_keys, builds::set_of_values |
-make a set of the keys that pass | builds::set_of_keys_above |
+make a set of the keys that pass, or that another map lacks | builds::set_of_keys_above, wholes::keys_lacking |
 make a set of the keys whose value passes | | map_loops::keys_over
 make a set of a union | builds::set_of_union | set_loops::all_items
 make a set of a difference | builds::set_of_difference |
@@ -120,10 +121,16 @@ find the first name at which two maps differ | uses_tests/text_maps::first_chang
 add up the values, if the sum fits: of `&str` keys; in a loop, of `String` keys | texts::total | probes::total
 ask whether a key passes, or count the values that pass | texts::any_long, texts::count_large |
 find how long the longest key is, or 0; in a loop the longest `&str` among the keys | texts::longest, texts::longest_of_strings, texts::longest_or_zero | text_maps::longest
-list the words of a list that a set lacks | texts::unknown_words |
+list the words of a list that a set lacks, or that are no value of a map | texts::unknown_words, texts::unused_words |
+count the words of a list that are keys | texts::count_named |
+add up the values of a list of words, or know that one is missing or the sum doesn't fit | texts::sum_named |
+ask whether another map has each pair, or count those that it has with another value | texts::changes_nothing, texts::count_changed |
+change each value by what another map has at its key | texts::limit_each |
+read the value at a `&str`, put there if it is missing, or count the `&str`, without `entry` | texts::amount_or_put, texts::count_word |
+drop the pairs whose key is in a set, or in a list | texts::drop_listed, texts::drop_named |
 count the items that pass | | reads::longer
-ask whether all texts of a list are items; in a loop, whether all are keys, or any is an item | texts::knows_all | reads::has_names, reads::has_any
-change all values, or keep the pairs that pass, in place | uses_tests/text_maps::double_all, uses_tests/text_maps::keep_over, uses_tests/text_maps::keep_longer |
+ask whether all texts of a list are items; in a loop, whether all are keys, or any is an item | texts::all_enabled, texts::knows_all | reads::has_names, reads::has_any
+change all values, or keep the pairs that pass, in place | uses_tests/text_maps::double_all, uses_tests/text_maps::keep_over, uses_tests/text_maps::keep_longer, texts::keep_long |
 make a map with other values | | text_maps::doubled
 make a map of the pairs that pass | | text_maps::names_over
 clone a map or a set, in a function of its own before a loop | uses_tests/text_sets::copied, uses_tests/text_sets::copied_texts, uses_tests/text_sets::copied_words |
@@ -148,6 +155,7 @@ keep the pairs that pass | map_tests/closures::keep_even |
 change all values, and drop the pairs that fail then, as those that reach zero | nested::lower |
 keep some pairs, and know how many were dropped | nested::expire |
 take an item out of each set of a map | nested::drop_everywhere, uses_tests/values::take_built |
+add items to a set of a map, as far as they fit; move all items of one into another, all or nothing | nested::add_items, nested::move_items |
 add an item to the set that is a key's value, or keep the items of each such set that pass | uses_tests/values::grant, uses_tests/values::limit_all |
 keep some pairs, and insert one | uses_tests/copies::keep_and_insert |
 insert a pair unless its key is stored, and know whether there was room | uses_tests/copies::reserve |

@@ -1,7 +1,7 @@
 //! Maps and sets that are made by `fold`, where no call makes them. A fold moves the map in each turn.
 #![tactic(auto)]
 
-ghost use Rattle.std.specs.Prelude.{◌≡◌, ◌/◌, ◌+◌, ◌-◌, ◌^◌, ◌<◌, ◌&&◌, [], Some, None, List, Option, ℕ, true, filter, fold, if◌then◌else◌, is_none, length, map, max, min, nat_eq, nat_lt, not, unwrap_or};
+ghost use Rattle.std.specs.Prelude.{◌≡◌, ◌/◌, ◌+◌, ◌-◌, ◌^◌, ◌<◌, ◌&&◌, [], Some, None, List, Option, ℕ, true, drop, filter, fold, if◌then◌else◌, is_none, length, map, max, min, nat_eq, nat_lt, not, unwrap_or};
 ghost use Rattle.std.specs.List.{enumerate_from, zip, range_with_len};
 ghost use Rattle.std.specs.Option.{option_and_then, option_or};
 ghost use Rattle.std.specs.Set.{is_member};
@@ -225,6 +225,26 @@ pub fn price_of(prices: &Map<u8, u32, 16>, basket: &[u8]) -> Option<u32>
         let price = prices.get(k)?;
         so_far.checked_add(*price)
     })
+}
+
+// Adds the time of a leg, if it is stored and the sum fits.
+fn add_leg(sum: Option<u32>, times: &Map<(u8, u8), u32, 16>, from: u8, to: u8) -> Option<u32>
+    ensures { result ≡ option_and_then (λ s. option_and_then (λ n. if nat_lt (s + n) (2 ^ 32) then Some (s + n) else None) (at ⟦<(u8, u8) as PartialEq>⟧.eq times.now (from, to))) sum }
+{
+    let so_far = sum?;
+    so_far.checked_add(*times.get(&(from, to))?)
+}
+
+/// Returns the time from each stop of a list to the next, added up, or `None` if a leg is missing or the sum doesn't fit.
+pub fn time_of(times: &Map<(u8, u8), u32, 16>, stops: &[u8]) -> Option<u32>
+    ensures { result ≡ fold
+        (λ (sum : Option ℕ) leg. option_and_then (λ s. option_and_then (λ n. if nat_lt (s + n) (2 ^ 32) then Some (s + n) else None) (at ⟦<(u8, u8) as PartialEq>⟧.eq times.now (leg.0, leg.1))) sum)
+        (Some 0) (zip stops.now (drop 1 stops.now)) }
+{
+    stops.iter().zip(stops.iter().skip(1)).fold(
+        Some(0),
+        |sum: Option<u32>, (from, to)| add_leg(sum, times, *from, *to),
+    )
 }
 
 /// Returns where one comes from a start by so many steps of a map, or `None` if a step is missing.

@@ -1,7 +1,7 @@
 //! Chains whose tests look into another map or set.
 #![tactic(auto)]
 
-ghost use Rattle.std.specs.Prelude.{◌≡◌, ◌≤◌, ◌↔◌, [], IsNone, count_by, nat_eq, nat_lt, not, length};
+ghost use Rattle.std.specs.Prelude.{◌≡◌, ◌≤◌, ◌↔◌, ◌&&◌, [], IsNone, count_by, nat_eq, nat_lt, not, length};
 ghost use Rattle.std.specs.List.{All, Contains, list_all, list_any};
 ghost use Rattle.std.specs.Map.{values_of};
 ghost use Rattle.std.specs.Map.Iter.{deref_pair};
@@ -91,6 +91,24 @@ pub fn have_no_common_key(a: &Map<u8, u32, 16>, b: &Map<u8, u32, 8>) -> bool
     a.iter().all(|(k, _)| !b.contains_key(k))
 }
 
+/// Returns how many pairs have a key that two other maps lack, for any capacity.
+pub fn count_unlisted<const N: usize, const M: usize, const L: usize>(
+    pairs: &Map<u16, u32, N>,
+    one: &Map<u16, u32, M>,
+    other: &Map<u16, u32, L>,
+) -> usize
+    ensures { result ≡ count_by (λ p. not (has nat_eq one.now p.0) && not (has nat_eq other.now p.0)) pairs.now }
+{
+    pairs
+        .iter()
+        .filter(
+            |p: &(&u16, &u32)| -> bool
+                ensures { result ≡ (not (has nat_eq one.entry.now p.now.0.now) && not (has nat_eq other.entry.now p.now.0.now)) }
+            { !one.contains_key(p.0) && !other.contains_key(p.0) },
+        )
+        .count()
+}
+
 /// Returns how many sets of a map are empty.
 pub fn count_empty<const N: usize>(groups: &Map<u8, Set<u8, 8>, N>) -> usize
     ensures { result ≡ count_by (λ p. nat_eq (length p.1) 0) groups.now }
@@ -117,17 +135,17 @@ pub fn count_groups_of<const N: usize, const M: usize>(
 
 /// Returns how many sets of a map, of any capacity, have more than so many items.
 pub fn count_larger<const N: usize, const M: usize>(
-    groups: &Map<u8, Set<u8, M>, N>,
+    groups: &Map<u8, Set<u16, M>, N>,
     most: usize,
 ) -> usize
-    ensures { result ≡ count_by (λ p. nat_lt most (length p.1)) groups.now }
+    ensures { result ≡ count_by (λ s. nat_lt most (length s)) (values_of groups.now) }
 {
     groups
-        .iter()
+        .values()
         .filter(
-            |p: &(&u8, &Set<u8, M>)| -> bool
-                ensures { result ≡ nat_lt most (length p.now.1.now) }
-            { p.1.len() > most },
+            |s: &&Set<u16, M>| -> bool
+                ensures { result ≡ nat_lt most (length s.now.now) }
+            { s.len() > most },
         )
         .count()
 }

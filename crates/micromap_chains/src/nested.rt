@@ -1,11 +1,15 @@
-//! Changes in place: what one drops is counted, and the sets of a map are changed.
+//! Changes in place: what one drops is counted, and the sets of a map are changed or compared.
 #![tactic(auto, using(micromap::proofs::Rules::caller))]
 
-ghost use Rattle.std.specs.Prelude.{◌≡◌, ◌*◌, ◌^◌, ◌-◌, [], List, ℕ, filter, fold, length, map, nat_eq, nat_lt, not};
+ghost use Rattle.std.specs.Prelude.{◌≡◌, ◌*◌, ◌^◌, ◌-◌, ◌&&◌, [], List, ℕ, false, filter, fold, if◌then◌else◌, length, map, nat_eq, nat_le, nat_lt, not, unwrap_or};
 ghost use Rattle.std.specs.List.{list_all};
 ghost use Rattle.std.specs.Map.{values_of};
+ghost use Rattle.std.specs.Option.{option_eq, option_map_or};
 ghost use Rattle.std.specs.Set.{is_member};
+ghost use Rattle.micromap.specs.Extend.{put_all_items};
 ghost use Rattle.micromap.specs.Items.{put_item_if_fits, take_item};
+ghost use Rattle.micromap.specs.Pairs.{at, has, put, take_out};
+ghost use Rattle.micromap.specs.Same.{have_equal_items};
 
 use crate::folds;
 use micromap::{Map, Set};
@@ -42,6 +46,60 @@ pub fn lower<const N: usize>(pairs: &mut Map<u8, u32, N>)
 {
     pairs.update_all(|_, value| *value = value.saturating_sub(1));
     pairs.retain(|_, value| *value > 0);
+}
+
+// Returns the set with those items of another that fit.
+#[tactic(auto)]
+fn with_items(items: &Set<u16, 8>, set: Set<u16, 8>) -> Set<u16, 8>
+    ensures { result ≡ fold (put_item_if_fits nat_eq 8) set items.now }
+{
+    Set::with_fitting(items.iter().map(|x| *x), set)
+}
+
+/// Adds those items that fit to a set of a map, and returns whether it is there.
+pub fn add_items(groups: &mut Map<u8, Set<u16, 8>, 16>, group: u8, items: &Set<u16, 8>) -> bool
+    ensures answer { result ≡ has nat_eq groups.old group }
+    ensures groups { groups.new ≡ option_map_or (λ s. put nat_eq groups.old group (fold (put_item_if_fits nat_eq 8) s items.now)) (at nat_eq groups.old group) groups.old }
+{
+    match groups.get_mut(&group) {
+        Some(set) => {
+            *set = with_items(items, set.copied());
+            true
+        }
+        None => false,
+    }
+}
+
+/// Moves all items of a set of a map into another and drops the first, or changes nothing if they don't all fit.
+pub fn move_items(groups: &mut Map<u8, Set<u16, 8>, 16>, from: u8, into: u8) -> bool
+    ensures answer { result ≡ (not (nat_eq from into) && has nat_eq groups.old from && option_map_or (λ s. nat_le (length (put_all_items nat_eq s (unwrap_or (at nat_eq groups.old from) []))) 8) (at nat_eq groups.old into) false) }
+    ensures groups { groups.new ≡ (if result then take_out nat_eq (put nat_eq groups.old into (put_all_items nat_eq (unwrap_or (at nat_eq groups.old into) []) (unwrap_or (at nat_eq groups.old from) []))) from else groups.old) }
+{
+    if from == into {
+        return false;
+    }
+    let Some(moved) = groups.get(&from).map(|set| set.copied()) else {
+        return false;
+    };
+    let Some(set) = groups.get_mut(&into) else {
+        return false;
+    };
+    if set.try_extend_from(&moved).is_err() {
+        return false;
+    }
+    groups.remove(&from);
+    true
+}
+
+/// Returns `true` if two sets of a map have the same items, or neither is there.
+pub fn have_same_items<const N: usize, const M: usize>(
+    groups: &Map<u8, Set<u16, M>, N>,
+    one: u8,
+    other: u8,
+) -> bool
+    ensures { result ≡ option_eq (have_equal_items nat_eq) (at nat_eq groups.now one) (at nat_eq groups.now other) }
+{
+    groups.get(&one) == groups.get(&other)
 }
 
 /// Returns the items of several sets, as far as they fit, without those that another set has.

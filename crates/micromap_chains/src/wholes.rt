@@ -1,11 +1,15 @@
 //! Maps and sets that are made of all items of a chain, or of those that fit. A call that makes one takes every item, so
-//! that its result is a fold over the items.
+//! that its result is a fold over the items. So is that of a call that goes on with a set by value.
 #![tactic(auto)]
 
-ghost use Rattle.std.specs.Prelude.{◌≡◌, ◌/◌, List, ℕ, Some, [], filter, fold, map, nat_eq, nat_lt};
+ghost use Rattle.std.specs.Prelude.{◌≡◌, ◌/◌, List, ℕ, Some, [], filter, fold, map, nat_eq, nat_lt, not, unwrap_or};
+ghost use Rattle.std.specs.Map.{keys_of};
+ghost use Rattle.std.specs.Option.{is_some};
 ghost use Rattle.micromap.specs.Build.{build_or_refuse, counts_or_refuse, put_or_refuse, put_pair_if_fits};
+ghost use Rattle.micromap.specs.Extend.{distinct_or_refuse, put_item_or_refuse};
+ghost use Rattle.micromap.specs.Items.{put_item_if_fits};
+ghost use Rattle.micromap.specs.Pairs.{has};
 ghost use Rattle.micromap.specs.Texts.{str_eq};
-ghost use Rattle.micromap.specs.Extend.{distinct_or_refuse};
 
 use micromap::{Map, Set};
 
@@ -44,6 +48,13 @@ pub fn first_halves<const N: usize>(list: &[u8]) -> Map<u8, u8, N>
     Map::of_fitting(list.iter().map(|x| (*x, *x / 2)))
 }
 
+/// Returns the keys of a map that another lacks.
+pub fn keys_lacking(pairs: &Map<u8, u32, 16>, other: &Map<u8, u32, 8>) -> Set<u8, 16>
+    ensures { result ≡ fold (put_item_if_fits nat_eq 16) [] (filter (λ k. not (has nat_eq other.now k)) (keys_of pairs.now)) }
+{
+    Set::of_fitting(pairs.keys().filter(|k| !other.contains_key(k)).map(|k| *k))
+}
+
 /// Returns the halves of a list as a set, or `None` if they don't all fit.
 #[tactic(auto, unfolding(micromap::specs::Extend::distinct_or_refuse))]
 pub fn set_of_all_halves<const N: usize>(list: &[u8]) -> Option<Set<u8, N>>
@@ -74,4 +85,33 @@ pub fn words_of<'a, const N: usize>(list: &[&'a str]) -> Option<Map<&'a str, usi
     ensures { result ≡ counts_or_refuse str_eq N list.now }
 {
     Map::counts_of(list.iter().map(|x| *x))
+}
+
+/// Returns the set with all items of a list, or `None` if they don't all fit.
+pub fn with_list(list: &[u8], set: Set<u8, 16>) -> Option<Set<u8, 16>>
+    ensures { result ≡ fold (put_item_or_refuse nat_eq 16) (Some set) list.now }
+{
+    Set::with_all(list.iter().map(|x| *x), set)
+}
+
+/// Puts all items of a list into a set, or none if they don't all fit, and returns whether they did.
+pub fn put_list_whole(set: &mut Set<u8, 16>, list: &[u8]) -> bool
+    ensures answer { result ≡ is_some (fold (put_item_or_refuse nat_eq 16) (Some set.old) list.now) }
+    ensures set { set.new ≡ unwrap_or (fold (put_item_or_refuse nat_eq 16) (Some set.old) list.now) set.old }
+{
+    match with_list(list, set.copied()) {
+        Some(all) => {
+            *set = all;
+            true
+        }
+        None => false,
+    }
+}
+
+/// Puts those items of a list into a set that fit.
+pub fn put_fitting(set: &mut Set<u8, 16>, list: &[u8])
+    ensures { set.new ≡ fold (put_item_if_fits nat_eq 16) set.old list.now }
+{
+    let old = set.copied();
+    *set = Set::with_fitting(list.iter().map(|x| *x), old);
 }
