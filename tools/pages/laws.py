@@ -92,12 +92,14 @@ def wrong_of(section, known, title):
 
 
 def statements(page, title, wrong):
-    """The laws of a section with their modules and statements. What is amiss is added to `wrong`."""
+    """The laws of a section, but for what only the head of a table names, with their modules and statements. What is amiss is
+    added to `wrong`."""
     section, known, homes = section_of(page, title), {}, {}
     for crate in reversed(SECTIONS[title]):
         known |= laws_of(crate)
     wrong += wrong_of(section, known, title)
-    for name in dict.fromkeys(it.rpartition(".")[2] for it in re.findall(NAME, section)):
+    body = re.sub(r"^\|.*\|\n(?=\|---)", "", section, flags=re.M)
+    for name in dict.fromkeys(it.rpartition(".")[2] for it in re.findall(NAME, body)):
         if name in known:
             home, statement = known[name]
             homes.setdefault(home, []).append(shown(name, statement))

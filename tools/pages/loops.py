@@ -55,7 +55,7 @@ read the pair at an index, or the last value | reads::pair_at, reads::last_value
 read the pairs or items at both ends | uses_tests/copies::oldest_and_newest, uses_tests/copies::ends |
 know that `get` finds the pair that is found first, or that no value passes | uses_tests/reads::over, uses_tests/reads::each_below, uses_tests/reads::each_small |
 know that there is no pair where `get` finds nothing, or that equal keys find the same | uses_tests/reads::reissue, uses_tests/reads::is_open, uses_tests/reads::are_one |
-compare two maps in their order | reads::have_equal_values, uses_tests/map_loops::have_keys_in_order |
+compare the values of two maps index by index, as far as both have some; ask whether they have the same keys in one order | reads::have_equal_values, uses_tests/map_loops::have_keys_in_order |
 ask whether two maps are the same, or read the values at which they differ | uses_tests/generic::find_same, uses_tests/comparison::conflict |
 ask whether two sets have the same items, as two that are values, or one has all items of the other | uses_tests/comparison::have_same_items, nested::have_same_items, uses_tests/comparison::includes |
 list the keys in a `Vec`, all or those whose value passes, or the items of a set | reads::list_of_keys, reads::list_of_keys_above, reads::list_of_items |
@@ -137,7 +137,7 @@ clone a map or a set, in a function of its own before a loop | uses_tests/text_s
 ask whether two maps, or two sets, are the same | uses_tests/comparison::have_same_ages, texts::have_same_settings, uses_tests/comparison::have_same_words |
 ask whether a set has all words of another, or none | uses_tests/text_sets::has_words_of, uses_tests/text_sets::are_apart |
 put a map over another, whose values it replaces, as settings over defaults, up to the first pair that doesn't fit; with `String` values | | text_maps::add_all, text_maps::overlay
-put a map, or two sets, with `&str` into another, all or nothing; a map of `String` into a clone | extends::overlay, extends::add_words, uses_tests/text_maps::overlay_whole |
+put a map with `&str` into another, all or nothing; two sets, up to the first that doesn't fit as a whole; a map of `String` into a clone | extends::overlay, extends::add_words, uses_tests/text_maps::overlay_whole |
 add the amounts of a map to those there | | merging::add_text_map
 make a set of the keys of a map | | text_sets::names_of
 make a set of the items that pass, or that begin with a `&str` | | text_sets::longer, text_sets::beginning
@@ -163,7 +163,7 @@ take the first pair, or the first of all and drop the others | uses_tests/generi
 # Searching one and changing another
 put a map into another, up to the first that doesn't fit; as far as it fits | copies::put_map, folds::merged | map_loops::add_all
 put a map into a copy of another, and know exactly when it is refused | | copies::merged
-put a map, or the items of two sets, into another, all or nothing | uses_tests/copies::reprice, uses_tests/copies::add_both |
+put a map into another, all or nothing; the items of two sets, up to the first set that doesn't fit as a whole | uses_tests/copies::reprice, uses_tests/copies::add_both |
 put a map by value into another, all or nothing | uses_tests/map_loops::merge |
 move what `drain` yields into another map | extends::put_drained |
 merge a map into another, each amount added to the one there, up to the greatest number | | merging::add_map
