@@ -20,7 +20,7 @@ ask whether all values pass, or fit once each is multiplied | reads::all_below, 
 ask whether all of a list are items, or are keys | members::all_stored, members::all_stored_any, members::all_keys | reads::has_all
 ask whether all values are items of a set, or all keys are in another map | members::values_are_known, members::all_keys_of |
 ask whether two maps have a key in common, or none | members::any_key, members::have_no_common_key |
-add up what a map has for each key of a list, or for each two that follow one another, or know that one is missing | folds::price_of, folds::time_of |
+add up what a map has for each key of a list, or for each two that follow one another, or know that one is missing or the sum doesn't fit | folds::price_of, folds::time_of |
 look a key up in several maps: the value of the first that has it; by recursion, of the last | folds::first_value | uses/scopes::value_of
 go from key to value for a number of steps | folds::follow |
 ask whether any or all members of an operation on two sets pass | copies::any_common_above, copies::all_single_below |
@@ -29,81 +29,84 @@ count the pairs that pass, or whose key two other maps lack | reads::count_pairs
 count the items that pass | reads::count_items_above | reads::items_over
 count the items of a list, or of a set, that are in a set | members::count_stored, members::count_stored_any, members::count_known |
 ask whether the values are those of a list, in order | reads::has_values |
-count the values that are their own index, or the sets of a map that are empty, that have an item, or that have more than so many | reads::count_at_index, members::count_empty, members::count_groups_of, members::count_larger |
+count the values that are their own index, or the sets of a map that are empty, that have a certain item, or that have more than so many | reads::count_at_index, members::count_empty, members::count_groups_of, members::count_larger |
 count the members of an operation on two sets | reads::count_union, reads::count_common, set_tests/operations::missing |
-add up the values, if the sum fits; with texts as keys, see the texts below | reads::total | map_tests/walks::total
-add up the values of a map by value | reads::total_of |
+add up the values, whose sum must fit; with texts as keys, see the texts below | reads::total | map_tests/walks::total
+add up the values of a map by value, whose sum must fit | reads::total_of |
 count the pairs of a map by value that pass | reads::count_of |
 add up the values, the pairs or the items in a wider type, by a bound on the number of values, of pairs or of items | sums::total_wide, sums::total_of_pairs, sums::total_of_items |
-add up the members of an operation on two sets, if the sum fits | | set_tests/operations::total
+add up the members of an operation on two sets, whose sum must fit | | set_tests/operations::total
 find the greatest value | reads::greatest |
-find the key with the greatest value, or with the least, and that value, or with the greatest set | uses/votes::winner, reads::cheapest, members::largest_group |
+find a key with the greatest value, or with the least, and that value, or a key whose set has the most items, and that set | uses/votes::winner, reads::cheapest, members::largest_group |
 find the least key | reads::least_key |
 find the greatest key of the pairs that pass | reads::greatest_key_above |
-find the greatest member of an operation on two sets | folds::greatest_alone |
+find the greatest member of an operation on two sets, or 0 | folds::greatest_alone |
 find the first key that passes | reads::first_key_above | map_loops::first_over
 find the first key, or the first pair, whose value passes | folds::first_above, folds::first_pair_above, answered::pair_above | values::first_with
-find the first key whose value is one of an enum with a derived `==` | | values::first_with, values::user_with
-ask whether a value is one of an enum, or keep the pairs whose value is in a set of them | uses_tests/values::is_held, uses_tests/values::keep_listed |
-find the first key whose value, a set, has a member | | map_loops::group_of
+find the first key whose value equals one of an enum with a derived `==`, or a key at which `get` finds that value | | values::first_with, values::user_with
+ask whether a value equals one of an enum with a derived `==` | uses_tests/values::is_held |
+find the first key whose value, a set, has a certain member | | map_loops::group_of
 find a pair that passes, which is what its key finds | | map_loops::pair_over
 find such a pair with keys of any type, or of a struct with a derived `==` | | map_loops::any_over, map_loops::square_of
-find a key that passes, which is stored | | map_loops::key_other
+find a key that passes, and know that it is stored | | map_loops::key_other
 find an item that passes, which is a member, of numbers or of any type | | map_loops::item_over, map_loops::other_than
 find the index of a value, or of the first pair that passes | reads::position_of, reads::position_above |
 read the pair at an index, or the last value | reads::pair_at, reads::last_value |
-read the pairs or items at both ends | uses_tests/copies::oldest_and_newest, uses_tests/copies::ends |
-know that `get` finds the pair that is found first, or that no value passes | uses_tests/reads::over, uses_tests/reads::each_below, uses_tests/reads::each_small |
-know that there is no pair where `get` finds nothing, or that equal keys find the same | uses_tests/reads::reissue, uses_tests/reads::is_open, uses_tests/reads::are_one |
+read the first key and the last value, or the items at both ends | uses_tests/copies::oldest_and_newest, uses_tests/copies::ends |
+know that `get` finds the pair that a search found, or that no pair that a key finds passes; that each value that `get` finds passes, or each member of a set, where all do | uses_tests/reads::over, uses_tests/reads::each_below, uses_tests/reads::each_small |
+know that there is no pair where `get` finds nothing, that a key is stored exactly if `get_key_value` finds a pair, or that of two equal keys both are stored or neither | uses_tests/reads::reissue, uses_tests/reads::is_open, uses_tests/reads::are_one |
 compare the values of two maps index by index, as far as both have some; ask whether they have the same keys in one order | reads::have_equal_values, uses_tests/map_loops::have_keys_in_order |
-ask whether two maps are the same, or read the values at which they differ | uses_tests/generic::find_same, uses_tests/comparison::conflict |
-ask whether two sets have the same items, as two that are values, or one has all items of the other | uses_tests/comparison::have_same_items, nested::have_same_items, uses_tests/comparison::includes |
+know that each key finds the same in two maps where a comparison says that they are the same; read the values at which two maps differ, or know exactly that they are the same | uses_tests/generic::find_same, uses_tests/comparison::conflict |
+know that two sets have the same items, or that one has all items of the other, where a test says so; ask whether two sets that are values have the same items, or neither is there | uses_tests/comparison::have_same_items, nested::have_same_items, uses_tests/comparison::includes |
+ask whether one of two sets that are values of a map has all items of the other, or none of them, where both are there | uses_tests/values::covers, uses_tests/values::are_apart |
+ask whether all items of the sets of a map are its keys | uses_tests/values::are_closed |
+know what is true of each set that is a value of a map | | values::know_sets
 list the keys in a `Vec`, all or those whose value passes, or the items of a set | reads::list_of_keys, reads::list_of_keys_above, reads::list_of_items |
 list the pairs of a map by value, into a `Vec` | reads::list_of_pairs |
 list the members of an operation in a `Vec`, all or those that pass | reads::list_of_union, set_tests/operations::evens |
 # Building from a list
 make a map of pairs, of two lists, of a `Vec` | builds::map_of_list, builds::map_of_lists, builds::map_of_vec |
-make a map of pairs, all or none, and know exactly that they are too many | wholes::whole, builds::whole_or_none |
+make a map of pairs, all or none, and know exactly that they have too many different keys | wholes::whole, builds::whole_or_none |
 make a set of items | builds::set_of_list |
 make a set of a list, or refuse exactly if it has too many different items | | lists::distinct_items
-make a map, or a set, of any iterator | uses_tests/lists::collected_pairs, uses_tests/lists::collected_items |
+know that there are too many different keys, or items, where a map, or a set, of a `Vec` by value is refused | uses_tests/lists::collected_pairs, uses_tests/lists::collected_items |
 know exactly when a map, or a set, of a list is refused | answered::map_of_list, answered::set_of_list |
-know that there are too many items where a map, or a set, of a list is refused | uses_tests/lists::pairs_of, uses_tests/lists::items_of |
+know that there are too many different keys, or items, where a map, or a set, of a list is refused | uses_tests/lists::pairs_of, uses_tests/lists::items_of |
 make a map, or a set, of what a function makes of each, all or none | wholes::halves, wholes::set_of_all_halves |
-make a map of what a function makes of each, as far as they fit, or with each one's index | wholes::first_halves, folds::numbered |
-make a map, or a set, of what a function makes of each, or know that there are too many | builds::halves_or_none, builds::distinct_halves |
+make a map of what a function makes of each, or of each with the index at which it came last, as far as they fit | wholes::first_halves, folds::halves_of_list, folds::numbered |
+make a map of a list of keys and one of values, as far as both have some and they fit | folds::zipped |
+make a map, or a set, of what a function makes of each, or know exactly that there are too many different ones | builds::halves_or_none, builds::distinct_halves |
 know exactly when a map of what a function makes of each is refused | answered::map_of_mapped |
 make a set of what a function makes of each | builds::set_of_halves |
-count how often each item comes, or know exactly that there are too many different ones | wholes::votes_of, builds::counts_or_none, wholes::votes_of_halves | uses/votes::tally
-count how often each item comes, as far as they fit | folds::counted |
-count in numbers that may overflow | | merging::count_numbers
-add each amount to its key's total, in a map that is there, or in a new one by entry, and know exactly that there are too many keys | | merging::add_amounts, merging::totals_of
-add the amounts of a `Vec` by value, or of any iterator | | merging::add_vector, merging::add_all
+count how often each item comes, or what a function makes of those that pass, or know exactly that there are too many different ones | wholes::votes_of, builds::counts_or_none, wholes::votes_of_halves | uses/votes::tally
+count how often each item comes, up to the greatest number, as far as the items fit | folds::counted |
+count how often each key comes, in a type that may be too small for a count, all or none | | merging::count_numbers
+add each amount to its key's total, up to the greatest number: in a map that is there, and know that there would be too many keys where one is refused; in a new one by entry, and know exactly that there are too many keys | | merging::add_amounts, merging::totals_of
+add the amounts of a `Vec` by value, or of any iterator up to the first without room, each total up to the greatest number | | merging::add_vector, merging::add_all
 add amounts up to the first that doesn't fit or overflows | | merging::add_before
 keep the greatest amount of each key | | merging::keep_greatest
-make a map of sets, as the members of each group, and know exactly that there are too many keys | | merging::groups_of
+make a map of sets, as the members of each group as far as its set has room, and know exactly that there are too many keys | | merging::groups_of
 merge by a step of one's own that may fail | | uses/headers::collect
 put pairs into a map | extends::put_list |
-put pairs into a map, and know when they are refused | uses_tests/lists::put_pairs, uses_tests/generic::put_items | generic::put_each
-put items into a set, and know when they are refused | uses_tests/generic::put_set_items | generic::add_each
+put pairs into a map, and know that there would be too many where one is refused | uses_tests/lists::put_pairs, uses_tests/generic::put_items | generic::put_each
+put items into a set, and know that there would be too many where one is refused | uses_tests/generic::put_set_items | generic::add_each
 put the items that pass into a set | extends::put_above |
-put a list into a set, all or nothing, or as far as it fits | wholes::with_list, wholes::put_list_whole, wholes::put_fitting |
-count how many different keys or items there are, in a local of any capacity | | generic::count_keys, generic::count_items, map_loops::count_different
+put a list into a set by value, or drop both if not all fit; into a set in its place, all or nothing, or as far as it fits | wholes::with_list, wholes::put_list_whole, wholes::put_fitting |
+put the keys, or the items, of a list into a local of a capacity that fits in memory, and know that there are at most so many | | generic::count_keys, generic::count_items, map_loops::count_different
 # Building from another map or set
 make a map of the pairs that pass | copies::above, builds::built_above | map_loops::pairs_over
 make a map of the pairs that pass, in another capacity, and know exactly when it is refused | copies::above_in |
 make a map of the pairs of a map by value that pass | builds::map_above |
 make a map with other values | copies::halved | map_loops::doubled
-make a map of a list, or of two lists of keys and values, as far as they fit | folds::halves_of_list, folds::zipped |
 make a map with key and value exchanged, as far as they fit; of equal values the last one's key stands | folds::turned |
 make a map with other values of the pairs that pass, all or none; as far as they fit | wholes::low_halves, folds::halves |
 copy into a new map the pairs whose keys another map lacks, or has (`lacking_any` and `shared_any` at any capacity) | copies::lacking, copies::lacking_any, copies::shared, copies::shared_any |
-make a map of the pairs of two maps | builds::map_of_maps |
+make a map of the pairs of two maps; of a key in both the second one's value stands | builds::map_of_maps |
 make a map of the pairs that another map lacks, or has with another value | uses_tests/copies::changed |
 copy a map whose values are cloned | | map_loops::copied
 make a set of the items that pass, or that another set lacks (`items_lacking_any` at any capacity) | copies::items_above, copies::items_lacking, copies::items_lacking_any | set_loops::items_over
 make a set of the keys, or of the values | builds::set_of_keys, builds::set_of_values |
-make a set of the keys that pass, or that another map lacks | builds::set_of_keys_above, wholes::keys_lacking |
+make a set of the keys that pass, or, as far as they fit, of those that another map lacks | builds::set_of_keys_above, wholes::keys_lacking |
 make a set of the keys whose value passes | | map_loops::keys_over
 make a set of a union | builds::set_of_union | set_loops::all_items
 make a set of a difference | builds::set_of_difference |
@@ -111,73 +114,71 @@ make a set of an intersection | set_tests/operations::common_neighbours |
 know exactly when the set of an operation is refused | set_tests/operations::joined, uses_tests/lists::first_items, uses_tests/lists::common_items, uses_tests/lists::single_items |
 make a set of the items of several sets, as far as they fit; without those of another set | folds::gathered, nested::effective |
 # Texts as keys or items
-make a map with `&str` keys of a list, as far as they fit | folds::named |
-make a map with `String` keys of a list, as far as they fit | results::spelled |
-count how often each word comes: a `&str`; in a loop, a `String` by `counted`, a `&str` by `counted_strs` | wholes::words_of | text_maps::counted, text_maps::counted_strs
-make a map of names and amounts, or of names and texts, or know exactly that there are too many names | | text_maps::amounts_of, text_maps::numbers_of, text_maps::texts_of
-make a set of names | | text_sets::set_of
+make a map with the `&str` of a list as keys, each with one value, as far as they fit | folds::named |
+make a map with the words of a list as `String` keys, each with one value, as far as they fit | results::spelled |
+count how often each word comes, in a map of `&str`, or know exactly that there are too many different ones; in a loop, in a map of `String` by `counted`, and of `&str` by `counted_strs`, which doesn't say when it is refused | wholes::words_of | text_maps::counted, text_maps::counted_strs
+make a map of names and amounts, with `String` keys, or with `&str` by `numbers_of`, or of names and texts, or know exactly that there are too many different names | | text_maps::amounts_of, text_maps::numbers_of, text_maps::texts_of
+make a set of names, or know exactly that there are too many different ones | | text_sets::set_of
 keep the pairs whose name another map lacks | uses_tests/copies::keep_missing |
 find the first name at which two maps differ | uses_tests/text_maps::first_changed |
-add up the values, if the sum fits: of `&str` keys; in a loop, of `String` keys | texts::total | probes::total
+add up the values, whose sum must fit: of `&str` keys; in a loop, of `String` keys | texts::total | probes::total
 ask whether a key passes, or count the values that pass | texts::any_long, texts::count_large |
-find how long the longest key is, or 0; in a loop the longest `&str` among the keys | texts::longest, texts::longest_of_strings, texts::longest_or_zero | text_maps::longest
+find how many bytes the longest key has, if any, or else 0 (`longest_or_zero`); in a loop the first of the longest `&str` keys, or the empty text | texts::longest, texts::longest_of_strings, texts::longest_or_zero | text_maps::longest
 list the words of a list that a set lacks, or that are no value of a map | texts::unknown_words, texts::unused_words |
 count the words of a list that are keys | texts::count_named |
 add up the values of a list of words, or know that one is missing or the sum doesn't fit | texts::sum_named |
 ask whether another map has each pair, or count those that it has with another value | texts::changes_nothing, texts::count_changed |
 change each value by what another map has at its key | texts::limit_each |
-read the value at a `&str`, put there if it is missing, or count the `&str`, without `entry` | texts::amount_or_put, texts::count_word |
+read the value at a `&str`, put there if it is missing and there is room, or count the `&str`, up to the greatest number, if it fits, without `entry` | texts::amount_or_put, texts::count_word |
 drop the pairs whose key is in a set, or in a list | texts::drop_listed, texts::drop_named |
 count the items that pass | | reads::longer
 ask whether all texts of a list are items; in a loop, whether all are keys, or any is an item | texts::all_enabled, texts::knows_all | reads::has_names, reads::has_any
 change all values, or keep the pairs that pass, in place | uses_tests/text_maps::double_all, uses_tests/text_maps::keep_over, uses_tests/text_maps::keep_longer, texts::keep_long |
 make a map with other values | | text_maps::doubled
-make a map of the pairs that pass | | text_maps::names_over
+make a map of the pairs that pass: with `&str` keys; in a loop, with `String` keys | texts::large | text_maps::names_over
 clone a map or a set, in a function of its own before a loop | uses_tests/text_sets::copied, uses_tests/text_sets::copied_texts, uses_tests/text_sets::copied_words |
 ask whether two maps, or two sets, are the same | uses_tests/comparison::have_same_ages, texts::have_same_settings, uses_tests/comparison::have_same_words |
 ask whether a set has all words of another, or none | uses_tests/text_sets::has_words_of, uses_tests/text_sets::are_apart |
-put a map over another, whose values it replaces, as settings over defaults, up to the first pair that doesn't fit; with `String` values | | text_maps::add_all, text_maps::overlay
-put a map with `&str` into another, all or nothing; two sets, up to the first that doesn't fit as a whole; a map of `String` into a clone | extends::overlay, extends::add_words, uses_tests/text_maps::overlay_whole |
-add the amounts of a map to those there | | merging::add_text_map
+put a map over another, whose values it replaces, as settings over defaults, up to the first pair that doesn't fit or gets no memory, and know that they are too many where one doesn't fit; with `String` values | | text_maps::add_all, text_maps::overlay
+put a map with `&str` into another, all or nothing; two sets, up to the first that doesn't fit as a whole; a map of `String`, all or nothing, by way of a clone | extends::overlay, extends::add_words, uses_tests/text_maps::overlay_whole |
+add the amounts of a map to those there, each sum up to the greatest number, and know exactly whether all have room | | merging::add_text_map
 make a set of the keys of a map | | text_sets::names_of
 make a set of the items that pass, or that begin with a `&str` | | text_sets::longer, text_sets::beginning
-make a set of what a text is made into | | text_sets::prefixed
+make a set of what each text of a set is made into | | text_sets::prefixed
 make a set of an intersection | uses_tests/text_sets::common_words | text_sets::common_names
 make a set of a difference | uses_tests/text_sets::words_beyond | text_sets::names_beyond
-make a set of a union, or of a symmetric difference | | text_sets::all_names, text_sets::single_names
+make a set of a union, or of a symmetric difference, or know exactly that the names are too many | | text_sets::all_names, text_sets::single_names
 take the names of a set, or of a list, out of a set | | text_sets::remove_names, text_sets::remove_listed
 drop the words that begin with a text | uses_tests/probes::drop_beginning |
 # Changing one in place
 change all values | map_tests/closures::keys_as_values |
-multiply all values, or change nothing if one doesn't fit then | uses_tests/copies::can_scale, uses_tests/copies::scale |
-change the values of some keys at once | map_tests/closures::positions |
+ask whether all values fit once each is multiplied, and multiply them, or change nothing if one doesn't | uses_tests/copies::can_scale, uses_tests/copies::scale |
+change the values of some keys, no two equal, at once, where they are stored | map_tests/closures::positions |
 keep the pairs that pass | map_tests/closures::keep_even |
 change all values, and drop the pairs that fail then, as those that reach zero | nested::lower |
 keep some pairs, and know how many were dropped | nested::expire |
-take an item out of each set of a map | nested::drop_everywhere, uses_tests/values::take_built |
-add items to a set of a map, as far as they fit; move all items of one into another, all or nothing | nested::add_items, nested::move_items |
-add an item to the set that is a key's value, or keep the items of each such set that pass | uses_tests/values::grant, uses_tests/values::limit_all |
-keep some pairs, and insert one | uses_tests/copies::keep_and_insert |
-insert a pair unless its key is stored, and know whether there was room | uses_tests/copies::reserve |
-take the first pair, or the first of all and drop the others | uses_tests/generic::take_first, uses_tests/generic::first_drained, uses_tests/generic::first_key, uses_tests/generic::first_item |
+take an item out of each set of a map; take a pair out, and its key out of each other set | nested::drop_everywhere, uses_tests/values::take_built |
+add items to a set of a map, as far as they fit; move all items of one into another and take the first one's pair out, all or nothing | nested::add_items, nested::move_items |
+add an item, if it fits, to the set that is a key's value, and know whether it did, or keep the items of each such set that pass | uses_tests/values::grant, uses_tests/values::limit_all |
+keep some pairs, insert one for which there was room before, and know that its key is stored | uses_tests/copies::keep_and_insert |
+insert a pair unless its key is stored, and know which: the key was new and had room, it was stored and nothing changed, or there was no room | uses_tests/copies::reserve |
+take the first pair, and know that its key found its value and finds none now; take the first of all, of a map in place or of a map or set by value, and drop the others, where the iterator fits in memory | uses_tests/generic::take_first, uses_tests/generic::first_drained, uses_tests/generic::first_key, uses_tests/generic::first_item |
 # Searching one and changing another
-put a map into another, up to the first that doesn't fit; as far as it fits | copies::put_map, folds::merged | map_loops::add_all
-put a map into a copy of another, and know exactly when it is refused | | copies::merged
+put a map of a known capacity into another, up to the first that doesn't fit (`put_copies` at any capacity); as far as it fits | copies::put_map, answered::put_copies, folds::merged | map_loops::add_all
+put a map into a copy of another, and know exactly when it is refused | uses_tests/copies::merged |
 put a map into another, all or nothing; the items of two sets, up to the first set that doesn't fit as a whole | uses_tests/copies::reprice, uses_tests/copies::add_both |
 put a map by value into another, all or nothing | uses_tests/map_loops::merge |
-move what `drain` yields into another map | extends::put_drained |
-merge a map into another, each amount added to the one there, up to the greatest number | | merging::add_map
-put the items of a set, or the keys of a map, into a set | extends::put_items, extends::put_keys | set_loops::add_all_items
+move what `drain` yields into another map, up to the first pair that doesn't fit: that one and those after it are dropped | extends::put_drained |
+merge a map into another, each amount added to the one there, up to the greatest number, until a key has no room | | merging::add_map
+put the items of a set, or the keys of a map, into a set, up to the first that doesn't fit | extends::put_items, extends::put_keys | set_loops::add_all_items
 take the items of a set out of another, or out of its copy | copies::items_lacking | set_loops::remove_all_items
 take the items of a list out of a set | folds::left_over | set_loops::remove_listed
 keep or drop the pairs whose key is in a set of a known capacity | uses_tests/map_loops::restrict, copies::exclude |
-compare two sets that are values of a map | uses_tests/values::covers, uses_tests/values::are_apart |
-add the items of one set to another, and know exactly when it is refused | | values::include
-ask whether all items of the sets of a map are its keys | uses_tests/values::are_closed |
-know what is true of each set that is a value of a map | | values::know_sets
-move one name's amount from a map to another | uses_tests/text_sets::transfer |
-visit all that is reached from one, by a recursive call in the place of a list of work | | uses/graph::search
-work list: take the items out of a set, one after the other, until it is empty | | set_loops::pour
+keep the pairs whose value, one of an enum, is in a set | uses_tests/values::keep_listed |
+add the items of one set to another, and know exactly when it is refused | uses_tests/values::include |
+move one name's amount from a map to another, where it is added, up to the greatest number, or change nothing if the name is missing or has no room there | uses_tests/text_sets::transfer |
+visit all that is reached from one, but for what was visited before, by a recursive call in the place of a list of work | | uses/graph::search
+work list: take the items out of a set, one after the other, until it is empty, and put those that fit into another | | set_loops::pour
 go on until a search finds nothing new: an order in which targets can be built, or all that depend on one | | uses/order::order_of, uses/order::affected
 """
 MOST = 150  # of letters of a chain that is shown
