@@ -39,7 +39,7 @@ pub fn above_in<const N: usize, const M: usize>(
     some.into_capacity()
 }
 
-/// Puts the pairs of a map into another. The first stays as it is.
+/// Puts the pairs of a map into another, up to the first that doesn't fit. The map that they come from stays as it is.
 pub fn put_map<const N: usize>(
     pairs: &mut Map<u8, u32, N>,
     other: &Map<u8, u32, 8>,

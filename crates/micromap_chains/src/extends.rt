@@ -33,7 +33,7 @@ pub fn put_pairs_above<const N: usize>(
     pairs.try_extend(some.into_iter())
 }
 
-/// Moves the pairs of a map into another.
+/// Moves the pairs of a map into another, up to the first that doesn't fit. That one and those after it are dropped.
 pub fn put_drained<const N: usize, const M: usize>(
     pairs: &mut Map<u8, u8, N>,
     other: &mut Map<u8, u8, M>,

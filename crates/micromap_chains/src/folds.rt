@@ -25,7 +25,7 @@ pub fn tally(votes: &[u8]) -> Map<u8, u32, 16>
     })
 }
 
-/// Returns the halves of the values below 100, as far as they fit.
+/// Returns the pairs whose values are below 100, with half the value, as far as they fit.
 pub fn halves(pairs: &Map<u8, u8, 8>) -> Map<u8, u8, 16>
     ensures { result ≡ fold (λ (m : List (ℕ × ℕ)) (p : ℕ × ℕ). put_if_fits nat_eq 16 m p.0 (p.1 / 2)) []
         (filter (λ p. nat_lt p.1 100) pairs.now) }
@@ -72,7 +72,7 @@ pub fn gathered(groups: &[Set<u8, 8>]) -> Set<u8, 16>
     })
 }
 
-/// Returns a map with each of the words, as far as they fit.
+/// Returns a map with each of the words and 1, as far as they fit.
 pub fn named<'a>(words: &[&'a str]) -> Map<&'a str, u32, 16>
     ensures { result ≡ fold (λ m v. put_if_fits (on (λ x. x.now) bytes_eq) 16 m v 1) [] words.now }
 {
@@ -130,7 +130,7 @@ pub fn zipped(keys: &[u8], values: &[u8]) -> Map<u8, u8, 16>
         })
 }
 
-/// Returns the halves of the items of a list, as far as they fit.
+/// Returns the items of a list with their halves, as far as they fit.
 pub fn halves_of_list(list: &[u8]) -> Map<u8, u8, 16>
     ensures { result ≡ fold (λ (m : List (ℕ × ℕ)) (x : ℕ). put_if_fits nat_eq 16 m x (x / 2)) [] list.now }
 {
@@ -294,7 +294,7 @@ pub fn seen_any<const N: usize>(votes: &[u8]) -> Map<u8, u8, N>
     )
 }
 
-/// Returns each item of a list with its index.
+/// Returns each item of a list with the index at which it came last, as far as they fit.
 pub fn numbered(list: &[u8]) -> Map<u8, usize, 16>
     ensures { result ≡ fold (λ (m : List (ℕ × ℕ)) (p : ℕ × ℕ). put_if_fits nat_eq 16 m p.1 p.0) [] (enumerate_from 0 list.now) }
 {

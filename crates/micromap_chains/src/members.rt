@@ -116,7 +116,7 @@ pub fn count_empty<const N: usize>(groups: &Map<u8, Set<u8, 8>, N>) -> usize
     groups.iter().filter(|p| p.1.len() == 0).count()
 }
 
-/// Returns how many sets of a map, of any capacity, have an item.
+/// Returns how many sets of a map, of any capacity, have a certain item.
 pub fn count_groups_of<const N: usize, const M: usize>(
     groups: &Map<u8, Set<u16, M>, N>,
     member: u16,
@@ -150,7 +150,7 @@ pub fn count_larger<const N: usize, const M: usize>(
         .count()
 }
 
-/// Returns a key with the greatest set, and that set, or `None` if there is no key.
+/// Returns a key whose set has the most items, and that set, or `None` if there is no key.
 pub fn largest_group(groups: &Map<u8, Set<u16, 8>, 16>) -> Option<(&u8, &Set<u16, 8>)>
     ensures none { IsNone result ↔ (groups.now ≡ []) }
     ensures found { IfSome result (λ most. Contains groups.now (deref_pair most)) }

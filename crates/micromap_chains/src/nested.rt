@@ -70,7 +70,8 @@ pub fn add_items(groups: &mut Map<u8, Set<u16, 8>, 16>, group: u8, items: &Set<u
     }
 }
 
-/// Moves all items of a set of a map into another and drops the first, or changes nothing if they don't all fit.
+/// Moves all items of a set of a map into another and drops the first. Changes nothing, and returns `false`, if the two keys
+/// are equal, one is missing, or the items don't all fit.
 pub fn move_items(groups: &mut Map<u8, Set<u16, 8>, 16>, from: u8, into: u8) -> bool
     ensures answer { result ≡ (not (nat_eq from into) && has nat_eq groups.old from && option_map_or (λ s. nat_le (length (put_all_items nat_eq s (unwrap_or (at nat_eq groups.old from) []))) 8) (at nat_eq groups.old into) false) }
     ensures groups { groups.new ≡ (if result then take_out nat_eq (put nat_eq groups.old into (put_all_items nat_eq (unwrap_or (at nat_eq groups.old into) []) (unwrap_or (at nat_eq groups.old from) []))) from else groups.old) }

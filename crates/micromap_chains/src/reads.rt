@@ -72,7 +72,7 @@ pub fn count_above<const N: usize>(pairs: &Map<u8, u32, N>, limit: u32) -> usize
     pairs.values().filter(|v| **v > limit).count()
 }
 
-/// Returns how many pairs have a small key and a value above a limit.
+/// Returns how many pairs have a key below 9 and a value above a limit.
 pub fn count_pairs<const N: usize>(pairs: &Map<u8, u32, N>, limit: u32) -> usize
     ensures { result ≡ count_by (λ p. nat_lt limit p.1 && nat_lt p.0 9) pairs.now }
 {
@@ -128,7 +128,7 @@ pub fn has_values<const N: usize>(pairs: &Map<u8, u32, N>, list: &[u32]) -> bool
     pairs.values().eq(list.iter())
 }
 
-/// Returns `true` if the values of two maps are the same, as far as both have some.
+/// Returns `true` if the values of two maps are the same, index by index, as far as both have some.
 pub fn have_equal_values<const N: usize, const M: usize>(
     a: &Map<u8, u32, N>,
     b: &Map<u8, u32, M>,

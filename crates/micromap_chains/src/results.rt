@@ -10,7 +10,7 @@ ghost use Rattle.micromap.specs.Texts.{key_texts};
 use micromap::Map;
 use std::alloc::{AllocError, Global};
 
-/// Returns a map with each of the words as a `String`, as far as they fit.
+/// Returns a map with each of the words as a `String` and 1, as far as they fit.
 pub fn spelled(alloc: Global, words: &[&str]) -> Result<Map<String, u32, 16>, AllocError>
     ensures { IfOk result (λ m. key_texts m ≡ fold (λ (m : List (List ℕ × ℕ)) w. put_if_fits bytes_eq 16 m w.now 1) [] words.now) }
 {

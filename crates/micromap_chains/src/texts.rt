@@ -139,7 +139,7 @@ pub fn amount_or_put<'a, const N: usize>(
     Some(amount)
 }
 
-/// Counts a word, if it fits, and returns whether it did.
+/// Counts a word, up to the greatest number, if it fits, and returns whether it did.
 pub fn count_word<'a, const N: usize>(counts: &mut Map<&'a str, u32, N>, word: &'a str) -> bool
     ensures answer { result ≡ fits str_eq N counts.old word.entry }
     ensures counts { counts.new ≡ put_if_fits str_eq N counts.old word.entry (min (unwrap_or (at str_eq counts.old word.entry) 0 + 1) (2 ^ 32 - 1)) }
