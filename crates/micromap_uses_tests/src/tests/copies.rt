@@ -44,7 +44,7 @@ fn evens<const N: usize>(items: &Set<u8, N>) -> Set<u8, N>
     evens
 }
 
-// The first pair's key, and the last pair's value.
+// The key that was inserted first, and the value of the one that was inserted last.
 fn oldest_and_newest<const N: usize>(readings: &Map<u8, u16, N>) -> (Option<u8>, Option<u16>)
     ensures oldest { result.0 ≡ option_map (λ p. p.0) (slice_get readings.now 0) }
     ensures newest { result.1 ≡ option_map (λ p. p.1) (slice_get readings.now (length readings.now - 1)) }
@@ -69,8 +69,7 @@ fn pieces<const N: usize>(stock: &Map<u8, u16, N>, one: u8, other: u8) -> u32
     u32::from(stock.get_or(&one, 0)) + u32::from(stock.get_or(&other, 0))
 }
 
-// Keeps as many pairs as `limit` says, and inserts one, for which there was room before. The contract says only that its
-// key is stored then.
+// Keeps as many pairs as `limit` says, and inserts one. There is room for it, since no pair is added before.
 fn keep_and_insert<const N: usize>(pairs: &mut Map<u8, u8, N>, limit: u8, key: u8)
     requires { length pairs.old < N }
     ensures { IsTrue (has nat_eq pairs.new key) }
@@ -84,8 +83,7 @@ fn keep_and_insert<const N: usize>(pairs: &mut Map<u8, u8, N>, limit: u8, key: u
     pairs.insert(key, 0);
 }
 
-// Reserves a seat for a guest, and returns whether it was free, or `None` if no more seats can be reserved. If it was
-// taken, nothing changes.
+// Reserves a seat for a guest, and returns whether it was free, or `None` if no more seats can be reserved.
 fn reserve<const N: usize>(seats: &mut Map<u8, u16, N>, seat: u8, guest: u16) -> Option<bool>
     ensures answer { result ≡ (if has nat_eq seats.old seat then Some false
         else if has_room N seats.old then Some true else None) }

@@ -41,7 +41,7 @@ fn take_first<K: Eq + Drop, V: Drop, const N: usize>(map: &mut Map<K, V, N>) -> 
     map.pop_first()
 }
 
-// How many pairs a local map of any type has once these are inserted, which is at most `N`, or `None` if one has no room.
+// How many different keys the pairs have, or `None` if they are more than `N`. The map is a local of any type.
 fn count_keys<K: Eq + Copy, V: Copy, const N: usize>(pairs: &[(K, V)]) -> Option<usize>
     requires { MapFits K.row V.row N.row K.eq }
     ensures { IfSome result (λ count. count ≤ N) }
@@ -229,7 +229,7 @@ fn clear_out<K: Eq + Drop, const N: usize>(map: &mut Map<K, Stock, N>, key: &K) 
     }
 }
 
-// Compares two maps. If they are the same, each key finds the same in both.
+// Whether each key finds the same in both.
 fn find_same<const N: usize, const M: usize>(one: &Map<u8, u8, N>, other: &Map<u8, u8, M>) -> bool
     ensures { OnTrue result ((k : _) → at nat_eq one.now k ≡ at nat_eq other.now k) }
 {

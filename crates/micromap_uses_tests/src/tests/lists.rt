@@ -32,7 +32,7 @@ fn first_items<const N: usize, const M: usize, const L: usize>(
     Set::try_from_iter(first.difference(second).copied())
 }
 
-// The same of the numbers that are in just one of the two sets.
+// The same of the numbers that are in one of the two sets.
 fn single_items<const N: usize, const M: usize, const L: usize>(
     first: &Set<u8, N>,
     second: &Set<u8, M>,
@@ -58,14 +58,14 @@ fn distinct_items<const N: usize>(items: &[u8]) -> Option<Set<u8, N>>
     Some(set)
 }
 
-// Makes a set of a vector's items. If it is refused, more than `N` of them are distinct.
+// The distinct numbers of a list that is taken by value, by one call.
 fn collected_items<const N: usize>(items: Vec<u8>) -> Result<Set<u8, N>, Overfull>
     ensures { IfErr result (λ _. N < distinct_count nat_eq (vec_items items)) }
 {
     Set::try_from_iter(items.into_iter())
 }
 
-// Makes a map of a vector's pairs. If it is refused, they have more than `N` distinct keys.
+// The pairs of a list that is taken by value, by one call.
 fn collected_pairs<const N: usize>(pairs: Vec<(u8, u8)>) -> Result<Map<u8, u8, N>, Overfull>
     ensures { IfErr result (λ _. N < distinct_count nat_eq (keys_of (vec_items pairs))) }
 {
@@ -89,7 +89,7 @@ fn put_pairs<const N: usize>(map: &mut Map<u8, u8, N>, pairs: &[(u8, u8)]) -> Re
     map.try_extend(pairs.iter().copied())
 }
 
-// The set of these items, which is refused only if more than `N` of them are distinct.
+// The set of these items, which is refused if more than `N` of them are distinct.
 fn items_of<const N: usize>(items: &[u8]) -> Result<Set<u8, N>, Overfull>
     ensures built { IfOk result (λ set. set ≡ distinct nat_eq items.now) }
     ensures many { IfErr result (λ _. N < distinct_count nat_eq items.now) }

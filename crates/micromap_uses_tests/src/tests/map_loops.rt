@@ -14,7 +14,7 @@ use micromap::{Map, Overfull, Set};
 use micromap_uses::board::{Board, Square};
 use std::alloc::AllocError;
 
-// A pair whose value is over the limit, if one is found. `get` finds that value at its key.
+// A pair whose value is over the limit, if there is one. `get` finds that value at its key.
 fn pair_over<const N: usize>(map: &Map<u8, u8, N>, limit: u8) -> Option<(u8, u8)>
     ensures found { IfSome result (λ p. at nat_eq map.now p.0 ≡ Some p.1) }
     ensures over { IfSome result (λ p. limit < p.1) }
@@ -27,7 +27,7 @@ fn pair_over<const N: usize>(map: &Map<u8, u8, N>, limit: u8) -> Option<(u8, u8)
     None
 }
 
-// A square with this piece, if one is found.
+// A square with this piece, if there is one.
 fn square_of<const N: usize>(board: &Board<N>, piece: char) -> Option<Square>
     ensures { IfSome result (λ square. at ⟦<Square as PartialEq>⟧.eq board.now square ≡ Some piece) }
 {
@@ -39,7 +39,7 @@ fn square_of<const N: usize>(board: &Board<N>, piece: char) -> Option<Square>
     None
 }
 
-// A key that is there, if one other than this one is found.
+// A key other than this one, if there is one.
 fn key_other<const N: usize>(map: &Map<u8, u8, N>, other: u8) -> Option<u8>
     ensures { IfSome result (λ k. IsTrue (has nat_eq map.now k)) }
 {
@@ -51,7 +51,7 @@ fn key_other<const N: usize>(map: &Map<u8, u8, N>, other: u8) -> Option<u8>
     None
 }
 
-// An item over the limit, if one is found.
+// An item over the limit, if there is one.
 fn item_over<const N: usize>(set: &Set<u8, N>, limit: u8) -> Option<u8>
     ensures stored { IfSome result (λ x. IsTrue (is_member nat_eq set.now x)) }
     ensures over { IfSome result (λ x. limit < x) }
@@ -64,7 +64,7 @@ fn item_over<const N: usize>(set: &Set<u8, N>, limit: u8) -> Option<u8>
     None
 }
 
-// A pair whose value is over the limit, if one is found, for keys of any type.
+// A pair whose value is over the limit, if there is one, for keys of any type.
 fn any_over<K: Eq, const N: usize>(map: &Map<K, u8, N>, limit: u8) -> Option<(&K, u8)>
     ensures found { IfSome result (λ p. at K.eq map.now p.0.now ≡ Some p.1) }
     ensures over { IfSome result (λ p. limit < p.1) }
@@ -77,7 +77,7 @@ fn any_over<K: Eq, const N: usize>(map: &Map<K, u8, N>, limit: u8) -> Option<(&K
     None
 }
 
-// An item other than this one, if one is found, for items of any type.
+// An item other than this one, if there is one, for items of any type.
 fn other_than<'a, T: Eq, const N: usize>(set: &'a Set<T, N>, item: &T) -> Option<&'a T>
     ensures stored { IfSome result (λ x. IsTrue (is_member T.eq set.now x.now)) }
     ensures other { IfSome result (λ x. IsFalse (T.eq x.now item.now)) }
@@ -115,8 +115,7 @@ fn values_over<const N: usize>(map: &Map<u8, u8, N>, limit: u8) -> usize
     count
 }
 
-// How many pairs a local map of any capacity up to 1000 has once these bytes are inserted, which is at most `N`, or `None`
-// if one has no room.
+// How many different bytes there are, or `None` where they are more than `N`. The map is a local of any capacity.
 fn count_different<const N: usize>(bytes: &[u8]) -> Option<usize>
     requires { N ≤ 1000 }
     ensures { IfSome result (λ count. count ≤ N) }
@@ -170,7 +169,7 @@ fn pairs_over<const N: usize>(map: &Map<u8, u8, N>, limit: u8) -> Map<u8, u8, N>
     kept
 }
 
-// Each key with twice its value, up to 255, in their order.
+// Each key with twice its value, in their order.
 #[tactic(auto, using(micromap::proofs::Rules::loops))]
 fn doubled<const N: usize>(amounts: &Map<u8, u8, N>) -> Map<u8, u8, N>
     ensures { result ≡ map (λ p. (p.0, min (p.1 + p.1) 255)) amounts.now }

@@ -20,8 +20,7 @@ ghost use Rattle.micromap_uses_tests.specs.Totals.{greater, is_summed, saturated
 use micromap::{Map, Overfull, Set};
 use std::alloc::AllocError;
 
-// Adds each amount to its number's total, up to the greatest number. If there is no room for a number, there would be more
-// than `N`.
+// Adds each amount to its number's total. If there is no room for a number, there would be more than `N`.
 #[tactic(auto, using(micromap::proofs::Rules::lists))]
 fn add_amounts<const N: usize>(totals: &mut Map<u8, u32, N>, amounts: &[(u8, u32)]) -> bool
     ensures totals { OnTrue result (totals.new ≡ merged nat_eq saturated_sum totals.old amounts.now) }
@@ -53,7 +52,7 @@ fn add_then_read<const N: usize>(
     Some(totals.get(&number).copied())
 }
 
-// The totals of a list, each up to the greatest number, by entry. They are refused exactly if it has more than `N` numbers.
+// The totals of a list, by entry. They are refused exactly if it has more than `N` numbers.
 fn totals_of<const N: usize>(amounts: &[(u8, u32)]) -> Option<Map<u8, u32, N>>
     ensures totals { IfSome result (λ totals. totals ≡ merged nat_eq saturated_sum [] amounts.now) }
     ensures refused { IsNone result ↔ (N < distinct_count nat_eq (keys_of amounts.now)) }
@@ -131,7 +130,7 @@ fn add_before<const N: usize>(
     Ok(())
 }
 
-// How often each number comes, if there is room for all and no count is over 255.
+// How often each number comes, or `None` if there are more than `N`, or one comes more than 255 times.
 #[tactic(auto, using(micromap::proofs::Rules::lists))]
 fn count_numbers<const N: usize>(amounts: &[(u8, u32)]) -> Option<Map<u8, u8, N>>
     ensures { IfSome result (λ numbers. numbers ≡ counts nat_eq (keys_of amounts.now)) }
@@ -144,8 +143,7 @@ fn count_numbers<const N: usize>(amounts: &[(u8, u32)]) -> Option<Map<u8, u8, N>
     Some(numbers)
 }
 
-// Adds another map's amounts, each sum up to the greatest number, up to the first number for which there is no room.
-// Returns whether all had room.
+// Adds another map's amounts.
 fn add_map<const N: usize, const M: usize>(
     totals: &mut Map<u8, u32, N>,
     amounts: &Map<u8, u32, M>,
@@ -164,7 +162,7 @@ fn add_map<const N: usize, const M: usize>(
     true
 }
 
-// Adds a vector's amounts, each total up to the greatest number.
+// Adds a vector's amounts.
 fn add_vector<const N: usize>(totals: &mut Map<u8, u32, N>, amounts: Vec<(u8, u32)>) -> bool
     ensures { OnTrue result (totals.new ≡ merged nat_eq saturated_sum totals.old (vec_items amounts)) }
 {
@@ -180,7 +178,7 @@ fn add_vector<const N: usize>(totals: &mut Map<u8, u32, N>, amounts: Vec<(u8, u3
     true
 }
 
-// Adds an iterator's amounts before the first whose number has no room, each total up to the greatest number.
+// Adds an iterator's amounts before the first whose number has no room.
 fn add_all<I: Iterator<Item = (u8, u32)>, const N: usize>(
     totals: &mut Map<u8, u32, N>,
     amounts: I,
@@ -203,8 +201,7 @@ fn add_all<I: Iterator<Item = (u8, u32)>, const N: usize>(
     Ok(())
 }
 
-// Adds the amounts of another map, each sum up to the greatest number, up to the first name for which there is no room.
-// Returns whether all had room.
+// Adds the amounts of another map, up to the first name for which there is no room. Returns whether all had room.
 #[tactic(auto, using(micromap::proofs::Rules::lists, micromap::proofs::Rules::loops))]
 fn add_text_map<const N: usize, const M: usize>(
     totals: &mut Map<String, u32, N>,

@@ -141,7 +141,7 @@ fn drop_beginning<const N: usize>(words: &mut Set<String, N>, text: &str)
     words.retain(|word| !word.starts_with(text));
 }
 
-// The sum of all numbers, which must fit.
+// The sum of all numbers.
 fn total<const N: usize>(numbers: &Map<String, u64, N>) -> u64
     requires { sum (values_of (key_texts numbers.now)) < 2 ^ 64 }
     ensures { result ≡ sum (values_of (key_texts numbers.now)) }

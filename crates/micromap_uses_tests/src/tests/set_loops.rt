@@ -9,8 +9,7 @@ ghost use Rattle.micromap.specs.Operations.{difference, union};
 
 use micromap::Set;
 
-// Adds the items of another set, up to the first that doesn't fit. If all fit, the set is the union. If one doesn't, the
-// union has more than `N` items.
+// Adds the items of another set, up to the first that doesn't fit. If all fit, the set is the union.
 pub(super) fn add_all_items<const N: usize, const M: usize>(
     set: &mut Set<u8, N>,
     other: &Set<u8, M>,

@@ -17,7 +17,7 @@ ghost use Rattle.micromap.specs.Texts.{item_strs, key_strs, key_texts, texts};
 use micromap::{Map, Set, Text};
 use std::alloc::{AllocError, Global};
 
-// Each name with twice its amount, up to 255, in their order.
+// Each name with twice its amount, in their order.
 fn doubled<const N: usize>(amounts: &Map<String, u8, N>) -> Result<Map<String, u8, N>, AllocError>
     ensures { IfOk result (λ new. key_texts new ≡ map (λ p. (p.0, min (p.1 + p.1) 255)) (key_texts amounts.now)) }
 {
@@ -111,7 +111,7 @@ fn keep_longer<const N: usize>(amounts: &mut Map<String, u8, N>, limit: usize)
     amounts.retain(|name, _| name.len() > limit);
 }
 
-// Doubles each amount, up to 255.
+// Doubles each amount.
 fn double_all<const N: usize>(amounts: &mut Map<String, u8, N>)
     ensures { key_texts amounts.new ≡ map (λ p. (p.0, min (p.1 + p.1) 255)) (key_texts amounts.old) }
 {
@@ -141,7 +141,7 @@ fn has_amounts(
     Ok(amounts.eq_with(&four_of(alloc, pairs)?))
 }
 
-// Each word with the number of times that it comes, or `None` if there are more than `N` different words.
+// Each word with the number of times that it comes, or `None` if there are more than `N` words.
 #[tactic(auto, using(micromap::proofs::Rules::maps, micromap::proofs::Rules::texts, micromap::proofs::Rules::lists, micromap::proofs::Rules::loops))]
 fn counted<const N: usize>(
     alloc: Global,
@@ -163,8 +163,8 @@ fn counted<const N: usize>(
     Ok(Some(counted))
 }
 
-// The map of these names and amounts, or `None` if there are more than `N` different names. A name that comes again gets
-// its last amount.
+// The map of these names and amounts, or `None` if there are more than `N` names. A name that comes again gets its last
+// amount.
 #[tactic(auto, using(micromap::proofs::Rules::maps, micromap::proofs::Rules::texts, micromap::proofs::Rules::lists, micromap::proofs::Rules::loops))]
 pub(super) fn amounts_of<const N: usize>(
     alloc: Global,
@@ -186,8 +186,7 @@ pub(super) fn amounts_of<const N: usize>(
     Ok(Some(amounts))
 }
 
-// The map of these names and texts, or `None` if there are more than `N` different names. A name that comes again gets its
-// last text.
+// The map of these names and texts, or `None` if there are more than `N` names. A name that comes again gets its last text.
 #[tactic(auto, using(micromap::proofs::Rules::maps, micromap::proofs::Rules::texts, micromap::proofs::Rules::lists, micromap::proofs::Rules::loops))]
 fn texts_of<const N: usize>(
     alloc: Global,
@@ -285,8 +284,8 @@ fn first_changed<'a, const N: usize>(
     one.differs_at(other)
 }
 
-// The map of these words and numbers, or `None` if there are more than `N` different words. A word that comes again gets
-// its last number.
+// The map of these words and numbers, or `None` if there are more than `N` words. A word that comes again gets its last
+// number.
 #[tactic(auto, using(micromap_core::proofs::laws::MapLaws::map_laws, micromap_core::proofs::laws::TextViews::text_views, micromap_core::proofs::laws::CountLaws::count_laws, micromap_core::proofs::laws::TextLoops::text_loops))]
 fn numbers_of<'a, const N: usize>(list: &[(&'a str, u8)]) -> Option<Map<&'a str, u8, N>>
     ensures numbers { IfSome result (λ m. key_strs m ≡ build bytes_eq (map (λ p. (p.0.now, p.1)) list.now)) }
@@ -299,7 +298,7 @@ fn numbers_of<'a, const N: usize>(list: &[(&'a str, u8)]) -> Option<Map<&'a str,
     Some(numbers)
 }
 
-// Each word with the number of times that it comes, or `None`. The contract doesn't say when.
+// Each word with the number of times that it comes, or `None` if there are more than `N` words.
 #[tactic(auto, using(micromap_core::proofs::laws::MapLaws::map_laws, micromap_core::proofs::laws::TextViews::text_views, micromap_core::proofs::laws::CountLaws::count_laws, micromap_core::proofs::laws::TextLoops::text_loops))]
 fn counted_strs<'a, const N: usize>(words: &[&'a str]) -> Option<Map<&'a str, usize, N>>
     ensures { IfSome result (λ m. key_strs m ≡ counts bytes_eq (map (λ word. word.now) words.now)) }

@@ -16,7 +16,7 @@ use super::set_loops::add_all_items;
 use micromap::{Map, Set};
 use micromap_uses::permissions::Permission;
 
-// Grants a permission to a group, and returns whether the group is there and has room for it.
+// Grants a permission to a group that is there, and returns whether there was room for it.
 fn grant<const N: usize, const M: usize>(
     groups: &mut Map<u8, Set<u8, M>, N>,
     group: u8,
@@ -78,7 +78,7 @@ fn include<const N: usize, const M: usize>(
     whole
 }
 
-// Removes a step, and takes it out of the needs of all others. Returns whether it was there.
+// Removes a step, and takes it out of the needs of all others.
 fn take_built<const N: usize, const M: usize>(needs: &mut Map<u8, Set<u8, M>, N>, built: u8) -> bool
     ensures answer { result ≡ has nat_eq needs.old built }
     ensures needs { needs.new ≡ map (λ p. (p.0, take_item nat_eq p.1 built)) (take_out nat_eq needs.old built) }
@@ -166,7 +166,7 @@ fn first_with<const N: usize>(
     None
 }
 
-// A user who holds a permission, if one is found: `get` finds it at the user's number.
+// A user who holds a permission, which `get` finds at the user's number.
 #[tactic(auto, using(micromap::proofs::Rules::caller, crate::proofs::PermissionLaws::lawful_permission))]
 fn user_with<const N: usize>(holders: &Map<u8, Permission, N>, permission: Permission) -> Option<u8>
     ensures { IfSome result (λ user. at nat_eq holders.now user ≡ Some permission) }
