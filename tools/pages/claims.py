@@ -29,7 +29,8 @@ TOTALS
 
 An *edit* puts a wrong body in the place of the right one. A row has the clauses that an edit is for, what is wrong in its body, and the first goal at \
 which the gate refused it; the same body may break others. An edit is a file in `must-fail/` of a crate. Some change lines of the proof too, so that \
-nothing but the clause refuses the body. Some bodies are those of an inner function that has the same clause: then the goal is that function's. \
+nothing but the clause refuses the body. Some bodies are those of an inner function on which the call rests: then the goal is that function's, of the same clause or of one \
+that the call's proof uses. \
 If the goal is in a written proof, the refusal shows only that this proof doesn't serve the wrong body. `not recorded` is said of an edit that no \
 recorded run of the gate has tried as it stands.
 
