@@ -1,16 +1,15 @@
 """docs/CLAIMS.md: the clauses that each edit is for, what is wrong in its body, and where the prover refused it."""
 import collections
-import glob
-import hashlib
 import os
 import re
 
 from pages.api import API
-from pages.logs import NONE, goals_of, plants_of
+from pages.edits import edits
+from pages.logs import NONE, plants_of
+from pages.record import PROOF, kind_of, recorded
 from pages.sources import LIBRARY, Sources, anchor, read
 
 CLAIMS = "docs/CLAIMS.md"
-GOALS = "tools/pages/goals.tsv"  # has each edit that was tried, a sum of its text, and the goal at which it was refused
 # The sections of the edits of other crates than the library's.
 PROGRAMS = {
     "micromap_bench": "The worked rows",
@@ -21,18 +20,18 @@ PROGRAMS = {
 }
 HEAD = """# Claims
 
-Made by `tools/documents` from the sources, from the edits and from what the gate said of them.
+Made by `tools/documents` from the sources, from the edits and from what `tools/claims` recorded of them.
 
 Every clause is proved. Whether it says enough is tested by wrong bodies, which the prover must refuse:
 
 TOTALS
 
-An *edit* puts a wrong body in the place of the right one. A row has the clauses that an edit is for, what is wrong in its body, and the first goal at \
-which the gate refused it; the same body may break others. An edit is a file in `must-fail/` of a crate. Some change lines of the proof too, so that \
+An *edit* puts a wrong body in the place of the right one. A row has the clauses that an edit is for, what is wrong in its body, and the goal at which \
+it was refused; the same body may break others. The gate tries those that are linked to `must-fail/`. `tools/claims` tries all, and records the goal with a \
+sum of the edit and of the contract and the body of its function. Some edits change lines of the proof too, so that \
 nothing but the clause refuses the body. Some bodies are those of an inner function on which the call rests: then the goal is that function's, of the same clause or of one \
 that the call's proof uses. \
-If the goal is in a written proof, the refusal shows only that this proof doesn't serve the wrong body. `not recorded` is said of an edit that no \
-recorded run of the gate has tried as it stands.
+If the goal is marked as *only in a written proof*, the refusal shows no more than that this proof doesn't serve the wrong body.
 
 In a goal's name `returns` is what holds at the return, and `returns-clause-pairs` is the clause `pairs` of it. \
 `insert-requires` is the precondition of a call of `insert`, `invariant_of-..` the invariant of a type, and `loop-..` \
@@ -60,12 +59,6 @@ _, SHARED, OF_TRAIT, UNKNOWN = SILENT
 Edit = collections.namedtuple("Edit", "path wrong claims")  # claims: pairs of a call and the names of its clauses
 
 
-def sum_of(path):
-    """A sum of what an edit changes, without what it says of that."""
-    text = re.sub(r"^#.*\n", "", read(path), flags=re.M)
-    return hashlib.sha256(text.encode()).hexdigest()[:16]
-
-
 def edit_of(path, known, wrong):
     """An edit, by its lines `# for: Map::insert: old, pairs; Set::get` and `# wrong: the pair isn't inserted`."""
     said = dict(re.findall(r"^# (for|wrong): (.+)$", read(path), re.M))
@@ -82,31 +75,22 @@ class Claims:
 
     def __init__(self, api, wrong, notes):
         self.api, self.wrong, self.notes = api, wrong, notes
-        paths = sorted(glob.glob("crates/*/must-fail/*.edit"))
+        paths = edits()
         crates = sorted({it.split("/")[1] for it in paths} - {*LIBRARY})
         every = [*api.sources.clauses(), *(it for crate in crates for it in Sources([crate]).clauses())]
         self.clauses = {it.name: it for it in reversed(every)}
         self.required = {it.name: it for it in api.sources.clauses(required=True)}
         self.edits = [edit_of(it, self.required | self.clauses, wrong) for it in paths]
-        page = read(CLAIMS) if os.path.exists(CLAIMS) else ""
-        rows = (line.split("\t") for line in read(GOALS).splitlines()) if os.path.exists(GOALS) else ()
-        self.goals = {path: goal for path, sum, goal in rows if os.path.exists(path) and sum == sum_of(path)}
+        page, self.goals = read(CLAIMS) if os.path.exists(CLAIMS) else "", recorded()
         rest = page.partition(f"\n## {WITHOUT}\n")[2]
         tried = re.findall(r"^\| \[`(.+?)`\].*\|.*\| (.+) \|$", rest, re.M)
         silent = re.findall(rf"^- \*\*{NONE}\*\*.*\. (.*)$", rest, re.M | re.I)
         tried += [(it, NONE) for it in re.findall(r"`(.+?)`", "".join(silent))]
         self.tried = {it: said for it, said in tried if said != UNKNOWN}
 
-    def take_logs(self, gate, plants):
-        """Takes the goals from what `rt ci` or `rt must-fail` printed, which are kept, and what was tried from what
-        `rt plant` did."""
-        found, calls = goals_of(gate), {}
-        self.wrong += [f"{path}: the log says that it isn't refused" for path, goal in found.items() if not goal]
-        if found:
-            self.goals |= found
-            kept = (f"{it.path}\t{sum_of(it.path)}\t{self.goals[it.path]}\n" for it in self.edits if self.goals.get(it.path))
-            with open(GOALS, "w", encoding="utf-8") as file:
-                file.writelines(kept)
+    def take_log(self, plants):
+        """Takes what was tried from what `rt plant` printed."""
+        calls = {}
         for it in self.api.sources.items:
             crate, path = re.match(r"crates/(\w+)/(.*)", it.path).groups()
             owner, trait = "" if it.kind == "fn" else it.name, it.trait.partition("<")[0]
@@ -138,7 +122,8 @@ class Claims:
             clause = self.clauses.get(names[0]) or self.required.get(names[0])
             cells += [self.linked(call, clause), *map(self.stated, names)]
         wrong = f"[{edit.wrong[:1].upper()}{edit.wrong[1:]}](../{edit.path})"
-        return f"| {'<br>'.join(cells)} | {wrong} | {self.goals.get(edit.path) or UNKNOWN} |"
+        goal = self.goals.get(edit.path, UNKNOWN).replace(" in the proof of ", ", *only in a written proof*, that of ")
+        return f"| {'<br>'.join(cells)} | {wrong} | {goal} |"
 
     def text(self):
         sections = collections.defaultdict(list)
@@ -151,9 +136,6 @@ class Claims:
         out.append(f"- [{WITHOUT}](#{anchor(WITHOUT)})")
         for title in dict.fromkeys(it for it in order if it in sections):
             out += ["", f"## {title}", ROWS, *map(self.row, sections[title])]
-        unrecorded = sum(not self.goals.get(it.path) for it in self.edits)
-        if unrecorded:
-            self.notes.append(f"{CLAIMS}: no goal is recorded of {unrecorded} edits: give a log of rt ci by --log")
         return "\n".join([*out, "", f"## {WITHOUT}", WITHOUT_HEAD, *self.without()]) + "\n"
 
     def named(self):
@@ -200,22 +182,26 @@ class Claims:
             yield from [f"- **{verdict[0].upper()}{verdict[1:]}**, {count} clauses: {why}. {calls}"] * bool(count)
 
     def counts(self):
-        """How many clauses have an edit, how many have refused planted bodies alone, how many have neither, and all."""
+        """How many clauses have an edit that a goal refuses, how many have such as only a written proof refuses, how many have
+        refused planted bodies alone, how many have none of these, and all."""
         unnamed, library = self.unnamed(), self.library()
         without = {call: len(names) for call, names in unnamed.items()}
         tried = sum(count for call, count in without.items() if self.verdict(call) not in SILENT)
-        untried = sum(without.values()) - tried
-        return len(library) - tried - untried, tried, untried, len(library)
+        strong = (it for it in self.edits if kind_of(self.goals.get(it.path, "")) != PROOF)
+        shown = {*library} & {name for edit in strong for _, names in edit.claims for name in names}
+        named = len(library) - sum(without.values())
+        return len(shown), named - len(shown), tried, sum(without.values()) - tried, len(library)
 
     def totals(self):
         """The table of these."""
-        names = ["with an edit", f"[without an edit](#{anchor(WITHOUT)}), but with planted bodies that were judged", "with neither", "all"]
+        names = ["with an edit that a goal of a contract, an invariant or a call's condition refuses", "with edits that only a written proof refuses"]
+        names += [f"[without an edit](#{anchor(WITHOUT)}), but with planted bodies that were judged", "with none of these", "all"]
         yield "| The library's clauses | |\n|---|---|"
         yield from (f"| {what} | {count} |" for what, count in zip(names, self.counts()))
 
     def wrong_of_readme(self):
         """What is amiss in the README's sentence about these."""
-        edited, tried, untried, library = self.counts()
-        wanted = (f"Of the library's {library} clauses, {edited} have such a body. For {tried} more, bodies that a tool made were refused. "
-                  f"For the other {untried}, no refusal is known to be theirs.")
+        shown, written, tried, untried, library = self.counts()
+        wanted = (f"Of the library's {library} clauses, {shown} have such a body that a goal refuses, and {written} more one that only a written proof refuses. "
+                  f"For {tried} more, bodies that a tool made were refused. For the other {untried}, no refusal is known to be theirs.")
         return [] if wanted in read("README.md") else [f"README.md doesn't say: {wanted}"]

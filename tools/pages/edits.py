@@ -1,13 +1,28 @@
-"""The edits in must-fail/, each of which must be one that can be applied to the sources."""
+"""The edits, each a wrong body that the prover must refuse. Those in must-fail/ are tried by the gate and by tools/claims,
+those in claims/ by tools/claims alone."""
+import collections
 import glob
 import os
 import re
 
 from pages.sources import read
 
+FOLDERS = ("must-fail", "claims")
+Function = collections.namedtuple("Function", "file name first last")  # the lines, counted from 0
+
 
 class Dead(Exception):
     """Why an edit can't be applied."""
+
+
+def edits():
+    """The paths of all edits."""
+    return sorted(path for folder in FOLDERS for path in glob.glob(f"crates/*/{folder}/*.edit"))
+
+
+def crate_of(path):
+    """The folder of the crate of an edit."""
+    return "/".join(path.split("/")[:2])
 
 
 def pairs_of(text):
@@ -32,25 +47,54 @@ def pairs_of(text):
         raise Dead(f"no line new: follows this text: {old}")
 
 
-def apply(path):
-    """Applies the pairs of an edit in order to the texts of its crate, each to what the earlier ones made."""
-    crate, texts = path.split("/must-fail/")[0], {}
+def apply(path, texts=None):
+    """Applies the pairs of an edit in order to the texts of its crate, each to what the earlier ones made. Returns the texts
+    by their files, and each file and line that it changes."""
+    crate, texts, places = crate_of(path), dict(texts or {}), set()
     for file, old, new in pairs_of(read(path)):
         if not re.match(r"(src|specs|proofs)/", file) or not os.path.isfile(f"{crate}/{file}"):
             raise Dead(f"there is no file {file} in src/, specs/ or proofs/")
         text = texts.setdefault(file, read(f"{crate}/{file}"))
         if text.count(old) != 1:
             raise Dead(f"{file} has this text {text.count(old)} times, and not once: {old}")
+        places.add((file, text[: text.index(old)].count("\n")))
         texts[file] = text.replace(old, new)
     if all(text == read(f"{crate}/{file}") for file, text in texts.items()):
         raise Dead("it changes nothing")
+    return texts, places
+
+
+def functions_in(file, text):
+    """The functions of a source, with their attributes and contracts and without their comments."""
+    lines = text.split("\n")
+    for at, line in enumerate(lines):
+        found = re.match(r"( *)(?:pub(?:\([^)]*\))? )?(?:const )?fn (\w+)", line)
+        first, last, begun = at, at, False
+        while found and lines[first - 1].lstrip().startswith("#["):
+            first -= 1
+        while found and not re.search(r"\{\}$", lines[last]) and lines[last] != f"{found[1]}}}":
+            if not begun and lines[last].endswith(";"):
+                break  # a trait's function, which has no body
+            begun |= lines[last].endswith("{")
+            last += 1
+        if found:
+            yield Function(file, found[2], first, last)
+
+
+def changed(path):
+    """The functions that an edit changes. An edit is one line for one line, so they keep their places."""
+    found = set()
+    for file, line in apply(path)[1]:
+        inside = (it for it in functions_in(file, read(f"{crate_of(path)}/{file}")) if it.first <= line <= it.last)
+        found |= {*inside} if file.startswith("src/") else set()
+    return found
 
 
 def dead_edits():
-    """What is amiss in must-fail/: each edit that can't be applied, and each file that isn't tried."""
-    for path in sorted(glob.glob("crates/*/must-fail/**/*", recursive=True)):
-        if not re.match(r"crates/\w+/must-fail/[\w-][\w.-]*\.edit$", path):
-            yield f"{path}: it isn't tried, since it is no .edit right in must-fail/"
+    """What is amiss in the folders of edits: each edit that can't be applied, and each file that isn't tried."""
+    for path in sorted(path for folder in FOLDERS for path in glob.glob(f"crates/*/{folder}/**/*", recursive=True)):
+        if not re.match(rf"crates/\w+/({'|'.join(FOLDERS)})/[\w-][\w.-]*\.edit$", path):
+            yield f"{path}: it isn't tried, since it is no .edit right in its folder"
             continue
         try:
             apply(path)

@@ -1,32 +1,11 @@
-"""What `rt ci`, `rt must-fail` and `rt plant` print of wrong bodies."""
+"""What `rt plant` prints of wrong bodies."""
 import collections
-import os
 import re
 
 
 NONE = "no wrong body could be judged"
 # What `rt plant` prints as let through, though it is right: `==` is symmetric.
 RIGHT = {"Self::same::<K>(self, second, first)"}
-
-
-def place_of(said):
-    """The goal and the file at which an edit was refused, by what is said of it. A long line is cut off in the goal."""
-    path = re.search(r"\b(src|proofs|specs)/([\w/.+-]+):\d+:\d+:(.*)", said)
-    if not path:
-        return "no goal was named"
-    goal = re.search(r"(?:^ error: |\()`([^`]+)(`:|`\)|$)", path[3])
-    name = goal and (goal[1] if goal[2] else re.sub(r"[^-]*$", "..", goal[1], count=1))
-    why = re.search(r"\(only (by a limit|because a proof file names)", said)
-    reason = why and {"by a limit": "a limit of the prover"}.get(why[1], "a missing name")
-    folder = os.path.basename(os.path.dirname(path[2]))
-    where = f"the proof of `{folder}`" if path[1] == "proofs" and folder else f"`{path[2]}`"
-    return f"{', '.join(it for it in (reason, name and f'`{name}`') if it) or 'no goal'} in {where}"
-
-
-def goals_of(text):
-    """Where each edit was refused, by the paths of the edits. It is empty for one that was not refused."""
-    rows = re.findall(r"^(?:rt: )?must-fail (\w+)/(\S+\.edit): (.*)$", text, re.M)
-    return {f"crates/{it[0]}/must-fail/{it[1]}": place_of(it[2]) * it[2].startswith("refused") for it in rows}
 
 
 def function_of(shown):

@@ -1,0 +1,56 @@
+"""The record of tools/claims: the goal at which the prover refused each edit, with a sum of what it was tried on."""
+import hashlib
+import os
+import re
+
+from pages.edits import Dead, changed, crate_of, edits
+from pages.sources import read
+
+RECORD = "tools/pages/goals.tsv"  # has the path of each edit, the sum, and the goal
+# What a refusal shows, by the goal: the strongest first.
+CONTRACT, INVARIANT, CONDITION, PROOF = KINDS = (
+    "a goal of the contract",
+    "an invariant",
+    "the condition of a call",
+    "a written proof alone",
+)
+
+
+def sum_of(path):
+    """A sum of what an edit changes, without what it says of that, and of the contracts and the bodies of the functions
+    that it changes, without their comments and attributes."""
+    crate, texts = crate_of(path), [re.sub(r"^#.*\n", "", read(path), flags=re.M)]
+    try:
+        for it in sorted(changed(path)):
+            lines = read(f"{crate}/{it.file}").split("\n")[it.first : it.last + 1]
+            texts += [line for line in lines if not re.match(r" *(//|#\[)", line)]
+    except Dead:  # which tools/documents says by itself
+        pass
+    return hashlib.sha256("\n".join(texts).encode()).hexdigest()[:16]
+
+
+def recorded():
+    """The goals at which edits were refused as they stand, by their paths."""
+    rows = (line.split("\t") for line in read(RECORD).splitlines()) if os.path.exists(RECORD) else ()
+    return {path: goal for path, sum, goal in rows if os.path.exists(path) and sum == sum_of(path)}
+
+
+def keep(goals):
+    """Writes the record anew."""
+    with open(RECORD, "w", encoding="utf-8") as file:
+        file.writelines(f"{it}\t{sum_of(it)}\t{goals[it]}\n" for it in edits() if it in goals)
+
+
+def kind_of(goal):
+    """What a refusal at a goal shows."""
+    if " in the proof of " in goal:
+        return PROOF
+    name = goal.split("`")[1] if "`" in goal else ""
+    is_of_contract = name.startswith("returns") or name.endswith("-value")  # a law that an impl owes its trait has such a name
+    return CONTRACT if is_of_contract else INVARIANT if re.match("loop-|invariant_of", name) else CONDITION
+
+
+def stale_claims():
+    """Each edit that wasn't tried as it and its function stand."""
+    known = recorded()
+    return [f"{it}: it wasn't tried as it and its function stand: run tools/claims" for it in edits() if it not in known]
