@@ -4,7 +4,8 @@ use Rattle.std.specs.Cmp.{IsEquivalence}
 use Rattle.std.specs.Cmp.Lexicographic.{pointwise}
 use Rattle.std.proofs.Math.Bool.{and_assoc, and-true}
 use Rattle.std.proofs.lemmas.List.{drop_all, drop_more}
-use Rattle.micromap.proofs.FairLemmas.{same_for_good}
+use Rattle.micromap.proofs.laws.ComparisonLaws.{same_for_good}
+use Rattle.micromap.proofs.laws.Equalities.{lawful}
 use Rattle.micromap.specs.Calls.{Call, answer, after, run, agree}
 use Rattle.micromap.specs.Fair.{IsFair, AnswersAgree}
 use Rattle.micromap.specs.Pairs.{IsUnique}
@@ -34,7 +35,7 @@ module _ {K V : Type 0} (eq : K → K → Bool) (same : V → V → Bool) (N M :
   -- fair calls on two lists that are the same are answered alike, and leave the two the same
   pub Leads-same : IsEquivalence eq → IsEquivalence same → (first second : List (K × V)) (agreed : Bool) (first_start second_start : List (K × V)) (calls : List (Call K V)) → Leads first second agreed [] first_start second_start calls → IsUnique eq first_start → IsUnique eq second_start → Same eq same first_start second_start → IsFair eq N M first_start second_start calls → IsTrue agreed × Same eq same first second
   Leads-same keys values first second agreed first_start second_start calls leads unique_first unique_second are fair =
-      let kept = same_for_good N M calls (record { keys = keys; values = values; unique_first = unique_first; unique_second = unique_second }) are fair in
+      let kept = same_for_good eq same N M first_start second_start calls (lawful eq keys) (lawful same values) unique_first unique_second are fair in
       ((Leads-all first second agreed first_start second_start calls leads).1 kept.0, (λ i. is_same eq same (leads.first_ends i) (leads.second_ends i)) ∙ kept.1)
 
 -- the calls that are left, from the one at an index on

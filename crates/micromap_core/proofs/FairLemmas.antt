@@ -125,15 +125,15 @@ module _ {K V : Type 0} {eq : K → K → Bool} {same : V → V → Bool} {first
     after_same call fair = (c, are)
 
 module _ {K V : Type 0} {eq : K → K → Bool} {same : V → V → Bool} (N M : ℕ) where
-  -- sameness outlasts every fair list of calls
-  pub same_for_good : (calls : List (Call K V)) → {first second : List (K × V)}
+  -- a fair list of calls gets answers that agree, and leaves the two the same
+  pub run_same : (calls : List (Call K V)) → {first second : List (K × V)}
       → Comparable eq same first second → Same eq same first second
       → IsFair eq N M first second calls → AnswersAgree eq same N M first second calls
       × Same eq same (run eq N first calls).1 (run eq M second calls).1
-  same_for_good [] c are fair = (refl, are)
-  same_for_good (call ∷ calls) c are fair =
+  run_same [] c are fair = (refl, are)
+  run_same (call ∷ calls) c are fair =
       let next = after_same c are N M call fair.0 in
-      let rest = same_for_good calls next.0 next.1 fair.1 in
+      let rest = run_same calls next.0 next.1 fair.1 in
       (both_true (answer_agrees c are N M call fair.0) rest.0, rest.1)
 
   -- two lists are told apart exactly where they aren't the same: by a look-up of a key at which they differ
@@ -149,7 +149,7 @@ module _ {K V : Type 0} {eq : K → K → Bool} {same : V → V → Bool} (N M :
               λ agrees. false≢true (sym at.1 ∙ first_so _ true agrees);
         },
     λ apart. false_from_ne_true _
-        (λ are. apart.differ (same_for_good apart.calls c are apart.fair).0),
+        (λ are. apart.differ (run_same apart.calls c are apart.fair).0),
   )
 
 -- all that a comparison of two maps answers, from their lengths m and n and their content
@@ -172,7 +172,7 @@ module _ {K V : Type 0} {eq : K → K → Bool} {same : V → V → Bool} {N M :
     (λ yes. yes, λ are. are),
     told_apart N M compared,
     OnTrue_from (is_same eq same first second) (SameForGood eq same N M first second)
-        (λ are calls. same_for_good N M calls compared are),
+        (λ are calls. run_same N M calls compared are),
     (alike_from_same compared, same_from_alike compared),
   )
 

@@ -1,11 +1,13 @@
--- For callers: two maps that are the same stay the same where both get the same put, or the same removal. Whether there is
--- room is for the caller to know. The ruleset is a part of `comparison` of `Rules`.
+-- For callers: two maps that are the same stay the same where both get the same put, the same removal, or the same fair
+-- list of calls. Whether there is room is for the caller to know. The ruleset is a part of `comparison` of `Rules`.
 use Rattle.std.proofs.Common.{◌≡◌, Bool, ◌||◌, List, IsFalse, refl, ap, sym, ◌∙◌, ℕ}
+use Rattle.micromap_core.specs.Calls.{Call, run}
 use Rattle.micromap_core.specs.Equalities.{Lawful}
+use Rattle.micromap_core.specs.Fair.{IsFair, AnswersAgree}
 use Rattle.micromap_core.specs.Pairs.{has, has_room, fits, put, put_key, take_out, IsUnique}
 use Rattle.micromap_core.specs.Same.{Same}
 use Rattle.micromap_core.proofs.laws.Equalities.{equalities, of_lawful}
-use Rattle.micromap_core.proofs.FairLemmas.{put_same, put_key_same, take_out_same}
+use Rattle.micromap_core.proofs.FairLemmas.{put_same, put_key_same, take_out_same, run_same}
 use Rattle.micromap_core.proofs.SameLemmas.{comparable}
 
 -- the insertion of a key that fits both lists, or neither, is fair
@@ -14,6 +16,15 @@ pub fair_where_fits : {K V : Type 0} (eq : K → K → Bool) (N M : ℕ) (first 
     → IsFalse (has eq second k) → has_room N first ≡ has_room M second
 fair_where_fits eq N M first second k fit missing also =
     ap (λ b. b || has_room N first) (sym missing) ∙ fit ∙ ap (λ b. b || has_room M second) also
+
+-- a fair list of calls gets answers that agree from both, and leaves the two the same
+pub same_for_good : {K V : Type 0} (eq : K → K → Bool) (same : V → V → Bool) (N M : ℕ)
+    (first second : List (K × V)) (calls : List (Call K V)) → Lawful eq → Lawful same
+    → IsUnique eq first → IsUnique eq second → Same eq same first second
+    → IsFair eq N M first second calls → AnswersAgree eq same N M first second calls
+    × Same eq same (run eq N first calls).1 (run eq M second calls).1
+same_for_good eq same N M first second calls keys values one other =
+    run_same N M calls (comparable (of_lawful eq keys) (of_lawful same values) one other)
 
 -- both get the same put, or the same removal
 module _ {K V : Type 0} (eq : K → K → Bool) (same : V → V → Bool) (first second : List (K × V))
