@@ -70,8 +70,9 @@ impl<K: Eq, V, const N: usize> Map<K, V, N> {
     /// Returns the number of pairs.
     ///
     /// The clause `content` states three facts of the map: no two keys are equal, there are at most `N` pairs, and the
-    /// equality of keys is lawful (reflexive, symmetric and transitive). A call of a map that changes it states them of
-    /// the map before and after, and a call of an entry that changes the map, after.
+    /// equality of keys is lawful (reflexive, symmetric and transitive). A call that changes the map itself states them
+    /// of the map before and after. One that lends a value to be changed, as `get_mut` and `index_mut`, states them of
+    /// the map before, and a call of an entry that changes the map, after.
     #[inline]
     pub fn len(&self) -> usize
         ensures answer { result ≡ length self.now }

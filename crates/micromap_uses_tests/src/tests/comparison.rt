@@ -19,7 +19,8 @@ ghost use Rattle.micromap.specs.Texts.{item_texts, key_texts, texts};
 use micromap::{Map, Set};
 use micromap_uses::board::{Board, Square};
 
-// What each of two maps has at a key where they differ, or `None` where they are the same.
+// What each of two maps has at a key where they differ, or `None` exactly if they are the same. Of the two values the
+// contract says that they differ.
 fn conflict<'a, const N: usize, const M: usize>(
     first: &'a Map<u8, u8, N>,
     second: &'a Map<u8, u8, M>,
@@ -31,7 +32,7 @@ fn conflict<'a, const N: usize, const M: usize>(
     Some((first.get(key), second.get(key)))
 }
 
-// Whether a replica is the same as its list. It is where no list of calls that is fair to both tells them apart.
+// Compares a replica with its list. It returns `true` if no list of calls that is fair to both tells them apart.
 fn is_replica<const N: usize, const M: usize>(
     list: &Map<u8, u8, N>,
     replica: &Map<u8, u8, M>,
@@ -41,7 +42,7 @@ fn is_replica<const N: usize, const M: usize>(
     list.eq_with(replica)
 }
 
-// Puts one pair into a list and its replica. Where they are the same, they stay the same.
+// Puts one pair, which fits both, into a list and its replica. They are the same, and stay so.
 fn put_both<const N: usize, const M: usize>(
     list: &mut Map<u8, u8, N>,
     replica: &mut Map<u8, u8, M>,
@@ -57,7 +58,7 @@ fn put_both<const N: usize, const M: usize>(
     replica.insert(key, value);
 }
 
-// Puts one pair with its own key into a list and its replica.
+// Puts one pair with its own key into a list and its replica. They are the same, and stay so.
 fn put_key_both<const N: usize, const M: usize>(
     list: &mut Map<u8, u8, N>,
     replica: &mut Map<u8, u8, M>,
@@ -73,7 +74,7 @@ fn put_key_both<const N: usize, const M: usize>(
     replica.insert_key_value(key, value);
 }
 
-// Removes one key from a list and its replica. Where they are the same, they stay the same.
+// Removes one key from a list and its replica. They are the same, and stay so.
 fn remove_both<const N: usize, const M: usize>(
     list: &mut Map<u8, u8, N>,
     replica: &mut Map<u8, u8, M>,
@@ -86,7 +87,7 @@ fn remove_both<const N: usize, const M: usize>(
     replica.remove(&key);
 }
 
-// Removes one key of any type from a list and its replica.
+// The same of a key of any type.
 fn remove_any<K: Eq + Drop, const N: usize, const M: usize>(
     list: &mut Map<K, u8, N>,
     replica: &mut Map<K, u8, M>,
@@ -99,7 +100,7 @@ fn remove_any<K: Eq + Drop, const N: usize, const M: usize>(
     replica.remove(key);
 }
 
-// Removes one name from both.
+// The same of a name, which is a `String`.
 fn remove_name<const N: usize, const M: usize>(
     list: &mut Map<String, u8, N>,
     replica: &mut Map<String, u8, M>,
@@ -113,7 +114,7 @@ fn remove_name<const N: usize, const M: usize>(
     replica.remove(key);
 }
 
-// Takes a piece off two boards that are the same.
+// Takes a piece off two boards. They are the same, and stay so.
 fn clear_square<const N: usize>(board: &mut Board<N>, copy: &mut Board<N>, at: &Square)
     requires { Same ⟦<Square as PartialEq>⟧.eq nat_eq board.old copy.old }
     ensures { Same ⟦<Square as PartialEq>⟧.eq nat_eq board.new copy.new }
@@ -122,7 +123,8 @@ fn clear_square<const N: usize>(board: &mut Board<N>, copy: &mut Board<N>, at: &
     copy.remove(at);
 }
 
-// Whether three maps are the same, by two comparisons.
+// Compares three maps, by two comparisons. If it returns `true`, the first and the third are the same, and equally
+// long.
 fn are_same<const N: usize>(
     first: &Map<u8, u8, N>,
     second: &Map<u8, u8, N>,
@@ -135,49 +137,49 @@ fn are_same<const N: usize>(
     first.eq_with(second) && second.eq_with(third)
 }
 
-// Whether the first map is longer. Then it has a key that the second lacks.
+// Compares the lengths of two maps. If it returns `true`, the first has a key that the second lacks.
 fn has_more<const N: usize, const M: usize>(first: &Map<u8, u8, N>, second: &Map<u8, u8, M>) -> bool
     ensures { OnTrue result ((k : _) × (has nat_eq first.now k ≡ true) × (has nat_eq second.now k ≡ false)) }
 {
     first.len() > second.len()
 }
 
-// Whether the two are equally long. Then one side of a comparison decides.
+// Compares the lengths of two maps. If it returns `true`, one side of a comparison decides.
 fn as_long<const N: usize, const M: usize>(first: &Map<u8, u8, N>, second: &Map<u8, u8, M>) -> bool
     ensures { IsTrue result → IsTrue (list_all (has_value nat_eq nat_eq second.now) first.now) → Same nat_eq nat_eq first.now second.now }
 {
     first.len() == second.len()
 }
 
-// Whether the two sets have the same items, by one side of the comparison.
+// Compares two sets by their lengths and one side. If it returns `true`, they have the same items.
 fn have_same_items<const N: usize, const M: usize>(first: &Set<u8, N>, second: &Set<u8, M>) -> bool
     ensures { OnTrue result (HaveEqualItems nat_eq first.now second.now) }
 {
     first.len() == second.len() && first.is_subset(second)
 }
 
-// Whether three sets have the same items, by two comparisons.
+// Compares three sets, by two comparisons. If it returns `true`, the first and the third have the same items.
 fn share_items<const N: usize>(first: &Set<u8, N>, second: &Set<u8, N>, third: &Set<u8, N>) -> bool
     ensures { OnTrue result (HaveEqualItems nat_eq first.now third.now) }
 {
     first.eq_with(second) && second.eq_with(third)
 }
 
-// Whether the first set has all items of the second. Then what the second has, the first has.
+// Asks whether one set is a superset of another. If it returns `true`, the first has each member of the second.
 fn includes<const N: usize, const M: usize>(first: &Set<u8, N>, second: &Set<u8, M>) -> bool
     ensures { OnTrue result ((x : _) → IsTrue (is_member nat_eq second.now x) → IsTrue (is_member nat_eq first.now x)) }
 {
     first.is_superset(second)
 }
 
-// Whether the first set is longer. Then it has an item that the second lacks.
+// Compares the lengths of two sets. If it returns `true`, the first has an item that the second lacks.
 fn has_more_items<const N: usize, const M: usize>(first: &Set<u8, N>, second: &Set<u8, M>) -> bool
     ensures { OnTrue result ((x : _) × (is_member nat_eq first.now x ≡ true) × (is_member nat_eq second.now x ≡ false)) }
 {
     first.len() > second.len()
 }
 
-// Whether a set of capacity `L` has room for what is in both, by the length of the second.
+// Compares the length of the second set with `L`. If it returns `true`, at most `L` items are in both.
 fn holds_common<const L: usize, const N: usize, const M: usize>(
     first: &Set<u8, N>,
     second: &Set<u8, M>,

@@ -26,7 +26,7 @@ fn over<const N: usize>(amounts: &Map<u8, u8, N>, limit: u8) -> Map<u8, u8, N>
     kept
 }
 
-// Each key with twice its value.
+// Each key with twice its value, up to 255.
 fn doubled<const N: usize>(amounts: &Map<u8, u8, N>) -> Map<u8, u8, N>
     ensures { result ≡ map (λ p. (p.0, min (p.1 + p.1) 255)) amounts.now }
 {
@@ -44,7 +44,7 @@ fn evens<const N: usize>(items: &Set<u8, N>) -> Set<u8, N>
     evens
 }
 
-// The key that was inserted first, and the value of the one that was inserted last.
+// The first pair's key, and the last pair's value.
 fn oldest_and_newest<const N: usize>(readings: &Map<u8, u16, N>) -> (Option<u8>, Option<u16>)
     ensures oldest { result.0 ≡ option_map (λ p. p.0) (slice_get readings.now 0) }
     ensures newest { result.1 ≡ option_map (λ p. p.1) (slice_get readings.now (length readings.now - 1)) }
@@ -62,14 +62,15 @@ fn ends<const N: usize>(items: &Set<u8, N>) -> (Option<u8>, Option<u8>)
     (items.first().copied(), items.last().copied())
 }
 
-// The pieces of two articles. Of an article that isn't in stock there are none.
+// The pieces of two articles, added up. Of an article that isn't in stock there are none.
 fn pieces<const N: usize>(stock: &Map<u8, u16, N>, one: u8, other: u8) -> u32
     ensures { result ≡ unwrap_or (at nat_eq stock.now one) 0 + unwrap_or (at nat_eq stock.now other) 0 }
 {
     u32::from(stock.get_or(&one, 0)) + u32::from(stock.get_or(&other, 0))
 }
 
-// Keeps as many pairs as `limit` says, and inserts one. There is room for it, since no pair is added before.
+// Keeps as many pairs as `limit` says, and inserts one, for which there was room before. The contract says only that its
+// key is stored then.
 fn keep_and_insert<const N: usize>(pairs: &mut Map<u8, u8, N>, limit: u8, key: u8)
     requires { length pairs.old < N }
     ensures { IsTrue (has nat_eq pairs.new key) }
@@ -83,7 +84,8 @@ fn keep_and_insert<const N: usize>(pairs: &mut Map<u8, u8, N>, limit: u8, key: u
     pairs.insert(key, 0);
 }
 
-// Reserves a seat for a guest, and returns whether it was free, or `None` if no more seats can be reserved.
+// Reserves a seat for a guest. Returns `Some(false)` if it is taken, and then nothing changes; else `Some(true)`, or
+// `None` if there is no room. What a seat that was free has then, the contract doesn't say.
 fn reserve<const N: usize>(seats: &mut Map<u8, u16, N>, seat: u8, guest: u16) -> Option<bool>
     ensures answer { result ≡ (if has nat_eq seats.old seat then Some false
         else if has_room N seats.old then Some true else None) }
@@ -95,7 +97,8 @@ fn reserve<const N: usize>(seats: &mut Map<u8, u16, N>, seat: u8, guest: u16) ->
     }
 }
 
-// Moves to new prices, or stays with the old ones if there is no room for all.
+// Puts new prices over the old ones, and returns whether it did. If it didn't, all are as they were, and there is no
+// room for all.
 fn reprice<const N: usize, const M: usize>(
     prices: &mut Map<u8, u32, N>,
     new: &Map<u8, u32, M>,
@@ -107,7 +110,7 @@ fn reprice<const N: usize, const M: usize>(
     prices.try_extend_from(new).is_ok()
 }
 
-// Adds the items of two sets, up to the first set that doesn't fit as a whole.
+// Adds the items of two sets, one set after the other. Of an error the contract says nothing.
 fn add_both<const N: usize>(
     items: &mut Set<u8, N>,
     one: &Set<u8, 4>,
@@ -174,8 +177,8 @@ fn can_scale<const N: usize>(amounts: &Map<u8, u32, N>, factor: u32) -> bool
     amounts.values().all(|v| v.checked_mul(factor).is_some())
 }
 
-// Multiplies each amount, or changes nothing if one of them doesn't fit then. The least of a product that fits and of the
-// greatest number is that product.
+// Multiplies each amount and returns `true`, or changes nothing and returns `false` if one of them doesn't fit then.
+// The least of a product that fits and of the greatest number is that product.
 fn scale<const N: usize>(amounts: &mut Map<u8, u32, N>, factor: u32) -> bool
     ensures answer { result ≡ list_all (λ v. nat_lt (v * factor) (2 ^ 32)) (values_of amounts.old) }
     ensures scaled { IsTrue result → amounts.new ≡ map (λ p. (p.0, min (p.1 * factor) (2 ^ 32 - 1))) amounts.old }

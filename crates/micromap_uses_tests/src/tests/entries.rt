@@ -8,7 +8,8 @@ ghost use Rattle.micromap.specs.Texts.{key_texts};
 use micromap::{Entry, Map, Text};
 use std::alloc::AllocError;
 
-// Gives a key a value if the one that it has is under the limit, or if it has none and there is room.
+// Gives a key a value if the one that it has is under the limit, or if it has none and there is room. Returns whether
+// it did.
 fn raise_any<K: Eq + Drop, const N: usize>(
     map: &mut Map<K, u8, N>,
     key: K,
@@ -32,7 +33,7 @@ fn raise_any<K: Eq + Drop, const N: usize>(
     }
 }
 
-// Counts one more of a letter, if there is room for it and its count isn't the greatest number.
+// Counts one more of a letter, if it fits and its count isn't the greatest number. Returns whether it did.
 fn count_once<const N: usize>(counts: &mut Map<char, u8, N>, letter: char) -> bool
     ensures answer { result ≡ (fits nat_eq N counts.old letter && nat_lt (unwrap_or (at nat_eq counts.old letter) 0) 255) }
     ensures pairs { counts.new ≡ (if result then put nat_eq counts.old letter (unwrap_or (at nat_eq counts.old letter) 0 + 1) else counts.old) }
@@ -49,7 +50,8 @@ fn count_once<const N: usize>(counts: &mut Map<char, u8, N>, letter: char) -> bo
     true
 }
 
-// Adds to the amount of an article, unless it would pass the limit.
+// Adds to the amount of an article that is there, unless it would pass the limit, or stores that of a new one, whatever
+// it is, if there is room. Returns whether it did.
 fn add_up<K: Eq + Drop, const N: usize>(
     stock: &mut Map<K, u64, N>,
     article: K,
@@ -97,7 +99,7 @@ fn raise_text<const N: usize>(
     }
 }
 
-// Raises a value, and reads another.
+// Raises a value, and reads another, which is as it was if the two keys differ. There are no fewer pairs than before.
 fn raise_then_read<const N: usize>(
     map: &mut Map<u8, u8, N>,
     key: u8,

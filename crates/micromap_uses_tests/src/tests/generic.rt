@@ -17,7 +17,7 @@ ghost use Rattle.micromap.specs.Texts.{item_texts, key_texts};
 
 use micromap::{Map, Overfull, Set};
 
-// Inserts an item. A full set loses its first item for a new one, and that item is returned.
+// Inserts an item. A full set loses its first item for a new one. Of the result the contract says nothing.
 #[tactic(auto, using(std::proofs::lemmas::Grind::common_steps))]
 fn add_newest<T: Eq + Drop, const N: usize>(set: &mut Set<T, N>, item: T) -> Option<T>
     requires { 0 < N }
@@ -32,7 +32,8 @@ fn add_newest<T: Eq + Drop, const N: usize>(set: &mut Set<T, N>, item: T) -> Opt
     first
 }
 
-// Takes the first pair out. Its key found its value, and finds none now.
+// Takes the first pair out, if any. The contract says that its key found its value and finds none now, and that the
+// others stay.
 fn take_first<K: Eq + Drop, V: Drop, const N: usize>(map: &mut Map<K, V, N>) -> Option<(K, V)>
     ensures found { IfSome result (λ p. at K.eq map.old p.0 ≡ Some p.1) }
     ensures gone { IfSome result (λ p. IsFalse (has K.eq map.new p.0)) }
@@ -41,7 +42,8 @@ fn take_first<K: Eq + Drop, V: Drop, const N: usize>(map: &mut Map<K, V, N>) -> 
     map.pop_first()
 }
 
-// How many different keys the pairs have, or `None` if they are more than `N`. The map is a local of any type.
+// Inserts these pairs into a local map of any type, and returns its length, or `None` if one has no room. The contract
+// says only that the length is at most `N`.
 fn count_keys<K: Eq + Copy, V: Copy, const N: usize>(pairs: &[(K, V)]) -> Option<usize>
     requires { MapFits K.row V.row N.row K.eq }
     ensures { IfSome result (λ count. count ≤ N) }
@@ -68,7 +70,7 @@ fn count_items<T: Eq + Copy, const N: usize>(items: &[T]) -> Option<usize>
     Some(seen.len())
 }
 
-// Returns the first pair, and drops the others.
+// Empties the map. A pair that is returned was the first.
 fn first_drained<K: Eq + Drop, V: Drop, const N: usize>(map: &mut Map<K, V, N>) -> Option<(K, V)>
     requires { IntoIterFits K.row V.row N.row }
     ensures first { IfSome result (λ p. slice_get map.old 0 ≡ Some p) }
@@ -78,7 +80,7 @@ fn first_drained<K: Eq + Drop, V: Drop, const N: usize>(map: &mut Map<K, V, N>) 
     Some(first)
 }
 
-// Returns the first key, and drops the others.
+// Returns the first key, and drops the others. Of `None` the contract says nothing.
 fn first_key<K: Eq + Drop, V: Drop, const N: usize>(map: Map<K, V, N>) -> Option<K>
     requires { IntoKeysFits K.row V.row N.row }
     ensures { IfSome result (λ k. slice_get (keys_of map) 0 ≡ Some k) }
@@ -87,7 +89,7 @@ fn first_key<K: Eq + Drop, V: Drop, const N: usize>(map: Map<K, V, N>) -> Option
     Some(first)
 }
 
-// Returns the first value, and drops the others.
+// Returns the first value, and drops the others. Of `None` the contract says nothing.
 fn first_value<K: Eq + Drop, V: Drop, const N: usize>(map: Map<K, V, N>) -> Option<V>
     requires { IntoValuesFits K.row V.row N.row }
     ensures { IfSome result (λ v. slice_get (values_of map) 0 ≡ Some v) }
@@ -96,7 +98,7 @@ fn first_value<K: Eq + Drop, V: Drop, const N: usize>(map: Map<K, V, N>) -> Opti
     Some(first)
 }
 
-// Returns the first item, and drops the others.
+// Returns the first item, and drops the others. Of `None` the contract says nothing.
 fn first_item<T: Eq + Drop, const N: usize>(set: Set<T, N>) -> Option<T>
     requires { SetIntoIterFits T.row N.row }
     ensures { IfSome result (λ x. slice_get set 0 ≡ Some x) }
@@ -105,7 +107,7 @@ fn first_item<T: Eq + Drop, const N: usize>(set: Set<T, N>) -> Option<T>
     Some(first)
 }
 
-// Puts a pair last if its key is new and there is room.
+// Puts a pair last and returns `true`, or changes nothing. The contract doesn't say when.
 fn append<K: Eq + Drop, V: Drop, const N: usize>(map: &mut Map<K, V, N>, key: K, value: V) -> bool
     ensures { map.new ≡ (if result then map.old ++ (key, value) ∷ [] else map.old) }
 {
@@ -116,7 +118,7 @@ fn append<K: Eq + Drop, V: Drop, const N: usize>(map: &mut Map<K, V, N>, key: K,
     true
 }
 
-// Inserts a pair if it fits. One that doesn't has a new key, and the map is full.
+// Inserts a pair if it fits. If it returns `false`, the key is new and the map is full.
 fn put_or_refuse<K: Eq + Drop, V: Drop, const N: usize>(
     map: &mut Map<K, V, N>,
     key: K,
@@ -135,7 +137,7 @@ fn is_among_keys<K: Eq, V, const N: usize>(map: &Map<K, V, N>, key: &K) -> bool
     map.contains_key(key)
 }
 
-// Puts pairs one after the other, up to the first that doesn't fit. If one doesn't, they would be more than `N`.
+// Puts all pairs, one after the other, if it returns `true`. If it returns `false`, they would be more than `N`.
 #[tactic(auto, using(micromap::proofs::Rules::lists, micromap::proofs::Rules::maps))]
 fn put_each<K: Eq + Copy + Drop, const N: usize>(map: &mut Map<K, u8, N>, items: &[(K, u8)]) -> bool
     ensures put { OnTrue result (map.new ≡ put_all K.eq map.old items.now) }
@@ -151,7 +153,8 @@ fn put_each<K: Eq + Copy + Drop, const N: usize>(map: &mut Map<K, u8, N>, items:
     true
 }
 
-// Puts pairs and reads a key: of the pairs with it the last stands.
+// Puts pairs and reads a key: of the pairs with it the last stands, and else what it had. Of `None` the contract says
+// nothing.
 fn put_each_then_read<K: Eq + Copy + Drop, const N: usize>(
     map: &mut Map<K, u8, N>,
     items: &[(K, u8)],
@@ -166,7 +169,7 @@ fn put_each_then_read<K: Eq + Copy + Drop, const N: usize>(
     Some(map.get(key).copied())
 }
 
-// Adds items one after the other, up to the first that doesn't fit. If one doesn't, they would be more than `N`.
+// Adds all items, one after the other, if it returns `true`. If it returns `false`, they would be more than `N`.
 #[tactic(auto, using(micromap::proofs::Rules::lists, micromap::proofs::Rules::sets))]
 fn add_each<T: Eq + Copy + Drop, const N: usize>(set: &mut Set<T, N>, items: &[T]) -> bool
     ensures added { OnTrue result (set.new ≡ put_all_items T.eq set.old items.now) }
@@ -196,7 +199,7 @@ fn put_set_items<const N: usize>(set: &mut Set<u8, N>, items: Vec<u8>) -> Result
     set.try_extend(items.into_iter())
 }
 
-// Adds to a number, and so to the sum.
+// Adds one to a key's number, or puts 1 at a new key. The contract says that the sum grows by one.
 #[tactic(auto, using(micromap::proofs::Rules::maps))]
 fn add_one<K: Eq + Drop, const N: usize>(map: &mut Map<K, u64, N>, key: K)
     requires fits { IsTrue (fits K.eq N map.old key) }
@@ -218,7 +221,7 @@ struct Stock {
     price: u64,
 }
 
-// Takes an article out, and returns how many of it there were.
+// Takes an article out, and returns by how much the sum of all counts falls.
 #[tactic(auto, using(micromap::proofs::Rules::maps))]
 fn clear_out<K: Eq + Drop, const N: usize>(map: &mut Map<K, Stock, N>, key: &K) -> u64
     ensures { sum_by (λ s. s.count) (values_of map.new) + result ≡ sum_by (λ s. s.count) (values_of map.old) }
@@ -229,14 +232,14 @@ fn clear_out<K: Eq + Drop, const N: usize>(map: &mut Map<K, Stock, N>, key: &K) 
     }
 }
 
-// Whether each key finds the same in both.
+// Compares two maps. If it returns `true`, each key finds the same in both.
 fn find_same<const N: usize, const M: usize>(one: &Map<u8, u8, N>, other: &Map<u8, u8, M>) -> bool
     ensures { OnTrue result ((k : _) → at nat_eq one.now k ≡ at nat_eq other.now k) }
 {
     one.eq_with(other)
 }
 
-// Whether no key is in one map alone, and none has unequal values.
+// Compares two maps. If it returns `true`, no key is in one of them alone, and none has unequal values.
 fn has_no_difference<const N: usize>(one: &Map<u8, u8, N>, other: &Map<u8, u8, N>) -> bool
     ensures one { IsTrue result → filter (λ p. not (has nat_eq other.now p.0)) one.now ≡ [] }
     ensures other { IsTrue result → filter (λ p. not (has nat_eq one.now p.0)) other.now ≡ [] }

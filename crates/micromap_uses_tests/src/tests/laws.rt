@@ -17,7 +17,7 @@ use micromap::{Map, Set, Text};
 use micromap_testing::Marked;
 use std::alloc::{AllocError, Global};
 
-// Gives a name a value if it has none, and returns whether it has one now.
+// Gives a name a value if it has none and there is room, and returns whether it has one now.
 fn set_default<const N: usize>(
     map: &mut Map<String, String, N>,
     name: String,
@@ -32,7 +32,7 @@ fn set_default<const N: usize>(
     map.checked_insert(name, value).is_some()
 }
 
-// Writes the value of a name that is there.
+// Writes the value of a name that is there, and returns whether it is.
 fn overwrite<const N: usize>(map: &mut Map<String, String, N>, name: &str, value: String) -> bool
     ensures answer { result ≡ is_some (lookup (is_text name.now) map.old) }
     ensures pairs { map.new ≡ set_value (is_text name.now) map.old value }
@@ -46,7 +46,8 @@ fn overwrite<const N: usize>(map: &mut Map<String, String, N>, name: &str, value
     }
 }
 
-// Moves the value of one name to another, which goes to its index or to the end.
+// Moves the value of one name to another, which goes to its index or to the end. Returns whether there was one; if not,
+// nothing changes.
 fn rename<const N: usize>(map: &mut Map<String, String, N>, from: &str, to: String) -> bool
     ensures answer { result ≡ is_some (lookup (is_text from.now) map.old) }
     ensures pairs { map.new ≡ option_map_or (λ v. put string_eq (remove_entry (is_text from.now) map.old) to v) (lookup (is_text from.now) map.old) map.old }
@@ -60,7 +61,7 @@ fn rename<const N: usize>(map: &mut Map<String, String, N>, from: &str, to: Stri
     }
 }
 
-// Two puts, and a look-up of the first key.
+// Puts 1 at one key and 2 at another, and reads the first: it has 2 if the two are equal, and else 1.
 fn put_two(map: &mut Map<u8, u8, 8>, a: u8, b: u8) -> Option<u8>
     requires { length map.old ≤ 6 }
     ensures { result ≡ (if nat_eq b a then Some 2 else Some 1) }
@@ -70,7 +71,7 @@ fn put_two(map: &mut Map<u8, u8, 8>, a: u8, b: u8) -> Option<u8>
     map.get(&a).copied()
 }
 
-// Puts at one key and reads another.
+// Puts 1 at one key and reads another: it has 1 if the two are equal, and else what it had.
 fn put_then_read(map: &mut Map<String, u8, 8>, a: String, b: &String) -> Option<u8>
     requires { IsTrue (fits string_eq 8 map.old a) }
     ensures order { result ≡ (if string_eq b.now a then Some 1 else at string_eq map.old b.now) }
@@ -80,7 +81,7 @@ fn put_then_read(map: &mut Map<String, u8, 8>, a: String, b: &String) -> Option<
     map.get(b).copied()
 }
 
-// Puts and reads at keys that are equal by their id.
+// The same of keys that are compared by their id.
 fn put_marked(map: &mut Map<Marked, u8, 8>, a: Marked, b: &Marked) -> Option<u8>
     requires { IsTrue (fits (on (λ k. k.id) nat_eq) 8 map.old a) }
     ensures { result ≡ (if nat_eq a.id b.now.id then Some 1 else at (on (λ k. k.id) nat_eq) map.old b.now) }
@@ -89,7 +90,7 @@ fn put_marked(map: &mut Map<Marked, u8, 8>, a: Marked, b: &Marked) -> Option<u8>
     map.get(b).copied()
 }
 
-// Puts and reads at keys of any type.
+// The same of keys of any type.
 fn put_any<K: Eq + Drop>(map: &mut Map<K, u8, 8>, a: K, b: &K) -> Option<u8>
     requires { IsTrue (fits K.eq 8 map.old a) }
     ensures order { result ≡ (if K.eq b.now a then Some 1 else at K.eq map.old b.now) }
@@ -99,7 +100,7 @@ fn put_any<K: Eq + Drop>(map: &mut Map<K, u8, 8>, a: K, b: &K) -> Option<u8>
     map.get(b).copied()
 }
 
-// Inserts and looks for items of any type.
+// Inserts an item of any type and looks for another: it is there if the two are equal, or if it was there.
 fn insert_any<T: Eq + Drop>(set: &mut Set<T, 8>, a: T, b: &T) -> bool
     requires { IsTrue (item_fits T.eq 8 set.old a) }
     ensures order { result ≡ (T.eq b.now a || is_member T.eq set.old b.now) }
@@ -124,7 +125,7 @@ fn take_word(set: &mut Set<String, 8>, word: &String)
     set.take(word);
 }
 
-// Removes a number by its entry, and returns whether it was there. The other keys keep their order.
+// Removes a number by its entry. The other keys keep their order. Of the result the contract says nothing.
 fn leave_out<const N: usize>(map: &mut Map<u8, u8, N>, number: u8) -> bool
     ensures { keys_of map.new ≡ filter (λ k. not (nat_eq number k)) (keys_of map.old) }
 {
@@ -166,7 +167,7 @@ fn set_named<const N: usize>(
     Ok(map.checked_insert(name, value).is_some())
 }
 
-// Puts at one name and reads another, both seen by their bytes.
+// Puts 1 at one name and reads another, both seen by their bytes: it has 1 if the two are equal, and else what it had.
 fn put_then_read_text(map: &mut Map<String, u8, 8>, a: String, b: &str) -> Option<u8>
     requires { IsTrue (fits string_eq 8 map.old a) }
     ensures order { result ≡ (if bytes_eq b.now (string_bytes a) then Some 1 else at bytes_eq (key_texts map.old) b.now) }
@@ -203,7 +204,7 @@ fn unnote<const N: usize>(words: &mut Set<String, N>, word: &str) -> bool
     was_there
 }
 
-// Caps each value, and returns whether a key is stored, as it was before.
+// Caps each value, and returns whether a key is stored, as it was before. Of the values the contract says nothing.
 fn capped<const N: usize>(map: &mut Map<u8, u8, N>, most: u8, key: &u8) -> bool
     ensures { result ≡ has nat_eq map.old key.now }
 {

@@ -12,7 +12,7 @@ ghost use Rattle.micromap.specs.Operations.{difference, intersection, symmetric_
 use micromap::{Map, Overfull, Set};
 use std::alloc::AllocError;
 
-// The numbers that are in both sets. They are refused exactly if there are more than `L`.
+// The numbers that are in both sets. The contract says only when they are refused: exactly if there are more than `L`.
 fn common_items<const N: usize, const M: usize, const L: usize>(
     first: &Set<u8, N>,
     second: &Set<u8, M>,
@@ -32,7 +32,7 @@ fn first_items<const N: usize, const M: usize, const L: usize>(
     Set::try_from_iter(first.difference(second).copied())
 }
 
-// The same of the numbers that are in one of the two sets.
+// The same of the numbers that are in just one of the two sets.
 fn single_items<const N: usize, const M: usize, const L: usize>(
     first: &Set<u8, N>,
     second: &Set<u8, M>,
@@ -42,7 +42,7 @@ fn single_items<const N: usize, const M: usize, const L: usize>(
     Set::try_from_iter(first.symmetric_difference(second).copied())
 }
 
-// The distinct numbers of a list, in the order in which each first came, or `None` if there are more than `N`.
+// The distinct numbers of a list, in the order in which each first came, or `None` exactly if there are more than `N`.
 #[tactic(auto, using(micromap::proofs::Rules::lists))]
 fn distinct_items<const N: usize>(items: &[u8]) -> Option<Set<u8, N>>
     ensures items { IfSome result (λ set. set ≡ distinct nat_eq items.now) }
@@ -58,21 +58,21 @@ fn distinct_items<const N: usize>(items: &[u8]) -> Option<Set<u8, N>>
     Some(set)
 }
 
-// The distinct numbers of a list that is taken by value, by one call.
+// Makes a set of a vector's items. If it is refused, more than `N` of them are distinct.
 fn collected_items<const N: usize>(items: Vec<u8>) -> Result<Set<u8, N>, Overfull>
     ensures { IfErr result (λ _. N < distinct_count nat_eq (vec_items items)) }
 {
     Set::try_from_iter(items.into_iter())
 }
 
-// The pairs of a list that is taken by value, by one call.
+// Makes a map of a vector's pairs. If it is refused, they have more than `N` distinct keys.
 fn collected_pairs<const N: usize>(pairs: Vec<(u8, u8)>) -> Result<Map<u8, u8, N>, Overfull>
     ensures { IfErr result (λ _. N < distinct_count nat_eq (keys_of (vec_items pairs))) }
 {
     Map::try_from_iter(pairs.into_iter())
 }
 
-// The map of these pairs, or the position of the first that doesn't fit.
+// The map of these pairs, or the position of the first that doesn't fit. Then they have more than `N` distinct keys.
 fn pairs_of<const N: usize>(pairs: &[(u8, u8)]) -> Result<Map<u8, u8, N>, Overfull>
     ensures built { IfOk result (λ map. map ≡ build nat_eq pairs.now) }
     ensures misfit { IfErr result (λ e. MisfitIn nat_eq N [] pairs.now e.at) }
@@ -89,7 +89,7 @@ fn put_pairs<const N: usize>(map: &mut Map<u8, u8, N>, pairs: &[(u8, u8)]) -> Re
     map.try_extend(pairs.iter().copied())
 }
 
-// The set of these items, which is refused if more than `N` of them are distinct.
+// The set of these items, which is refused only if more than `N` of them are distinct.
 fn items_of<const N: usize>(items: &[u8]) -> Result<Set<u8, N>, Overfull>
     ensures built { IfOk result (λ set. set ≡ distinct nat_eq items.now) }
     ensures many { IfErr result (λ _. N < distinct_count nat_eq items.now) }

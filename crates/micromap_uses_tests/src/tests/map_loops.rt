@@ -14,7 +14,7 @@ use micromap::{Map, Overfull, Set};
 use micromap_uses::board::{Board, Square};
 use std::alloc::AllocError;
 
-// A pair whose value is over the limit, if there is one. `get` finds that value at its key.
+// A pair whose value is over the limit, if one is found. `get` finds that value at its key.
 fn pair_over<const N: usize>(map: &Map<u8, u8, N>, limit: u8) -> Option<(u8, u8)>
     ensures found { IfSome result (λ p. at nat_eq map.now p.0 ≡ Some p.1) }
     ensures over { IfSome result (λ p. limit < p.1) }
@@ -27,7 +27,7 @@ fn pair_over<const N: usize>(map: &Map<u8, u8, N>, limit: u8) -> Option<(u8, u8)
     None
 }
 
-// A square with this piece, if there is one.
+// A square with this piece, if one is found.
 fn square_of<const N: usize>(board: &Board<N>, piece: char) -> Option<Square>
     ensures { IfSome result (λ square. at ⟦<Square as PartialEq>⟧.eq board.now square ≡ Some piece) }
 {
@@ -39,7 +39,7 @@ fn square_of<const N: usize>(board: &Board<N>, piece: char) -> Option<Square>
     None
 }
 
-// A key other than this one, if there is one.
+// A key other than this one, if one is found. The contract says only that it is stored.
 fn key_other<const N: usize>(map: &Map<u8, u8, N>, other: u8) -> Option<u8>
     ensures { IfSome result (λ k. IsTrue (has nat_eq map.now k)) }
 {
@@ -51,7 +51,7 @@ fn key_other<const N: usize>(map: &Map<u8, u8, N>, other: u8) -> Option<u8>
     None
 }
 
-// An item over the limit, if there is one.
+// An item over the limit, if one is found.
 fn item_over<const N: usize>(set: &Set<u8, N>, limit: u8) -> Option<u8>
     ensures stored { IfSome result (λ x. IsTrue (is_member nat_eq set.now x)) }
     ensures over { IfSome result (λ x. limit < x) }
@@ -64,7 +64,7 @@ fn item_over<const N: usize>(set: &Set<u8, N>, limit: u8) -> Option<u8>
     None
 }
 
-// A pair whose value is over the limit, if there is one, for keys of any type.
+// A pair whose value is over the limit, if one is found, for keys of any type.
 fn any_over<K: Eq, const N: usize>(map: &Map<K, u8, N>, limit: u8) -> Option<(&K, u8)>
     ensures found { IfSome result (λ p. at K.eq map.now p.0.now ≡ Some p.1) }
     ensures over { IfSome result (λ p. limit < p.1) }
@@ -77,7 +77,7 @@ fn any_over<K: Eq, const N: usize>(map: &Map<K, u8, N>, limit: u8) -> Option<(&K
     None
 }
 
-// An item other than this one, if there is one, for items of any type.
+// An item other than this one, if one is found, for items of any type.
 fn other_than<'a, T: Eq, const N: usize>(set: &'a Set<T, N>, item: &T) -> Option<&'a T>
     ensures stored { IfSome result (λ x. IsTrue (is_member T.eq set.now x.now)) }
     ensures other { IfSome result (λ x. IsFalse (T.eq x.now item.now)) }
@@ -115,7 +115,8 @@ fn values_over<const N: usize>(map: &Map<u8, u8, N>, limit: u8) -> usize
     count
 }
 
-// How many different bytes there are, or `None` where they are more than `N`. The map is a local of any capacity.
+// Inserts these bytes into a local map of any capacity up to 1000, and returns its length, or `None` if one has no
+// room. The contract says only that the length is at most `N`.
 fn count_different<const N: usize>(bytes: &[u8]) -> Option<usize>
     requires { N ≤ 1000 }
     ensures { IfSome result (λ count. count ≤ N) }
@@ -169,7 +170,7 @@ fn pairs_over<const N: usize>(map: &Map<u8, u8, N>, limit: u8) -> Map<u8, u8, N>
     kept
 }
 
-// Each key with twice its value, in their order.
+// Each key with twice its value, up to 255, in their order.
 #[tactic(auto, using(micromap::proofs::Rules::loops))]
 fn doubled<const N: usize>(amounts: &Map<u8, u8, N>) -> Map<u8, u8, N>
     ensures { result ≡ map (λ p. (p.0, min (p.1 + p.1) 255)) amounts.now }
@@ -181,7 +182,7 @@ fn doubled<const N: usize>(amounts: &Map<u8, u8, N>) -> Map<u8, u8, N>
     doubled
 }
 
-// Adds the pairs of another map, up to the first that doesn't fit. If one doesn't, they would be more than `N`.
+// Puts all pairs of another map if it returns `true`. If it returns `false`, they would be more than `N`.
 #[tactic(auto, using(micromap::proofs::Rules::loops))]
 pub(super) fn add_all<const N: usize, const M: usize>(
     map: &mut Map<u8, u8, N>,
@@ -208,7 +209,7 @@ fn drop_first<K: Eq + Drop, V: Drop, const N: usize>(map: &mut Map<K, V, N>, mis
     map.pop_first();
 }
 
-// Puts the pairs of the second map over those of the first. If they don't all fit, the first map is unchanged.
+// Puts the pairs of the second map over those of the first. After an error the first map is as it was.
 fn merge<const N: usize, const M: usize>(
     first: &mut Map<u8, u8, N>,
     second: Map<u8, u8, M>,
@@ -254,7 +255,8 @@ fn have_keys_in_order<const N: usize, const M: usize>(
     first.keys().eq(second.keys())
 }
 
-// Inserts a number into a map and into a set that has the keys of the map.
+// Inserts a number into a map and into a set that has the keys of the map. It has them in the same order afterwards
+// too.
 #[tactic(auto, using(micromap::proofs::Rules::caller, micromap::proofs::Rules::loops))]
 fn add_to_both<const N: usize>(map: &mut Map<u8, u8, N>, keys: &mut Set<u8, N>, key: u8, value: u8)
     requires keys { keys.old ≡ keys_of map.old }
@@ -265,7 +267,7 @@ fn add_to_both<const N: usize>(map: &mut Map<u8, u8, N>, keys: &mut Set<u8, N>, 
     map.insert(key, value);
 }
 
-// Moves a map into a capacity of 8. Its pairs are what is built of them.
+// Moves a map into a capacity of 8. Its pairs are what is built of them. Of `None` the contract says nothing.
 #[tactic(auto, using(micromap::proofs::Rules::caller, micromap::proofs::Rules::loops))]
 fn rebuilt<const N: usize>(map: Map<u8, u8, N>) -> Option<Map<u8, u8, 8>>
     ensures { IfSome result (λ moved. moved ≡ build nat_eq map.entry) }
@@ -273,7 +275,7 @@ fn rebuilt<const N: usize>(map: Map<u8, u8, N>) -> Option<Map<u8, u8, 8>>
     map.into_capacity().ok()
 }
 
-// Takes the first pair out. Its key was there.
+// Takes the first pair out, if any. The contract says that its key was there.
 #[tactic(auto, using(micromap::proofs::Rules::caller, micromap::proofs::Rules::loops))]
 fn take_known<K: Eq + Drop, V: Drop, const N: usize>(map: &mut Map<K, V, N>) -> Option<(K, V)>
     ensures { IfSome result (λ pair. IsTrue (has K.eq map.old pair.0)) }
@@ -281,7 +283,7 @@ fn take_known<K: Eq + Drop, V: Drop, const N: usize>(map: &mut Map<K, V, N>) -> 
     map.pop_first()
 }
 
-// Puts a value at a key if there is room for any key, and returns whether there was.
+// Puts a value at a key if there is room for any key. The contract says only that there was if it returns `true`.
 #[tactic(auto, using(micromap::proofs::Rules::caller, micromap::proofs::Rules::loops))]
 fn put_into_room<K: Eq + Drop, const N: usize>(map: &mut Map<K, u8, N>, key: K) -> bool
     ensures { OnTrue result (length map.old < N) }

@@ -20,7 +20,8 @@ ghost use Rattle.micromap_uses_tests.specs.Totals.{greater, is_summed, saturated
 use micromap::{Map, Overfull, Set};
 use std::alloc::AllocError;
 
-// Adds each amount to its number's total. If there is no room for a number, there would be more than `N`.
+// Adds each amount to its number's total, up to the greatest number, if it returns `true`. New numbers go last, in the
+// order in which each first came. If it returns `false`, there would be more than `N`.
 #[tactic(auto, using(micromap::proofs::Rules::lists))]
 fn add_amounts<const N: usize>(totals: &mut Map<u8, u32, N>, amounts: &[(u8, u32)]) -> bool
     ensures totals { OnTrue result (totals.new ≡ merged nat_eq saturated_sum totals.old amounts.now) }
@@ -38,7 +39,8 @@ fn add_amounts<const N: usize>(totals: &mut Map<u8, u32, N>, amounts: &[(u8, u32
     true
 }
 
-// Adds amounts and reads a total: it is the old one with the amounts of its number.
+// Adds amounts, each total up to the greatest number, and reads a total: it is the old one with the amounts of its
+// number. Of `None` the contract says nothing.
 fn add_then_read<const N: usize>(
     totals: &mut Map<u8, u32, N>,
     amounts: &[(u8, u32)],
@@ -52,7 +54,7 @@ fn add_then_read<const N: usize>(
     Some(totals.get(&number).copied())
 }
 
-// The totals of a list, by entry. They are refused exactly if it has more than `N` numbers.
+// The totals of a list, each up to the greatest number, by entry. They are refused exactly if it has more than `N` numbers.
 fn totals_of<const N: usize>(amounts: &[(u8, u32)]) -> Option<Map<u8, u32, N>>
     ensures totals { IfSome result (λ totals. totals ≡ merged nat_eq saturated_sum [] amounts.now) }
     ensures refused { IsNone result ↔ (N < distinct_count nat_eq (keys_of amounts.now)) }
@@ -88,7 +90,7 @@ fn groups_of<const N: usize, const M: usize>(list: &[(u8, u8)]) -> Option<Map<u8
     Some(groups)
 }
 
-// Keeps the greatest amount of each number.
+// Keeps the greatest amount of each number, if it returns `true`. Of `false` the contract says nothing.
 fn keep_greatest<const N: usize>(greatest: &mut Map<u8, u32, N>, amounts: &[(u8, u32)]) -> bool
     ensures { OnTrue result (greatest.new ≡ merged nat_eq greater greatest.old amounts.now) }
 {
@@ -105,7 +107,8 @@ fn keep_greatest<const N: usize>(greatest: &mut Map<u8, u32, N>, amounts: &[(u8,
     true
 }
 
-// Adds the amounts before the first whose number has no room, or whose total has more than 32 bits, and returns its index.
+// Adds the amounts before the first whose number has no room, or whose total has more than 32 bits, and returns its
+// index, or adds all.
 #[tactic(auto, using(micromap::proofs::Rules::lists, std::proofs::lemmas::Grind::common_steps))]
 fn add_before<const N: usize>(
     totals: &mut Map<u8, u32, N>,
@@ -130,7 +133,7 @@ fn add_before<const N: usize>(
     Ok(())
 }
 
-// How often each number comes, or `None` if there are more than `N`, or one comes more than 255 times.
+// How often each number comes, or `None`, of which the contract says nothing.
 #[tactic(auto, using(micromap::proofs::Rules::lists))]
 fn count_numbers<const N: usize>(amounts: &[(u8, u32)]) -> Option<Map<u8, u8, N>>
     ensures { IfSome result (λ numbers. numbers ≡ counts nat_eq (keys_of amounts.now)) }
@@ -143,7 +146,8 @@ fn count_numbers<const N: usize>(amounts: &[(u8, u32)]) -> Option<Map<u8, u8, N>
     Some(numbers)
 }
 
-// Adds another map's amounts.
+// Adds another map's amounts, each sum up to the greatest number, if it returns `true`. Of `false` the contract says
+// nothing.
 fn add_map<const N: usize, const M: usize>(
     totals: &mut Map<u8, u32, N>,
     amounts: &Map<u8, u32, M>,
@@ -162,7 +166,7 @@ fn add_map<const N: usize, const M: usize>(
     true
 }
 
-// Adds a vector's amounts.
+// The same of a vector's amounts.
 fn add_vector<const N: usize>(totals: &mut Map<u8, u32, N>, amounts: Vec<(u8, u32)>) -> bool
     ensures { OnTrue result (totals.new ≡ merged nat_eq saturated_sum totals.old (vec_items amounts)) }
 {
@@ -178,7 +182,8 @@ fn add_vector<const N: usize>(totals: &mut Map<u8, u32, N>, amounts: Vec<(u8, u3
     true
 }
 
-// Adds an iterator's amounts before the first whose number has no room.
+// Adds an iterator's amounts before the first whose number has no room, each total up to the greatest number, or adds
+// all.
 fn add_all<I: Iterator<Item = (u8, u32)>, const N: usize>(
     totals: &mut Map<u8, u32, N>,
     amounts: I,
@@ -201,7 +206,8 @@ fn add_all<I: Iterator<Item = (u8, u32)>, const N: usize>(
     Ok(())
 }
 
-// Adds the amounts of another map, up to the first name for which there is no room. Returns whether all had room.
+// Adds the amounts of another map, each sum up to the greatest number, and returns whether all names have room. What is
+// added if one has none, the contract doesn't say.
 #[tactic(auto, using(micromap::proofs::Rules::lists, micromap::proofs::Rules::loops))]
 fn add_text_map<const N: usize, const M: usize>(
     totals: &mut Map<String, u32, N>,

@@ -106,7 +106,8 @@ fn remove_word<const N: usize>(words: &mut Set<String, N>, word: &str) -> bool
     words.remove_by(&Text(word))
 }
 
-// Moves the value of one name to another, which goes to its index or to the end.
+// Moves the value of one name to another, which goes to its index or to the end. Returns whether there was one; if not,
+// nothing changes.
 fn rename<const N: usize>(map: &mut Map<String, u8, N>, from: &str, to: String) -> bool
     ensures answer { result ≡ has bytes_eq (key_texts map.old) from.now }
     ensures texts { key_texts map.new ≡ option_map_or (λ v. put bytes_eq (take_out bytes_eq (key_texts map.old) from.now) (string_bytes to) v) (at bytes_eq (key_texts map.old) from.now) (key_texts map.old) }
@@ -120,7 +121,7 @@ fn rename<const N: usize>(map: &mut Map<String, u8, N>, from: &str, to: String) 
     }
 }
 
-// Sets the text of a name. Returns the old one, or `None` if there was no room.
+// Sets the text of a name if it fits. Returns the old one, if any, or `None` if it doesn't fit.
 fn exchange<const N: usize>(
     alloc: Global,
     map: &mut Map<String, String, N>,
@@ -141,7 +142,7 @@ fn drop_beginning<const N: usize>(words: &mut Set<String, N>, text: &str)
     words.retain(|word| !word.starts_with(text));
 }
 
-// The sum of all numbers.
+// The sum of all numbers, which must fit.
 fn total<const N: usize>(numbers: &Map<String, u64, N>) -> u64
     requires { sum (values_of (key_texts numbers.now)) < 2 ^ 64 }
     ensures { result ≡ sum (values_of (key_texts numbers.now)) }
@@ -238,7 +239,7 @@ fn is_folded(text: &[u8], folded: &[u8]) -> bool
     }
 }
 
-// The age of a name that is given in any case.
+// The age of a name that is given in any case, and stored in small letters.
 fn age_of<const N: usize>(ages: &Map<String, u8, N>, name: &str) -> Option<u8>
     ensures { result ≡ at bytes_eq (key_texts ages.now) (str_to_ascii_lowercase name.now) }
 {

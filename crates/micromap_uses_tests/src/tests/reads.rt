@@ -12,7 +12,8 @@ ghost use Rattle.micromap.specs.Texts.{item_texts, key_texts};
 
 use micromap::{Map, Set, Text};
 
-// Gives a lease another number, which is new: there is no pair where `get` finds nothing.
+// Gives a lease another number. If it returns `true`, there was no pair at that number: there is none where `get` finds
+// nothing.
 fn reissue<const N: usize>(leases: &mut Map<u8, u8, N>, from: u8, to: u8) -> bool
     ensures { IsTrue result → pair nat_eq leases.old to ≡ None }
 {
@@ -35,7 +36,7 @@ fn is_open<const N: usize>(leases: &Map<u8, u8, N>, number: u8) -> bool
     leases.get_key_value(&number).is_some()
 }
 
-// Whether two numbers are equal. Then both are there, or neither is.
+// Compares two numbers. If it returns `true`, both are there, or neither is.
 fn are_one<const N: usize>(leases: &Map<u8, u8, N>, one: u8, other: u8) -> bool
     ensures { IsTrue result → has nat_eq leases.now one ≡ has nat_eq leases.now other }
 {
@@ -56,7 +57,8 @@ fn first_over<const N: usize>(amounts: &Map<u8, u8, N>, limit: u8) -> Option<(u8
     None
 }
 
-// The same: `get` finds its amount at its key, and where there is none, no pair that a key finds is over the limit.
+// A pair whose amount is over the limit, which `get` finds at its key. If there is none, no pair that a key finds is
+// over the limit.
 #[tactic(auto, using(micromap::proofs::Rules::maps))]
 fn over<const N: usize>(amounts: &Map<u8, u8, N>, limit: u8) -> Option<(u8, u8)>
     ensures found { IfSome result (λ p. at nat_eq amounts.now p.0 ≡ Some p.1) }
@@ -74,7 +76,7 @@ fn are_below<const N: usize>(amounts: &Map<u8, u8, N>, limit: u8) -> bool
     amounts.values().all(|v| *v < limit)
 }
 
-// The same, of each value that `get` finds.
+// The same. If it returns `true`, each value that `get` finds is below the limit.
 #[tactic(auto, using(micromap::proofs::Rules::maps))]
 fn each_below<const N: usize>(amounts: &Map<u8, u8, N>, limit: u8) -> bool
     ensures { IsTrue result → (k v : _) → at nat_eq amounts.now k ≡ Some v → IsTrue (nat_lt v limit) }
@@ -89,7 +91,7 @@ fn are_small<const N: usize>(items: &Set<u8, N>, limit: u8) -> bool
     items.iter().all(|x| *x < limit)
 }
 
-// The same, of each member.
+// The same. If it returns `true`, each member is below the limit.
 #[tactic(auto, using(micromap::proofs::Rules::sets))]
 fn each_small<const N: usize>(items: &Set<u8, N>, limit: u8) -> bool
     ensures { IsTrue result → (x : _) → IsTrue (is_member nat_eq items.now x) → IsTrue (nat_lt x limit) }

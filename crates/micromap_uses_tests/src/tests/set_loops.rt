@@ -9,7 +9,8 @@ ghost use Rattle.micromap.specs.Operations.{difference, union};
 
 use micromap::Set;
 
-// Adds the items of another set, up to the first that doesn't fit. If all fit, the set is the union.
+// Adds the items of another set. If it returns `true`, the set is the union. If it returns `false`, the union has more
+// than `N` items.
 pub(super) fn add_all_items<const N: usize, const M: usize>(
     set: &mut Set<u8, N>,
     other: &Set<u8, M>,
@@ -67,7 +68,7 @@ fn items_over<const N: usize>(items: &Set<u8, N>, limit: u8) -> Set<u8, N>
     kept
 }
 
-// The items of two sets, or `None` if there are more than `N`.
+// The items of two sets, or `None` exactly if there are more than `N`.
 fn all_items<const N: usize, const M: usize, const L: usize>(
     one: &Set<u8, M>,
     other: &Set<u8, L>,

@@ -17,7 +17,7 @@ ghost use Rattle.micromap.specs.Texts.{item_strs, key_strs, key_texts, texts};
 use micromap::{Map, Set, Text};
 use std::alloc::{AllocError, Global};
 
-// Each name with twice its amount, in their order.
+// Each name with twice its amount, up to 255, in their order.
 fn doubled<const N: usize>(amounts: &Map<String, u8, N>) -> Result<Map<String, u8, N>, AllocError>
     ensures { IfOk result (λ new. key_texts new ≡ map (λ p. (p.0, min (p.1 + p.1) 255)) (key_texts amounts.now)) }
 {
@@ -44,7 +44,7 @@ fn names_over<const N: usize>(
     Ok(kept)
 }
 
-// Puts the pairs of another map, up to the first that doesn't fit. If one doesn't, they would be more than `N`.
+// Puts all pairs of another map if it returns `true`. If it returns `false`, they would be more than `N`.
 fn add_all<const N: usize, const M: usize>(
     amounts: &mut Map<String, u8, N>,
     other: &Map<String, u8, M>,
@@ -61,7 +61,7 @@ fn add_all<const N: usize, const M: usize>(
     Ok(true)
 }
 
-// Puts the settings of another map, up to the first that doesn't fit. If one doesn't, they would be more than `N`.
+// Puts all settings of another map if it returns `true`. If it returns `false`, they would be more than `N`.
 #[tactic(auto, using(micromap::proofs::Rules::loops, micromap::proofs::Rules::texts))]
 fn overlay<const N: usize, const M: usize>(
     settings: &mut Map<String, String, N>,
@@ -111,7 +111,7 @@ fn keep_longer<const N: usize>(amounts: &mut Map<String, u8, N>, limit: usize)
     amounts.retain(|name, _| name.len() > limit);
 }
 
-// Doubles each amount.
+// Doubles each amount, up to 255.
 fn double_all<const N: usize>(amounts: &mut Map<String, u8, N>)
     ensures { key_texts amounts.new ≡ map (λ p. (p.0, min (p.1 + p.1) 255)) (key_texts amounts.old) }
 {
@@ -141,7 +141,7 @@ fn has_amounts(
     Ok(amounts.eq_with(&four_of(alloc, pairs)?))
 }
 
-// Each word with the number of times that it comes, or `None` if there are more than `N` words.
+// Each word with the number of times that it comes, or `None` if there are more than `N` different words.
 #[tactic(auto, using(micromap::proofs::Rules::maps, micromap::proofs::Rules::texts, micromap::proofs::Rules::lists, micromap::proofs::Rules::loops))]
 fn counted<const N: usize>(
     alloc: Global,
@@ -163,8 +163,8 @@ fn counted<const N: usize>(
     Ok(Some(counted))
 }
 
-// The map of these names and amounts, or `None` if there are more than `N` names. A name that comes again gets its last
-// amount.
+// The map of these names and amounts, or `None` if there are more than `N` different names. A name that comes again gets
+// its last amount.
 #[tactic(auto, using(micromap::proofs::Rules::maps, micromap::proofs::Rules::texts, micromap::proofs::Rules::lists, micromap::proofs::Rules::loops))]
 pub(super) fn amounts_of<const N: usize>(
     alloc: Global,
@@ -186,7 +186,8 @@ pub(super) fn amounts_of<const N: usize>(
     Ok(Some(amounts))
 }
 
-// The map of these names and texts, or `None` if there are more than `N` names. A name that comes again gets its last text.
+// The map of these names and texts, or `None` if there are more than `N` different names. A name that comes again gets its
+// last text.
 #[tactic(auto, using(micromap::proofs::Rules::maps, micromap::proofs::Rules::texts, micromap::proofs::Rules::lists, micromap::proofs::Rules::loops))]
 fn texts_of<const N: usize>(
     alloc: Global,
@@ -228,7 +229,8 @@ fn set<'a, const N: usize>(
     numbers.checked_insert(word, number)
 }
 
-// Moves the number of one word to another, which goes to its index or to the end.
+// Moves the number of one word to another, which goes to its index or to the end. Returns whether there was one; if
+// not, nothing changes.
 #[tactic(auto, using(micromap::proofs::Rules::caller))]
 fn rename<'a, const N: usize>(numbers: &mut Map<&'a str, u8, N>, from: &'a str, to: &'a str) -> bool
     ensures answer { result ≡ has bytes_eq (key_strs numbers.old) from.now }
@@ -254,7 +256,7 @@ fn have_same_numbers<'a, const N: usize, const M: usize>(
     one.eq_with(other)
 }
 
-// Adds a word if there is room, and returns whether it wasn't there.
+// Adds a word if it fits, and returns whether it wasn't there.
 #[tactic(auto, using(micromap::proofs::Rules::caller))]
 fn add<'a, const N: usize>(words: &mut Set<&'a str, N>, word: &'a str) -> bool
     ensures answer { result ≡ not (is_member bytes_eq (item_strs words.old) word.now) }
@@ -272,7 +274,7 @@ fn remove<'a, const N: usize>(words: &mut Set<&'a str, N>, word: &'a str) -> boo
     words.remove(&word)
 }
 
-// The first key of two maps with numbers of names at which they differ.
+// The first name at which two maps differ, or `None` if there is none.
 #[tactic(auto, using(micromap::proofs::Rules::caller))]
 fn first_changed<'a, const N: usize>(
     one: &'a Map<String, u8, N>,
@@ -284,8 +286,8 @@ fn first_changed<'a, const N: usize>(
     one.differs_at(other)
 }
 
-// The map of these words and numbers, or `None` if there are more than `N` words. A word that comes again gets its last
-// number.
+// The map of these words and numbers, or `None` if there are more than `N` different words. A word that comes again gets
+// its last number.
 #[tactic(auto, using(micromap_core::proofs::laws::MapLaws::map_laws, micromap_core::proofs::laws::TextViews::text_views, micromap_core::proofs::laws::CountLaws::count_laws, micromap_core::proofs::laws::TextLoops::text_loops))]
 fn numbers_of<'a, const N: usize>(list: &[(&'a str, u8)]) -> Option<Map<&'a str, u8, N>>
     ensures numbers { IfSome result (λ m. key_strs m ≡ build bytes_eq (map (λ p. (p.0.now, p.1)) list.now)) }
@@ -298,7 +300,7 @@ fn numbers_of<'a, const N: usize>(list: &[(&'a str, u8)]) -> Option<Map<&'a str,
     Some(numbers)
 }
 
-// Each word with the number of times that it comes, or `None` if there are more than `N` words.
+// Each word with the number of times that it comes, or `None`, of which the contract says nothing.
 #[tactic(auto, using(micromap_core::proofs::laws::MapLaws::map_laws, micromap_core::proofs::laws::TextViews::text_views, micromap_core::proofs::laws::CountLaws::count_laws, micromap_core::proofs::laws::TextLoops::text_loops))]
 fn counted_strs<'a, const N: usize>(words: &[&'a str]) -> Option<Map<&'a str, usize, N>>
     ensures { IfSome result (λ m. key_strs m ≡ counts bytes_eq (map (λ word. word.now) words.now)) }

@@ -17,7 +17,7 @@ ghost use Rattle.micromap.specs.Texts.{item_texts, key_texts, texts};
 use micromap::{Map, Set, Text};
 use std::alloc::{AllocError, Global};
 
-// The names of a set with a prefix.
+// Each name of a set with `x-` before it.
 fn prefixed<const N: usize>(
     alloc: Global,
     names: &Set<String, N>,
@@ -156,7 +156,7 @@ fn remove_listed<const N: usize>(names: &mut Set<String, N>, list: &[&str])
     }
 }
 
-// The set of these names, or `None` if there are more than `N`.
+// The set of these names, or `None` if there are more than `N` different ones.
 #[tactic(auto, using(micromap::proofs::Rules::lists, micromap::proofs::Rules::texts))]
 fn set_of<const N: usize>(
     alloc: Global,
@@ -178,7 +178,8 @@ fn set_of<const N: usize>(
     Ok(Some(set))
 }
 
-// Moves the amount of a name from one map to another, where it is added.
+// Moves the amount of a name from one map to another, where it is added, up to the greatest number, and returns it. If the
+// name is missing or has no room there, nothing changes.
 #[tactic(auto, using(micromap::proofs::Rules::caller, micromap::proofs::Rules::comparison))]
 fn transfer<const N: usize, const M: usize>(
     from: &mut Map<String, u64, N>,
@@ -198,7 +199,8 @@ fn transfer<const N: usize, const M: usize>(
     Some(amount)
 }
 
-// Puts a copy of a word into a set, and returns whether it fits. No copy is made of a word that doesn't.
+// Puts a copy of a word into a set, and returns whether it fits. No copy is made of a word that doesn't, which the
+// contract doesn't say.
 #[tactic(auto, using(micromap::proofs::Rules::caller, micromap::proofs::Rules::comparison))]
 fn put_copy<const N: usize>(
     alloc: Global,

@@ -16,7 +16,7 @@ use super::set_loops::add_all_items;
 use micromap::{Map, Set};
 use micromap_uses::permissions::Permission;
 
-// Grants a permission to a group that is there, and returns whether there was room for it.
+// Grants a permission to a group, and returns whether the group is there and has room for it.
 fn grant<const N: usize, const M: usize>(
     groups: &mut Map<u8, Set<u8, M>, N>,
     group: u8,
@@ -35,7 +35,7 @@ fn grant<const N: usize, const M: usize>(
     }
 }
 
-// Whether a group has all permissions of another, where both are there.
+// Whether a group has all permissions of another. If either is missing, it hasn't.
 fn covers<const N: usize, const M: usize>(
     groups: &Map<u8, Set<u8, M>, N>,
     group: u8,
@@ -50,7 +50,7 @@ fn covers<const N: usize, const M: usize>(
     }
 }
 
-// Whether two groups have no permission in common, where both are there.
+// Whether two groups have no permission in common. If either is missing, the answer is `false`.
 fn are_apart<const N: usize, const M: usize>(
     groups: &Map<u8, Set<u8, M>, N>,
     group: u8,
@@ -65,7 +65,8 @@ fn are_apart<const N: usize, const M: usize>(
     }
 }
 
-// Adds the permissions of another group, up to the first that doesn't fit, and returns whether all fit.
+// Adds the permissions of another group, and returns whether all fit. What is added if one doesn't fit, the contract
+// doesn't say.
 fn include<const N: usize, const M: usize>(
     permissions: &mut Set<u8, N>,
     others: &Set<u8, M>,
@@ -78,7 +79,7 @@ fn include<const N: usize, const M: usize>(
     whole
 }
 
-// Removes a step, and takes it out of the needs of all others.
+// Removes a step, and takes it out of the needs of all others. Returns whether it was there.
 fn take_built<const N: usize, const M: usize>(needs: &mut Map<u8, Set<u8, M>, N>, built: u8) -> bool
     ensures answer { result ≡ has nat_eq needs.old built }
     ensures needs { needs.new ≡ map (λ p. (p.0, take_item nat_eq p.1 built)) (take_out nat_eq needs.old built) }
@@ -166,7 +167,7 @@ fn first_with<const N: usize>(
     None
 }
 
-// A user who holds a permission, which `get` finds at the user's number.
+// A user who holds a permission, if one is found: `get` finds it at the user's number.
 #[tactic(auto, using(micromap::proofs::Rules::caller, crate::proofs::PermissionLaws::lawful_permission))]
 fn user_with<const N: usize>(holders: &Map<u8, Permission, N>, permission: Permission) -> Option<u8>
     ensures { IfSome result (λ user. at nat_eq holders.now user ≡ Some permission) }
