@@ -187,7 +187,9 @@ CHAINS_INTRO = """# Chains and calls with their contracts
 These are the functions to which the [index](PROVING.md#loops) leads, in its order, that need no proof by hand: chains of \
 iterators, calls, and a few loops. Each has its contract, and the line under which it is proved. Write that line as `#[..]` \
 at your function, or as `#![..]` at the head of your file. Of the imports each has those of the words in its clauses. \
-Imports of types are as [CALLING](CALLING.md#callers) has them. Their files are in micromap's own repository, not in a copy by its `tools/add`.
+Imports of types are as [CALLING](CALLING.md#callers) has them. Their files are in micromap's own repository, not in a copy by its `tools/add`. \
+Some bodies call a function that is only in their file, as [`time_of`](#foldstime_of) calls `add_leg`, and [`are_closed`](#valuesare_closed) calls \
+`are_steps`. [LOOPS](LOOPS.md#micromap_uses_testsspecspermissionsantt) has the word `permission_eq`.
 
 """
 LOOPS_INTRO = """# Loops with their proofs
@@ -200,7 +202,9 @@ which are proofs by hand of single goals. Their files are in micromap's own repo
 - Each block is as its file has it, but for the path of `Given` or `Goals`. Of the imports of words it has those that the \
 function names.
 - A proof file has the path of its function: that of `total` in `src/walks.rt` is `proofs/walks/total/Invariants.antt`.
-- Words of one's own stand in a file of `specs/`, which `specs/Lib.antt` names, as `pub mod Totals`.
+- Words of one's own stand in a file of `specs/`, which `specs/Lib.antt` names, as `pub mod Totals`. Those of `micromap_uses_tests` are \
+at the end of this page. Those of `micromap_uses`, as `headers_of`, are only in its `specs/`.
+- Types, and functions that a body calls, as `next_ready` in [`order_of`](#orderorder_of), are only in their files.
 
 """
 
