@@ -35,7 +35,7 @@ def sum_of(content):
     return hashlib.sha256(content).hexdigest()
 
 
-def files_of(top, crate, left_out=("must-fail", "out")):
+def files_of(top, crate, left_out=("must-fail", "claims", "out")):
     """The paths of a crate's files from a repository's top, but for hidden ones and those in some of its folders."""
     folder = f"{top}/crates/{crate}"
     for at, folders, names in os.walk(folder):
