@@ -46,17 +46,17 @@ find the first key, or the first pair, whose value passes | folds::first_above, 
 find the first key whose value equals one of an enum with a derived `==`, or a key at which `get` finds that value | | values::first_with, values::user_with
 ask whether a value equals one of an enum with a derived `==` | uses_tests/values::is_held |
 find the first key whose value, a set, has a certain member | | map_loops::group_of
-find a pair that passes, which is what its key finds | | map_loops::pair_over
+find a pair that passes, if one is found, which is what its key finds | | map_loops::pair_over
 find such a pair with keys of any type, or of a struct with a derived `==` | | map_loops::any_over, map_loops::square_of
-find a key that passes, and know that it is stored | | map_loops::key_other
-find an item that passes, which is a member, of numbers or of any type | | map_loops::item_over, map_loops::other_than
+find a key by a test, and know that it is stored | | map_loops::key_other
+find an item that passes, if one is found, which is a member, of numbers or of any type | | map_loops::item_over, map_loops::other_than
 find the index of a value, or of the first pair that passes | reads::position_of, reads::position_above |
 read the pair at an index, or the last value | reads::pair_at, reads::last_value |
 read the first key and the last value, or the items at both ends | uses_tests/copies::oldest_and_newest, uses_tests/copies::ends |
 know that `get` finds the pair that a search found, or that no pair that a key finds passes; that each value that `get` finds passes, or each member of a set, where all do | uses_tests/reads::over, uses_tests/reads::each_below, uses_tests/reads::each_small |
 know that there is no pair where `get` finds nothing, that a key is stored exactly if `get_key_value` finds a pair, or that of two equal keys both are stored or neither | uses_tests/reads::reissue, uses_tests/reads::is_open, uses_tests/reads::are_one |
 compare the values of two maps index by index, as far as both have some; ask whether they have the same keys in one order | reads::have_equal_values, uses_tests/map_loops::have_keys_in_order |
-know that each key finds the same in two maps where a comparison says that they are the same; read the values at which two maps differ, or know exactly that they are the same | uses_tests/generic::find_same, uses_tests/comparison::conflict |
+know that each key finds the same in two maps where a comparison says that they are the same; read two unequal values of two maps at a key where they differ, or know exactly that they are the same | uses_tests/generic::find_same, uses_tests/comparison::conflict |
 know that two sets have the same items, or that one has all items of the other, where a test says so; ask whether two sets that are values have the same items, or neither is there | uses_tests/comparison::have_same_items, nested::have_same_items, uses_tests/comparison::includes |
 ask whether one of two sets that are values of a map has all items of the other, or none of them, where both are there | uses_tests/values::covers, uses_tests/values::are_apart |
 ask whether all items of the sets of a map are its keys | uses_tests/values::are_closed |
@@ -80,11 +80,11 @@ know exactly when a map of what a function makes of each is refused | answered::
 make a set of what a function makes of each | builds::set_of_halves |
 count how often each item comes, or what a function makes of those that pass, or know exactly that there are too many different ones | wholes::votes_of, builds::counts_or_none, wholes::votes_of_halves | uses/votes::tally
 count how often each item comes, up to the greatest number, as far as the items fit | folds::counted |
-count how often each key comes, in a type that may be too small for a count, all or none | | merging::count_numbers
+count how often each key comes, in a type that may be too small for a count; of `None` nothing is said | | merging::count_numbers
 add each amount to its key's total, up to the greatest number: in a map that is there, and know that there would be too many keys where one is refused; in a new one by entry, and know exactly that there are too many keys | | merging::add_amounts, merging::totals_of
 add the amounts of a `Vec` by value, or of any iterator up to the first without room, each total up to the greatest number | | merging::add_vector, merging::add_all
 add amounts up to the first that doesn't fit or overflows | | merging::add_before
-keep the greatest amount of each key | | merging::keep_greatest
+keep the greatest amount of each key, if all have room | | merging::keep_greatest
 make a map of sets, as the members of each group as far as its set has room, and know exactly that there are too many keys | | merging::groups_of
 merge by a step of one's own that may fail | | uses/headers::collect
 put pairs into a map | extends::put_list |
@@ -161,8 +161,8 @@ take an item out of each set of a map; take a pair out, and its key out of each 
 add items to a set of a map, as far as they fit; move all items of one into another and take the first one's pair out, all or nothing | nested::add_items, nested::move_items |
 add an item, if it fits, to the set that is a key's value, and know whether it did, or keep the items of each such set that pass | uses_tests/values::grant, uses_tests/values::limit_all |
 keep some pairs, insert one for which there was room before, and know that its key is stored | uses_tests/copies::keep_and_insert |
-insert a pair unless its key is stored, and know which: the key was new and had room, it was stored and nothing changed, or there was no room | uses_tests/copies::reserve |
-take the first pair, and know that its key found its value and finds none now; take the first of all, of a map in place or of a map or set by value, and drop the others, where the iterator fits in memory | uses_tests/generic::take_first, uses_tests/generic::first_drained, uses_tests/generic::first_key, uses_tests/generic::first_item |
+insert a pair unless its key is stored, and know which: the key was new and had room, it was stored and nothing changed, or it was new and had no room | uses_tests/copies::reserve |
+take the first pair, and know that its key found its value and finds none now, and that the others stay; take the first of all, of a map in place or of a map or set by value, and drop the others, where the iterator fits in memory | uses_tests/generic::take_first, uses_tests/generic::first_drained, uses_tests/generic::first_key, uses_tests/generic::first_item |
 # Searching one and changing another
 put a map of a known capacity into another, up to the first that doesn't fit (`put_copies` at any capacity); as far as it fits | copies::put_map, answered::put_copies, folds::merged | map_loops::add_all
 put a map into a copy of another, and know exactly when it is refused | uses_tests/copies::merged |
