@@ -5,10 +5,11 @@ import glob
 import os
 import re
 
-from pages.sources import read
+from pages.sources import read, whose
 
 FOLDERS = ("must-fail", "claims")
-Function = collections.namedtuple("Function", "file name first last")  # the lines, counted from 0
+# The first word of its type, if it has one, and its first and last line, counted from 0.
+Function = collections.namedtuple("Function", "file owner name first last")
 
 
 class Dead(Exception):
@@ -66,8 +67,10 @@ def apply(path, texts=None):
 
 def functions_in(file, text):
     """The functions of a source, with their attributes and contracts and without their comments."""
-    lines = text.split("\n")
+    lines, owner = text.split("\n"), ""
     for at, line in enumerate(lines):
+        head = re.match(r"(?:unsafe )?(impl|(?:pub )?trait)\b(.*)", line)
+        owner = whose(head[2])[2] if head else "" if line == "}" else owner
         found = re.match(r"( *)(?:pub(?:\([^)]*\))? )?(?:const )?fn (\w+)", line)
         first, last, begun = at, at, False
         while found and lines[first - 1].lstrip().startswith("#["):
@@ -78,7 +81,7 @@ def functions_in(file, text):
             begun |= lines[last].endswith("{")
             last += 1
         if found:
-            yield Function(file, found[2], first, last)
+            yield Function(file, owner, found[2], first, last)
 
 
 def changed(path):
