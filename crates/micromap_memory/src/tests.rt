@@ -5,17 +5,17 @@ use std::alloc::AllocError;
 #[test]
 fn keyed_calls_on_numbers_ask_for_no_memory(rt: HostRuntime) {
     let mut map: Map<u8, u8, 3> = [(1, 10), (2, 20), (3, 30)].into();
-    assert_eq!(rt; map.checked_insert(1, 11), Some(Some(10)));
-    assert_eq!(rt; map.checked_insert(4, 40), None);
-    assert_eq!(rt; map.get(&1), Some(&11));
-    assert_eq!(rt; map.get_key_value(&2), Some((&2, &20)));
+    assert!(rt; map.checked_insert(1, 11) == Some(Some(10)));
+    assert!(rt; map.checked_insert(4, 40).is_none());
+    assert!(rt; map.get(&1) == Some(&11));
+    assert!(rt; map.get_key_value(&2) == Some((&2, &20)));
     assert!(rt; map.get_mut(&3).is_some());
     assert!(rt; map.get_mut(&4).is_none());
     assert!(rt; map.contains_key(&3));
     assert!(rt; !map.entry(4).has_room());
-    assert_eq!(rt; map.len(), 3);
-    assert_eq!(rt; map.remove(&2), Some(20));
-    assert_eq!(rt; map.remove_entry(&3), Some((3, 30)));
+    assert!(rt; map.len() == 3);
+    assert!(rt; map.remove(&2) == Some(20));
+    assert!(rt; map.remove_entry(&3) == Some((3, 30)));
     map.retain(|key, _| *key == 1);
     assert!(rt; map.keys().eq(&[1]));
     map.clear();
@@ -37,17 +37,17 @@ fn calls_with_a_condition_ask_for_no_memory(rt: HostRuntime) {
 #[test]
 fn calls_by_probe_on_numbers_ask_for_no_memory(rt: HostRuntime) {
     let mut map: Map<u8, u8, 3> = [(1, 10), (2, 20), (3, 30)].into();
-    assert_eq!(rt; map.get_by(&1u8), Some(&10));
+    assert!(rt; map.get_by(&1u8) == Some(&10));
     if let Some(value) = map.get_mut_by(&2u8) {
         *value = 21;
     }
-    assert_eq!(rt; map.get_key_value_by(&2u8), Some((&2, &21)));
+    assert!(rt; map.get_key_value_by(&2u8) == Some((&2, &21)));
     if map.contains_key_by(&3u8) {
         *map.index_mut_by(&3u8) = 31;
     }
     assert!(rt; map.contains_key_by(&3u8) && *map.index_by(&3u8) == 31);
-    assert_eq!(rt; map.remove_by(&1u8), Some(10));
-    assert_eq!(rt; map.remove_entry_by(&3u8), Some((3, 31)));
+    assert!(rt; map.remove_by(&1u8) == Some(10));
+    assert!(rt; map.remove_entry_by(&3u8) == Some((3, 31)));
     assert!(rt; map.keys().eq(&[2]));
 }
 
@@ -58,7 +58,7 @@ fn clones_of_numbers_ask_for_no_memory(rt: HostRuntime) {
     assert!(rt; map.iter().clone().is_ok_and(|walk| walk.eq(map.iter())));
     assert!(rt; map.keys().clone().is_ok_and(|walk| walk.eq(map.keys())));
     assert!(rt; map.values().clone().is_ok_and(|walk| walk.eq(map.values())));
-    assert_eq!(rt; map.drain().len(), 3);
+    assert!(rt; map.drain().len() == 3);
     let set: Set<u8, 3> = [1, 2, 3].into();
     assert!(rt; set.clone().is_ok_and(|clone| clone.eq_with(&set)));
     assert!(rt; set.iter().clone().is_ok_and(|walk| walk.eq(set.iter())));
@@ -87,11 +87,11 @@ fn operations_on_numbers_ask_for_no_memory(rt: HostRuntime) {
 #[test]
 fn calls_on_a_set_of_numbers_ask_for_no_memory(rt: HostRuntime) {
     let mut set: Set<u8, 3> = [1, 2, 3].into();
-    assert_eq!(rt; set.checked_insert(2), Some(2));
-    assert_eq!(rt; set.checked_insert(4), None);
+    assert!(rt; set.checked_insert(2) == Some(2));
+    assert!(rt; set.checked_insert(4).is_none());
     assert!(rt; !set.contains(&4));
-    assert_eq!(rt; set.get(&3), Some(&3));
-    assert_eq!(rt; set.take(&1), Some(1));
+    assert!(rt; set.get(&3) == Some(&3));
+    assert!(rt; set.take(&1) == Some(1));
     assert!(rt; set.remove(&2));
     assert!(rt; set.fits(&5) && set.insert(5));
     assert!(rt; set.fits(&6) && set.insert_unchecked(6));
@@ -103,8 +103,8 @@ fn calls_on_a_set_of_numbers_ask_for_no_memory(rt: HostRuntime) {
 fn calls_by_probe_on_a_set_ask_for_no_memory(rt: HostRuntime) {
     let mut set: Set<u8, 3> = [1, 2, 3].into();
     assert!(rt; set.contains_by(&2u8));
-    assert_eq!(rt; set.get_by(&3u8), Some(&3));
-    assert_eq!(rt; set.take_by(&1u8), Some(1));
+    assert!(rt; set.get_by(&3u8) == Some(&3));
+    assert!(rt; set.take_by(&1u8) == Some(1));
     assert!(rt; set.remove_by(&2u8));
     assert!(rt; !set.remove_by(&2u8));
     assert!(rt; set.iter().eq(&[3]));
@@ -116,9 +116,9 @@ fn a_difference_of_references_asks_for_no_memory(rt: HostRuntime) -> Result<(), 
     let theirs: Set<&u8, 2> = [&3, &4].into();
     let mut difference = ours.difference_ref(&theirs);
     assert!(rt; difference.clone().is_ok());
-    assert_eq!(rt; difference.clone()?.next(), Some(&1));
-    assert_eq!(rt; difference.next(), Some(&1));
-    assert_eq!(rt; difference.next(), Some(&2));
-    assert_eq!(rt; difference.next(), None);
+    assert!(rt; difference.clone()?.next() == Some(&1));
+    assert!(rt; difference.next() == Some(&1));
+    assert!(rt; difference.next() == Some(&2));
+    assert!(rt; difference.next().is_none());
     Ok(())
 }

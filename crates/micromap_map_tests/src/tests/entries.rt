@@ -129,9 +129,9 @@ fn a_dropped_entry_leaves_the_map(rt: HostRuntime) {
     assert!(rt; !overwrite(&mut map, 2, 20));
     assert!(rt; is_stored(&mut map, 1));
     assert!(rt; !is_stored(&mut map, 2));
-    assert_eq!(rt; map.get(&1), Some(&10));
+    assert!(rt; map.get(&1) == Some(&10));
     overwrite_stored(&mut map, 1);
-    assert_eq!(rt; map.get(&1), Some(&7));
+    assert!(rt; map.get(&1) == Some(&7));
 }
 
 #[test]
@@ -148,19 +148,19 @@ fn letters_are_counted(rt: HostRuntime) {
         ('u', Some(&1)),
         ('y', None),
     ] {
-        assert_eq!(rt; counts.get(&letter), times);
+        assert!(rt; counts.get(&letter) == times);
     }
-    assert_eq!(rt; counts.len(), 13);
+    assert!(rt; counts.len() == 13);
 }
 
 #[test]
 #[tactic(auto, unfolding(micromap_core::specs::Pairs::put))]
 fn a_first_value_stays(rt: HostRuntime) {
     let mut map: Map<u8, u8, 1> = Map::new();
-    assert_eq!(rt; get_or_insert(&mut map, 1, 10), 10);
-    assert_eq!(rt; get_or_insert(&mut map, 1, 11), 10);
-    assert_eq!(rt; put_and_read(&mut map, 1, 12), 12);
-    assert_eq!(rt; map.get(&1), Some(&12));
+    assert!(rt; get_or_insert(&mut map, 1, 10) == 10);
+    assert!(rt; get_or_insert(&mut map, 1, 11) == 10);
+    assert!(rt; put_and_read(&mut map, 1, 12) == 12);
+    assert!(rt; map.get(&1) == Some(&12));
 }
 
 #[test]
@@ -188,36 +188,36 @@ fn room_decides_at_a_full_map(rt: HostRuntime) {
     map.insert(1, 10);
     assert!(rt; map.entry(1).has_room());
     assert!(rt; !map.entry(2).has_room());
-    assert_eq!(rt; new_key(&mut map, 1), None);
-    assert_eq!(rt; new_key(&mut map, 2), Some((2, false)));
-    assert_eq!(rt; map.get(&1), Some(&10));
-    assert_eq!(rt; map.len(), 1);
-    assert_eq!(rt; new_key(&mut Map::<u8, u8, 0>::new(), 1), Some((1, false)));
+    assert!(rt; new_key(&mut map, 1).is_none());
+    assert!(rt; new_key(&mut map, 2) == Some((2, false)));
+    assert!(rt; map.get(&1) == Some(&10));
+    assert!(rt; map.len() == 1);
+    assert!(rt; new_key(&mut Map::<u8, u8, 0>::new(), 1) == Some((1, false)));
 }
 
 #[test]
 fn a_stored_key_stays_in_its_entry(rt: HostRuntime) {
     let mut map: Map<Marked, u8, 1> = Map::new();
     map.insert(Marked::new(1, 'x'), 5);
-    assert_eq!(rt; map.entry(Marked::new(1, 'y')).key().mark, 'x');
+    assert!(rt; map.entry(Marked::new(1, 'y')).key().mark == 'x');
     let entry = map.entry(Marked::new(1, 'y'));
     assert!(rt; entry.has_room());
     let entry = entry.insert_entry(6);
-    assert_eq!(rt; entry.key().mark, 'x');
-    assert_eq!(rt; *entry.get(), 6);
+    assert!(rt; entry.key().mark == 'x');
+    assert!(rt; *entry.get() == 6);
 }
 
 #[test]
 fn a_function_may_answer_an_entry(rt: HostRuntime) {
     let mut map: Map<char, u8, 2> = Map::new();
     if let Some(entry) = open(&mut map, 'a') {
-        assert_eq!(rt; *entry.or_insert(1), 1);
+        assert!(rt; *entry.or_insert(1) == 1);
     }
     if let Some(entry) = free(&mut map, 'b') {
-        assert_eq!(rt; *entry.insert(2), 2);
+        assert!(rt; *entry.insert(2) == 2);
     }
     if let Some(entry) = stored(&mut map, 'a') {
-        assert_eq!(rt; entry.remove(), 1);
+        assert!(rt; entry.remove() == 1);
     }
     assert!(rt; map.drain().eq([('b', 2)]));
 }
@@ -237,8 +237,8 @@ fn insert_new_entry(map: &mut Map<char, u8, 1>, letter: char, value: u8) -> Opti
 #[test]
 fn a_vacant_entry_is_filled_and_goes_on(rt: HostRuntime) {
     let mut map: Map<char, u8, 1> = Map::new();
-    assert_eq!(rt; insert_new_entry(&mut map, 'e', 5), Some(('e', 5)));
-    assert_eq!(rt; insert_new_entry(&mut map, 'e', 6), None);
+    assert!(rt; insert_new_entry(&mut map, 'e', 5) == Some(('e', 5)));
+    assert!(rt; insert_new_entry(&mut map, 'e', 6).is_none());
 }
 
 // Reads or makes a value by an entry, where it has room.
@@ -268,16 +268,16 @@ fn put_new<const N: usize>(map: &mut Map<u8, u8, N>, key: u8, value: u8) -> bool
 #[test]
 fn an_entry_has_room_where_it_is_occupied_or_the_map_has(rt: HostRuntime) {
     let mut map: Map<u8, u8, 1> = Map::new();
-    assert_eq!(rt; read_or_put(&mut map, 1, 10), Some(10));
-    assert_eq!(rt; read_or_put(&mut map, 1, 11), Some(10));
-    assert_eq!(rt; read_or_put(&mut map, 2, 20), None);
+    assert!(rt; read_or_put(&mut map, 1, 10) == Some(10));
+    assert!(rt; read_or_put(&mut map, 1, 11) == Some(10));
+    assert!(rt; read_or_put(&mut map, 2, 20).is_none());
     assert!(rt; !put_new(&mut map, 1, 11));
     assert!(rt; !put_new(&mut map, 2, 20));
     map.clear();
     assert!(rt; put_new(&mut map, 2, 20));
     assert!(rt; map.drain().eq([(2, 20)]));
     let mut none: Map<u8, u8, 0> = Map::new();
-    assert_eq!(rt; read_or_put(&mut none, 1, 10), None);
+    assert!(rt; read_or_put(&mut none, 1, 10).is_none());
     assert!(rt; !put_new(&mut none, 1, 10));
 }
 
@@ -287,12 +287,12 @@ fn an_entry_drops_its_key(rt: HostRuntime) {
     let mut map = counted_map([0, 1, 2], &counts);
     let new = Counted::new(9, &counts);
     assert!(rt; !is_stored(&mut map, new));
-    assert_eq!(rt; counts.drops.replace(0), 1);
+    assert!(rt; counts.drops.replace(0) == 1);
     let stored = Counted::new(1, &counts);
     assert!(rt; is_stored(&mut map, stored));
-    assert_eq!(rt; counts.drops.replace(0), 1);
+    assert!(rt; counts.drops.replace(0) == 1);
     drop(map);
-    assert_eq!(rt; counts.drops.get(), 6);
+    assert!(rt; counts.drops.get() == 6);
 }
 
 #[test]
@@ -300,7 +300,7 @@ fn a_closure_is_called_on_the_value_of_an_occupied_entry_alone(rt: HostRuntime) 
     let mut map: Map<u8, u8, 2> = Map::from([(1, 10), (2, 20)]);
     let mut seen = 0u8;
     map.entry(1).and_modify(|value| seen = *value);
-    assert_eq!(rt; seen, 10);
+    assert!(rt; seen == 10);
     map.entry(3).and_modify(|_| seen = 1);
-    assert_eq!(rt; seen, 10);
+    assert!(rt; seen == 10);
 }

@@ -40,8 +40,8 @@ fn take_and_get<const N: usize>(map: &mut Map<u8, u8, N>, key: u8) -> Option<u8>
 #[test]
 fn what_is_put_is_found_and_what_is_taken_is_not(rt: HostRuntime) {
     let mut map: Map<u8, u8, 2> = Map::new();
-    assert_eq!(rt; put_and_get(&mut map, 1, 10), Some(10));
-    assert_eq!(rt; take_and_get(&mut map, 1), None);
+    assert!(rt; put_and_get(&mut map, 1, 10) == Some(10));
+    assert!(rt; take_and_get(&mut map, 1).is_none());
 }
 
 #[test]
@@ -50,8 +50,8 @@ fn a_value_is_written_where_its_key_is_there(rt: HostRuntime) {
     map.insert(1, 10);
     overwrite(&mut map, 1, 11);
     overwrite(&mut map, 2, 20);
-    assert_eq!(rt; map.get(&1), Some(&11));
-    assert_eq!(rt; map.len(), 1);
+    assert!(rt; map.get(&1) == Some(&11));
+    assert!(rt; map.len() == 1);
 }
 
 #[test]
@@ -62,24 +62,18 @@ fn insertions_answer_what_was_there(rt: HostRuntime) {
     assert_eq!(rt; map.insert(37, "b"), Some("a"));
     assert_eq!(rt; map.insert(37, "c"), Some("b"));
     assert!(rt; map.contains_key(&37));
-    assert_eq!(rt; *map.index(&37), "c");
+    assert!(rt; *map.index(&37) == "c");
 }
 
 #[test]
 fn a_pair_with_a_stored_key_or_no_room_comes_back(rt: HostRuntime) {
     let mut map: Map<Marked, u8, 2> = Map::new();
-    assert_eq!(rt; map.try_insert(Marked::new(1, 'x'), 10), Ok(None));
+    assert!(rt; map.try_insert(Marked::new(1, 'x'), 10) == Ok(None));
     let stored = map.try_insert(Marked::new(1, 'y'), 11).ok().flatten();
-    assert_eq!(rt;
-        stored.map(|(key, value)| (key.mark, value)),
-        Some(('y', 11))
-    );
-    assert_eq!(rt; map.try_insert(Marked::new(2, 'x'), 20), Ok(None));
+    assert!(rt; stored.map(|(key, value)| (key.mark, value)) == Some(('y', 11)));
+    assert!(rt; map.try_insert(Marked::new(2, 'x'), 20) == Ok(None));
     let refused = map.try_insert(Marked::new(3, 'z'), 30).err();
-    assert_eq!(rt;
-        refused.map(|(key, value)| (key.mark, value)),
-        Some(('z', 30))
-    );
+    assert!(rt; refused.map(|(key, value)| (key.mark, value)) == Some(('z', 30)));
     assert!(rt; gives(map.keys().map(|key| key.mark), &['x', 'x']));
     assert!(rt; gives(map.values(), &[&10, &20]));
 }
@@ -132,10 +126,10 @@ fn texts_find_their_keys(rt: HostRuntime) -> Result<(), AllocError> {
     let mut map = named::<10>(rt.alloc(), &[("one", 1), ("two", 3), ("three", 5)])?;
     write(&mut map, "two", 7);
     let two = String::from_str(rt.alloc(), "two")?;
-    assert_eq!(rt; map.get(&two), Some(&7));
+    assert!(rt; map.get(&two) == Some(&7));
     assert!(rt; takes(&mut map, "one", 1));
-    assert_eq!(rt; map.get_by(&Text("one")), None);
-    assert_eq!(rt; map.len(), 2);
+    assert!(rt; map.get_by(&Text("one")).is_none());
+    assert!(rt; map.len() == 2);
     Ok(())
 }
 
@@ -151,8 +145,8 @@ fn texts_find_keys_that_are_borrowed(rt: HostRuntime) -> Result<(), AllocError> 
     let mut ages: Map<&str, i64, 32> = Map::new();
     ages.checked_insert("Ada", 36);
     let name = String::from_str(rt.alloc(), "Ada")?;
-    assert_eq!(rt; age_of(&ages, name.as_str()), Some(36));
-    assert_eq!(rt; age_of(&ages, "Alan"), None);
+    assert!(rt; age_of(&ages, name.as_str()) == Some(36));
+    assert!(rt; age_of(&ages, "Alan").is_none());
     Ok(())
 }
 
@@ -161,19 +155,16 @@ fn a_probe_finds_the_stored_key(rt: HostRuntime) {
     let mut map: Map<Marked, u8, 2> = Map::new();
     map.insert(Marked::new(1, 'x'), 5);
     let found = map.get_key_value_by(&Id(1));
-    assert_eq!(rt;
-        found.map(|(key, value)| (key.mark, *value)),
-        Some(('x', 5))
-    );
+    assert!(rt; found.map(|(key, value)| (key.mark, *value)) == Some(('x', 5)));
     if let Some(value) = map.get_mut_by(&Digit('1')) {
         *value = 6;
     }
     assert!(rt; map.contains_key_by(&Id(1)));
-    assert_eq!(rt; *map.index_by(&Id(1)), 6);
+    assert!(rt; *map.index_by(&Id(1)) == 6);
     // A key is a probe too.
-    assert_eq!(rt; map.get_by(&Marked::new(1, 'y')), Some(&6));
+    assert!(rt; map.get_by(&Marked::new(1, 'y')) == Some(&6));
     let taken = map.remove_entry_by(&Digit('1'));
-    assert_eq!(rt; taken.map(|(key, value)| (key.mark, value)), Some(('x', 6)));
+    assert!(rt; taken.map(|(key, value)| (key.mark, value)) == Some(('x', 6)));
     assert!(rt; map.is_empty());
 }
 
@@ -182,11 +173,11 @@ fn a_probe_that_matches_no_key_leaves_the_map(rt: HostRuntime) {
     let mut map: Map<Marked, u8, 2> = Map::new();
     map.checked_insert(Marked::new(1, 'x'), 5);
     map.checked_insert(Marked::new(2, 'x'), 6);
-    assert_eq!(rt; map.get_by(&Id(3)), None);
+    assert!(rt; map.get_by(&Id(3)).is_none());
     assert!(rt; map.get_mut_by(&Id(3)).is_none());
     assert!(rt; map.get_key_value_by(&Digit('3')).is_none());
     assert!(rt; !map.contains_key_by(&Digit('x')));
-    assert_eq!(rt; map.remove_by(&Id(3)), None);
+    assert!(rt; map.remove_by(&Id(3)).is_none());
     assert!(rt; map.remove_entry_by(&Digit('3')).is_none());
     assert!(rt; gives(map.keys().map(|key| key.id), &[1, 2]));
     assert!(rt; gives(map.values(), &[&5, &6]));
@@ -195,18 +186,18 @@ fn a_probe_that_matches_no_key_leaves_the_map(rt: HostRuntime) {
 #[test]
 fn a_key_comes_and_goes(rt: HostRuntime) {
     let mut map: Map<u8, u8, 2> = Map::new();
-    assert_eq!(rt; map.checked_insert(1, 10), Some(None));
-    assert_eq!(rt; map.remove(&2), None);
-    assert_eq!(rt; map.remove(&1), Some(10));
-    assert_eq!(rt; map.remove(&1), None);
+    assert!(rt; map.checked_insert(1, 10) == Some(None));
+    assert!(rt; map.remove(&2).is_none());
+    assert!(rt; map.remove(&1) == Some(10));
+    assert!(rt; map.remove(&1).is_none());
     assert!(rt; map.is_empty());
 }
 
 #[test]
 fn a_cleared_map_is_empty(rt: HostRuntime) {
     let mut map: Map<u8, u8, 2> = Map::new();
-    assert_eq!(rt; map.checked_insert(3, 30), Some(None));
-    assert_eq!(rt; map.checked_insert(4, 40), Some(None));
+    assert!(rt; map.checked_insert(3, 30) == Some(None));
+    assert!(rt; map.checked_insert(4, 40) == Some(None));
     map.clear();
     assert_eq!(rt; map.len(), 0);
     assert_eq!(rt; map.get(&3), None);
@@ -233,25 +224,25 @@ fn capacity_0_holds_nothing(rt: HostRuntime) {
 fn a_probe_finds_nothing_at_capacity_0(rt: HostRuntime) {
     let mut map: Map<&str, u8, 0> = Map::new();
     assert!(rt; !map.contains_key_by(&Text("a")));
-    assert_eq!(rt; map.get_by(&Text("a")), None);
-    assert_eq!(rt; map.remove_entry_by(&Text("a")), None);
+    assert!(rt; map.get_by(&Text("a")).is_none());
+    assert!(rt; map.remove_entry_by(&Text("a")).is_none());
 }
 
 #[test]
 fn a_map_of_one_changes_its_key(rt: HostRuntime) {
     let mut map: Map<u8, u8, 1> = Map::new();
-    assert_eq!(rt; map.checked_insert(1, 10), Some(None));
+    assert!(rt; map.checked_insert(1, 10) == Some(None));
     assert!(rt; map.fits(&1));
     assert!(rt; !map.fits(&2));
-    assert_eq!(rt; map.checked_insert(2, 20), None);
-    assert_eq!(rt; map.checked_insert(1, 11), Some(Some(10)));
-    assert_eq!(rt; map.remove(&1), Some(11));
+    assert!(rt; map.checked_insert(2, 20).is_none());
+    assert!(rt; map.checked_insert(1, 11) == Some(Some(10)));
+    assert!(rt; map.remove(&1) == Some(11));
     if map.fits(&2) {
         let value = *map.entry(2).or_insert(20);
-        assert_eq!(rt; value, 20);
+        assert!(rt; value == 20);
     }
     assert!(rt; !map.entry(3).has_room());
-    assert_eq!(rt; (map.get(&2), map.len()), (Some(&20), 1));
+    assert!(rt; (map.get(&2), map.len()) == (Some(&20), 1));
 }
 
 #[test]
@@ -273,33 +264,24 @@ fn the_first_pair_is_taken_out(rt: HostRuntime) {
 #[test]
 fn the_pairs_at_both_ends_are_read(rt: HostRuntime) {
     let mut map: Map<u8, u8, 3> = Map::new();
-    assert_eq!(rt; (map.first(), map.last()), (None, None));
+    assert!(rt; (map.first(), map.last()) == (None, None));
     map.checked_insert(3, 30);
-    assert_eq!(rt;
-        (map.first(), map.last()),
-        (Some((&3, &30)), Some((&3, &30)))
-    );
+    assert!(rt; (map.first(), map.last()) == (Some((&3, &30)), Some((&3, &30))));
     map.checked_insert(1, 10);
     map.checked_insert(2, 20);
     map.checked_insert(3, 33);
-    assert_eq!(rt;
-        (map.first(), map.last()),
-        (Some((&3, &33)), Some((&2, &20)))
-    );
+    assert!(rt; (map.first(), map.last()) == (Some((&3, &33)), Some((&2, &20))));
     map.remove(&3);
-    assert_eq!(rt;
-        (map.first(), map.last()),
-        (Some((&1, &10)), Some((&2, &20)))
-    );
+    assert!(rt; (map.first(), map.last()) == (Some((&1, &10)), Some((&2, &20))));
 }
 
 #[test]
 fn a_default_stands_for_a_missing_value(rt: HostRuntime) {
     let mut map: Map<Marked, u8, 2> = Map::new();
-    assert_eq!(rt; map.get_or(&Marked::new(1, 'y'), 9), 9);
+    assert!(rt; map.get_or(&Marked::new(1, 'y'), 9) == 9);
     map.checked_insert(Marked::new(1, 'x'), 10);
-    assert_eq!(rt; map.get_or(&Marked::new(1, 'y'), 9), 10);
-    assert_eq!(rt; map.get_or(&Marked::new(2, 'x'), 9), 9);
+    assert!(rt; map.get_or(&Marked::new(1, 'y'), 9) == 10);
+    assert!(rt; map.get_or(&Marked::new(2, 'x'), 9) == 9);
 }
 
 // Inserts a pair by each call that requires room, if there is some.
@@ -341,11 +323,11 @@ fn raise<const N: usize>(map: &mut Map<u8, u8, N>, key: u8) -> Option<u8> {
 #[test]
 fn an_index_is_a_key_that_is_there(rt: HostRuntime) {
     let mut map = Map::from([(1, 10), (2, 20)]);
-    assert_eq!(rt; raise(&mut map, 2), Some(21));
-    assert_eq!(rt; raise(&mut map, 3), None);
+    assert!(rt; raise(&mut map, 2) == Some(21));
+    assert!(rt; raise(&mut map, 3).is_none());
     map.clear();
-    assert_eq!(rt; raise(&mut map, 2), None);
-    assert_eq!(rt; raise(&mut Map::<u8, u8, 0>::new(), 2), None);
+    assert!(rt; raise(&mut map, 2).is_none());
+    assert!(rt; raise(&mut Map::<u8, u8, 0>::new(), 2).is_none());
 }
 
 // Reads a value by index, where its name is there.
@@ -360,11 +342,11 @@ fn read<const N: usize>(map: &Map<&str, u8, N>, name: &str) -> Option<u8> {
 #[test]
 fn an_index_is_a_text_that_is_there(rt: HostRuntime) {
     let mut map = Map::from([("one", 1), ("two", 2)]);
-    assert_eq!(rt; read(&map, "two"), Some(2));
-    assert_eq!(rt; read(&map, "tw"), None);
+    assert!(rt; read(&map, "two") == Some(2));
+    assert!(rt; read(&map, "tw").is_none());
     map.clear();
-    assert_eq!(rt; read(&map, "two"), None);
-    assert_eq!(rt; read(&Map::<&str, u8, 0>::new(), ""), None);
+    assert!(rt; read(&map, "two").is_none());
+    assert!(rt; read(&Map::<&str, u8, 0>::new(), "").is_none());
 }
 
 #[test]
@@ -373,14 +355,14 @@ fn a_call_drops_what_it_does_not_keep(rt: HostRuntime) {
     let mut map = counted_map([0, 1, 2], &counts);
     // The new key, and the old value, which is returned.
     map.checked_insert(Counted::new(1, &counts), Counted::new(1, &counts));
-    assert_eq!(rt; counts.drops.replace(0), 2);
+    assert!(rt; counts.drops.replace(0) == 2);
     // The pair that has no room.
     map.checked_insert(Counted::new(9, &counts), Counted::new(9, &counts));
-    assert_eq!(rt; counts.drops.replace(0), 2);
+    assert!(rt; counts.drops.replace(0) == 2);
     map.retain(|key, _| key.id == 2);
-    assert_eq!(rt; counts.drops.replace(0), 4);
+    assert!(rt; counts.drops.replace(0) == 4);
     map.clear();
-    assert_eq!(rt; counts.drops.replace(0), 2);
+    assert!(rt; counts.drops.replace(0) == 2);
     drop(map);
-    assert_eq!(rt; counts.drops.get(), 0);
+    assert!(rt; counts.drops.get() == 0);
 }

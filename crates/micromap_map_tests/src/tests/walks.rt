@@ -34,7 +34,7 @@ fn values_are_summed(rt: HostRuntime) {
     let mut map: Map<u8, u64, 2> = Map::new();
     map.insert(1, 10);
     map.insert(2, 20);
-    assert_eq!(rt; total(&map), 30);
+    assert!(rt; total(&map) == 30);
 }
 
 #[test]
@@ -42,18 +42,18 @@ fn a_loop_lends_each_pair_or_gives_it_away(rt: HostRuntime) {
     let map = three();
     let mut last = 0u8;
     for (key, value) in &map {
-        assert_eq!(rt; *key, last.wrapping_add(1));
-        assert_eq!(rt; *value, u64::from(*key) * 10);
+        assert!(rt; *key == last.wrapping_add(1));
+        assert!(rt; *value == u64::from(*key) * 10);
         last = *key;
     }
-    assert_eq!(rt; last, 3);
+    assert!(rt; last == 3);
     last = 0;
     for (key, value) in map {
-        assert_eq!(rt; key, last.wrapping_add(1));
-        assert_eq!(rt; value, u64::from(key) * 10);
+        assert!(rt; key == last.wrapping_add(1));
+        assert!(rt; value == u64::from(key) * 10);
         last = key;
     }
-    assert_eq!(rt; last, 3);
+    assert!(rt; last == 3);
 }
 
 #[test]
@@ -111,11 +111,11 @@ fn a_cloned_walk_goes_on_from_the_same_position(rt: HostRuntime) -> Result<(), A
 fn a_walk_counts_what_is_left(rt: HostRuntime) {
     let mut map = three();
     let (mut pairs, mut keys, mut values) = (map.iter(), map.keys(), map.values());
-    assert_eq!(rt; (pairs.len(), keys.len(), values.len()), (3, 3, 3));
+    assert!(rt; (pairs.len(), keys.len(), values.len()) == (3, 3, 3));
     pairs.next();
     keys.next();
     values.next();
-    assert_eq!(rt; (pairs.len(), keys.len(), values.len()), (2, 2, 2));
+    assert!(rt; (pairs.len(), keys.len(), values.len()) == (2, 2, 2));
     let mut pairs = three().into_iter();
     let mut keys = three().into_keys();
     let mut values = three().into_values();
@@ -124,8 +124,8 @@ fn a_walk_counts_what_is_left(rt: HostRuntime) {
     keys.next();
     values.next();
     drained.next();
-    assert_eq!(rt; (pairs.len(), keys.len(), values.len()), (2, 2, 2));
-    assert_eq!(rt; drained.len(), 2);
+    assert!(rt; (pairs.len(), keys.len(), values.len()) == (2, 2, 2));
+    assert!(rt; drained.len() == 2);
 }
 
 // A function over the standard library's traits.
@@ -148,7 +148,7 @@ fn twice<I: Iterator + Clone>(iterator: I) -> Result<(I, I), AllocError>
 #[test]
 fn generic_functions_take_the_walks(rt: HostRuntime) -> Result<(), AllocError> {
     let map = three();
-    assert_eq!(rt; (left(&map.iter()), left(&three().into_keys())), (3, 3));
+    assert!(rt; (left(&map.iter()), left(&three().into_keys())) == (3, 3));
     let (keys, again) = twice(map.keys())?;
     assert!(rt; gives(keys, &[&1, &2, &3]));
     assert!(rt; gives(again, &[&1, &2, &3]));
@@ -160,10 +160,10 @@ fn a_key_that_is_there_is_an_index(rt: HostRuntime) {
     let mut map = three();
     assert!(rt; map.contains_key(&2));
     if map.contains_key(&2) {
-        assert_eq!(rt; map[&2], 20);
+        assert!(rt; map[&2] == 20);
         map[&2] = 21;
     }
-    assert_eq!(rt; map.get(&2), Some(&21));
+    assert!(rt; map.get(&2) == Some(&21));
 }
 
 #[test]
@@ -171,13 +171,13 @@ fn a_drained_map_is_empty_at_once_and_has_all_its_room(rt: HostRuntime) {
     let mut map = three();
     let mut drained = map.drain();
     assert!(rt; map.is_empty());
-    assert_eq!(rt; drained.next(), Some((1, 10)));
-    assert_eq!(rt; drained.next(), Some((2, 20)));
-    assert_eq!(rt; drained.len(), 1);
+    assert!(rt; drained.next() == Some((1, 10)));
+    assert!(rt; drained.next() == Some((2, 20)));
+    assert!(rt; drained.len() == 1);
     drop(drained);
     assert!(rt; map.is_empty());
     for key in [4, 5, 6] {
-        assert_eq!(rt; map.checked_insert(key, 0), Some(None));
+        assert!(rt; map.checked_insert(key, 0) == Some(None));
     }
     assert!(rt; map.keys().eq(&[4, 5, 6]));
 }
@@ -205,6 +205,6 @@ fn a_drained_map_has_nothing_left_to_drop(rt: HostRuntime) {
         assert!(rt; drops_all(map.drain(), items, &counts, 6));
         map.checked_insert(Counted::new(9, &counts), Counted::new(9, &counts));
         drop(map);
-        assert_eq!(rt; counts.drops.get(), 2);
+        assert!(rt; counts.drops.get() == 2);
     }
 }

@@ -74,8 +74,8 @@ fn numbers<const N: usize>(items: &[u8]) -> Set<u8, N> {
 fn a_full_set_takes_a_stored_item_alone(rt: HostRuntime) {
     let mut set: Set<u8, 3> = numbers(&[1, 2, 3]);
     assert!(rt; set.fits(&2));
-    assert_eq!(rt; set.replace(2), Some(2));
-    assert_eq!(rt; set.checked_insert(4), None);
+    assert!(rt; set.replace(2) == Some(2));
+    assert!(rt; set.checked_insert(4).is_none());
     assert!(rt; !set.fits(&4));
     assert!(rt; set.fits(&2));
     assert!(rt; !set.insert_unchecked(2));
@@ -89,27 +89,27 @@ fn a_stored_item_stays_but_in_replace(rt: HostRuntime) {
     let mut set: Set<Marked, 1> = Set::default();
     assert!(rt; set.checked_insert(Marked::new(1, 'x')).is_none());
     let back = set.checked_insert(Marked::new(1, 'y'));
-    assert_eq!(rt; back.map(|item| item.mark), Some('y'));
+    assert!(rt; back.map(|item| item.mark) == Some('y'));
     let (third, last) = (Marked::new(1, 'z'), Marked::new(1, 'w'));
-    assert_eq!(rt; set.get(&third).map(|item| item.mark), Some('x'));
+    assert!(rt; set.get(&third).map(|item| item.mark) == Some('x'));
     assert!(rt; set.fits(&third));
     let old = set.replace(third);
-    assert_eq!(rt; old.map(|item| item.mark), Some('x'));
-    assert_eq!(rt; set.get(&last).map(|item| item.mark), Some('z'));
+    assert!(rt; old.map(|item| item.mark) == Some('x'));
+    assert!(rt; set.get(&last).map(|item| item.mark) == Some('z'));
     assert!(rt; set.fits(&last));
     assert!(rt; !set.insert(last));
-    assert_eq!(rt; set.get(&last).map(|item| item.mark), Some('z'));
+    assert!(rt; set.get(&last).map(|item| item.mark) == Some('z'));
 }
 
 #[test]
 fn an_item_that_is_stored_or_has_no_room_comes_back(rt: HostRuntime) {
     let mut set: Set<Marked, 1> = Set::new();
-    assert_eq!(rt; set.try_insert(Marked::new(1, 'x')), Ok(None));
+    assert!(rt; set.try_insert(Marked::new(1, 'x')) == Ok(None));
     let stored = set.try_insert(Marked::new(1, 'y')).ok().flatten();
-    assert_eq!(rt; stored.map(|item| item.mark), Some('y'));
+    assert!(rt; stored.map(|item| item.mark) == Some('y'));
     let refused = set.try_insert(Marked::new(2, 'z')).err();
-    assert_eq!(rt; refused.map(|item| item.mark), Some('z'));
-    assert_eq!(rt; set.checked_insert(Marked::new(2, 'z')), None);
+    assert!(rt; refused.map(|item| item.mark) == Some('z'));
+    assert!(rt; set.checked_insert(Marked::new(2, 'z')).is_none());
     assert!(rt; gives(set.iter().map(|item| item.mark), &['x']));
 }
 
@@ -147,7 +147,7 @@ fn a_probe_finds_the_stored_item_or_leaves_the_set(rt: HostRuntime) {
     let mut set: Set<Marked, 2> = Set::new();
     set.checked_insert(Marked::new(1, 'x'));
     set.checked_insert(Marked::new(2, 'y'));
-    assert_eq!(rt; set.get_by(&Id(2)).map(|item| item.mark), Some('y'));
+    assert!(rt; set.get_by(&Id(2)).map(|item| item.mark) == Some('y'));
     assert!(rt; set.contains_by(&Digit('2')));
     assert!(rt; set.get_by(&Digit('3')).is_none());
     assert!(rt; !set.contains_by(&Id(3)));
@@ -155,7 +155,7 @@ fn a_probe_finds_the_stored_item_or_leaves_the_set(rt: HostRuntime) {
     assert!(rt; !set.remove_by(&Digit('3')));
     assert!(rt; gives(set.iter().map(|item| item.fields()), &[(1, 'x'), (2, 'y')]));
     let taken = set.take_by(&Digit('1'));
-    assert_eq!(rt; taken.map(|item| item.fields()), Some((1, 'x')));
+    assert!(rt; taken.map(|item| item.fields()) == Some((1, 'x')));
     assert!(rt; set.remove_by(&Id(2)));
     assert!(rt; set.is_empty());
 }
@@ -243,7 +243,7 @@ fn each_walk_over_a_set_gives_every_item_and_stays_at_its_end(rt: HostRuntime) {
     assert!(rt; gives(set.iter(), &[&3, &1, &2]));
     let drained = set.drain();
     assert!(rt; set.is_empty());
-    assert_eq!(rt; drained.len(), 3);
+    assert!(rt; drained.len() == 3);
     assert!(rt; gives(drained, &[3, 1, 2]));
     assert!(rt; gives(set.iter(), &[]));
     assert!(rt; gives(set.into_iter(), &[]));
@@ -259,16 +259,16 @@ fn a_loop_lends_each_item_or_gives_it_away(rt: HostRuntime) {
     let set: Set<u8, 3> = numbers(&[1, 2, 3]);
     let mut last = 0u8;
     for item in &set {
-        assert_eq!(rt; *item, last.wrapping_add(1));
+        assert!(rt; *item == last.wrapping_add(1));
         last = *item;
     }
-    assert_eq!(rt; last, 3);
+    assert!(rt; last == 3);
     last = 0;
     for item in set {
-        assert_eq!(rt; item, last.wrapping_add(1));
+        assert!(rt; item == last.wrapping_add(1));
         last = item;
     }
-    assert_eq!(rt; last, 3);
+    assert!(rt; last == 3);
 }
 
 // Keeps the even numbers.
@@ -348,12 +348,12 @@ fn the_first_item_is_taken_out(rt: HostRuntime) {
 #[test]
 fn the_items_at_both_ends_are_read(rt: HostRuntime) {
     let mut set: Set<u8, 3> = Set::new();
-    assert_eq!(rt; (set.first(), set.last()), (None, None));
+    assert!(rt; (set.first(), set.last()) == (None, None));
     set.checked_insert(3);
-    assert_eq!(rt; (set.first(), set.last()), (Some(&3), Some(&3)));
+    assert!(rt; (set.first(), set.last()) == (Some(&3), Some(&3)));
     set.checked_insert(1);
     set.checked_insert(3);
-    assert_eq!(rt; (set.first(), set.last()), (Some(&3), Some(&1)));
+    assert!(rt; (set.first(), set.last()) == (Some(&3), Some(&1)));
 }
 
 #[test]
@@ -363,7 +363,7 @@ fn a_walk_over_a_set_drops_what_it_owned(rt: HostRuntime) {
         let mut set = counted_set([0, 1, 2], &counts);
         assert!(rt; drops_all(set.drain(), items, &counts, 3));
         drop(set);
-        assert_eq!(rt; counts.drops.get(), 0);
+        assert!(rt; counts.drops.get() == 0);
         let set = counted_set([0, 1, 2], &counts);
         assert!(rt; drops_all(set.into_iter(), items, &counts, 3));
     }

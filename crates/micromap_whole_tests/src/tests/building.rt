@@ -47,20 +47,20 @@ fn nothing_is_taken_after_a_misfit(rt: HostRuntime) {
     let mut left = [(1, 'a'), (2, 'b'), (1, 'c'), (3, 'd'), (4, 'e')].into_iter();
     let map: Result<Map<u8, char, 2>, Overfull> = Map::try_from_iter(&mut left);
     assert!(rt; matches!(map, Err(Overfull { at: 3 })));
-    assert_eq!(rt; left.next(), Some((4, 'e')));
+    assert!(rt; left.next() == Some((4, 'e')));
     let mut left = [5, 6, 7].into_iter();
     let set: Result<Set<u8, 1>, Overfull> = Set::try_from_iter(&mut left);
     assert!(rt; matches!(set, Err(Overfull { at: 1 })));
-    assert_eq!(rt; left.next(), Some(7));
+    assert!(rt; left.next() == Some(7));
 }
 
 #[test]
 fn a_set_is_extended_up_to_the_first_misfit(rt: HostRuntime) {
     let mut set: Set<i32, 1> = Set::new();
     let mut left = [5, 6, 7].into_iter();
-    assert_eq!(rt; set.try_extend(&mut left), Err(Overfull { at: 1 }));
+    assert!(rt; set.try_extend(&mut left) == Err(Overfull { at: 1 }));
     assert!(rt; set.iter().eq(&[5]));
-    assert_eq!(rt; left.next(), Some(7));
+    assert!(rt; left.next() == Some(7));
 }
 
 #[test]
@@ -69,7 +69,7 @@ fn a_misfit_can_be_read(rt: HostRuntime) {
     let text = "item 3 has a new key, and there is no room for it";
     assert!(rt; displays(rt.alloc(), &misfit, text));
     assert!(rt; debugs(rt.alloc(), &misfit, "Overfull { at: 3 }"));
-    assert_eq!(rt; misfit, Overfull { at: 3 });
+    assert!(rt; misfit == Overfull { at: 3 });
 }
 
 #[test]
@@ -78,7 +78,7 @@ fn items_that_do_not_fit_are_dropped(rt: HostRuntime) {
     let items = [0, 1, 0, 2, 3].map(|id| Counted::new(id, &counts));
     let set: Result<Set<Counted<'_>, 2>, _> = Set::try_from_iter(items.into_iter());
     assert!(rt; set.is_err());
-    assert_eq!(rt; counts.drops.get(), 5);
+    assert!(rt; counts.drops.get() == 5);
 }
 
 #[test]
@@ -125,7 +125,7 @@ fn items_that_are_not_in_a_map_are_dropped(rt: HostRuntime) {
     let items = [0, 1, 0, 2, 3].map(|id| Counted::new(id, &counts));
     let set: Option<Set<Counted<'_>, 2>> = Set::of_all(items.into_iter());
     assert!(rt; set.is_none());
-    assert_eq!(rt; counts.drops.get(), 5);
+    assert!(rt; counts.drops.get() == 5);
 }
 
 #[test]
@@ -134,4 +134,53 @@ fn more_distinct_items_than_there_is_room_for_are_not_counted(rt: HostRuntime) {
     assert!(rt; few.is_none());
     let counts: Option<Map<u8, usize, 3>> = Map::counts_of([1, 2, 1, 3, 1].into_iter());
     assert!(rt; counts.is_some_and(|map| map.into_iter().eq([(1, 3), (2, 1), (3, 1)])));
+}
+
+#[test]
+fn a_map_takes_every_item_that_is_lent(rt: HostRuntime) {
+    let items = [(1, 'a'), (2, 'b'), (1, 'c')];
+    let mut left = items.into_iter();
+    let map: Map<u8, char, 1> = Map::of_fitting(&mut left);
+    assert!(rt; map.into_iter().eq([(1, 'c')]));
+    assert!(rt; left.next().is_none());
+    let mut left = items.into_iter();
+    let map: Map<u8, char, 1> = Map::with_fitting(&mut left, [(2, 'd')].into());
+    assert!(rt; map.into_iter().eq([(2, 'b')]));
+    assert!(rt; left.next().is_none());
+    let mut left = items.into_iter();
+    let map: Option<Map<u8, char, 1>> = Map::with_all(&mut left, Map::new());
+    assert!(rt; map.is_none());
+    assert!(rt; left.next().is_none());
+}
+
+#[test]
+fn every_lent_item_is_counted_or_taken(rt: HostRuntime) {
+    let mut left = [1, 2, 1].into_iter();
+    let few: Option<Map<u8, usize, 1>> = Map::counts_of(&mut left);
+    assert!(rt; few.is_none());
+    assert!(rt; left.next().is_none());
+    let mut left = [1, 2, 1].into_iter();
+    let counts: Option<Map<u8, usize, 2>> = Map::counts_of(&mut left);
+    assert!(rt; counts.is_some_and(|map| map.into_iter().eq([(1, 2), (2, 1)])));
+    assert!(rt; left.next().is_none());
+}
+
+#[test]
+fn a_set_takes_every_item_that_is_lent(rt: HostRuntime) {
+    let mut left = [5, 6, 5].into_iter();
+    let set: Option<Set<u8, 1>> = Set::of_all(&mut left);
+    assert!(rt; set.is_none());
+    assert!(rt; left.next().is_none());
+    let mut left = [5, 6, 5].into_iter();
+    let set: Set<u8, 1> = Set::of_fitting(&mut left);
+    assert!(rt; holds(&set, &[5]));
+    assert!(rt; left.next().is_none());
+    let mut left = [5, 6, 5].into_iter();
+    let set: Set<u8, 1> = Set::with_fitting(&mut left, [6].into());
+    assert!(rt; holds(&set, &[6]));
+    assert!(rt; left.next().is_none());
+    let mut left = [5, 6, 5].into_iter();
+    let set: Option<Set<u8, 1>> = Set::with_all(&mut left, Set::new());
+    assert!(rt; set.is_none());
+    assert!(rt; left.next().is_none());
 }

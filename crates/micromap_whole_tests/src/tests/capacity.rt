@@ -56,7 +56,7 @@ fn a_map_goes_where_it_fits(rt: HostRuntime) {
     match three::<5>().into_capacity::<3>() {
         Ok(map) => {
             assert!(rt; has_pairs(&map, &[1, 2, 3], &[10, 20, 30]));
-            assert_eq!(rt; map.capacity(), 3);
+            assert!(rt; map.capacity() == 3);
             assert!(rt; !map.fits(&4));
         }
         Err(_) => panic!(rt; "three pairs fit"),
@@ -69,7 +69,7 @@ fn a_map_that_does_not_fit_comes_back(rt: HostRuntime) {
         Ok(_) => panic!(rt; "three pairs don't fit"),
         Err(map) => {
             assert!(rt; has_pairs(&map, &[1, 2, 3], &[10, 20, 30]));
-            assert_eq!(rt; map.capacity(), 5);
+            assert!(rt; map.capacity() == 5);
         }
     }
 }
@@ -116,11 +116,11 @@ fn a_full_map_goes_on_in_a_larger_one(rt: HostRuntime) {
 #[test]
 fn a_third_map_finds_no_difference(rt: HostRuntime) {
     let third = Map::from([(3, 30), (1, 10), (2, 20)]);
-    assert_eq!(rt; is_same_in_8(three::<5>(), &third), Some(true));
+    assert!(rt; is_same_in_8(three::<5>(), &third) == Some(true));
     let other = Map::from([(1, 10), (2, 20), (3, 31)]);
-    assert_eq!(rt; is_same_in_8(other, &third), Some(false));
+    assert!(rt; is_same_in_8(other, &third) == Some(false));
     let many = Map::from([1, 2, 3, 4, 5, 6, 7, 8, 9].map(|key| (key, key)));
-    assert_eq!(rt; is_same_in_8(many, &third), None);
+    assert!(rt; is_same_in_8(many, &third).is_none());
 }
 
 // A map of this capacity, where it is the type's.
@@ -145,12 +145,12 @@ fn another_capacity_drops_nothing_by_itself(rt: HostRuntime) {
     let counts = Counts::new();
     let moved = counted_map([0, 1, 2], &counts).into_capacity::<4>();
     assert!(rt; moved.is_ok());
-    assert_eq!(rt; counts.drops.get(), 0);
+    assert!(rt; counts.drops.get() == 0);
     drop(moved);
-    assert_eq!(rt; counts.drops.replace(0), 6);
+    assert!(rt; counts.drops.replace(0) == 6);
     let refused = counted_map([0, 1, 2], &counts).into_capacity::<2>();
     assert!(rt; refused.is_err());
-    assert_eq!(rt; counts.drops.get(), 0);
+    assert!(rt; counts.drops.get() == 0);
     drop(refused);
-    assert_eq!(rt; counts.drops.replace(0), 6);
+    assert!(rt; counts.drops.replace(0) == 6);
 }

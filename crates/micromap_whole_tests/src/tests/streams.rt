@@ -193,11 +193,11 @@ fn the_less_room_the_more_is_left(rt: HostRuntime) {
     let mut source = SliceSource::over(&[(1, "a"), (2, "b"), (3, "c")]);
     let one: Result<Map<u8, &str, 1>, _> = Map::read_entries(&mut source);
     assert!(rt; matches!(one, Err(ReadFault::TooMany)));
-    assert_eq!(rt; source.left(), [(3, "c")].as_slice());
+    assert!(rt; source.left() == [(3, "c")].as_slice());
     let mut source = SliceSource::over(&[(1, "a"), (2, "b"), (3, "c")]);
     let none: Result<Map<u8, &str, 0>, _> = Map::read_entries(&mut source);
     assert!(rt; matches!(none, Err(ReadFault::TooMany)));
-    assert_eq!(rt; source.left(), [(2, "b"), (3, "c")].as_slice());
+    assert!(rt; source.left() == [(2, "b"), (3, "c")].as_slice());
 }
 
 #[test]
@@ -207,9 +207,9 @@ fn a_sink_may_fail_at_each_entry(rt: HostRuntime) -> Result<(), AllocError> {
         let mut sink = RefusingSink::new(rt.alloc(), taken)?;
         let written = map.write_entries(&mut sink);
         if taken < 3 {
-            assert_eq!(rt; written, Err(Fault::At(taken)));
+            assert!(rt; written == Err(Fault::At(taken)));
         } else {
-            assert_eq!(rt; written, Ok(()));
+            assert!(rt; written == Ok(()));
         }
         assert!(rt;
             sink.taken
@@ -233,7 +233,7 @@ fn a_source_may_fail_at_each_call(rt: HostRuntime) {
         let map: Result<Map<u8, char, 3>, _> = Map::read_entries(&mut source);
         if left < 4 {
             assert!(rt; matches!(map, Err(ReadFault::Source(7))));
-            assert_eq!(rt; source.left.len(), left);
+            assert!(rt; source.left.len() == left);
         } else {
             assert!(rt; map.is_ok_and(|mut map| map.drain().eq([(1, 'a'), (2, 'b'), (3, 'c')])));
         }
@@ -252,12 +252,9 @@ fn a_sink_has_what_came_before_its_fault(rt: HostRuntime) -> Result<(), AllocErr
     ] {
         assert!(rt; sink.faults() < 3);
         sink.refuses_at = refuses_at;
-        assert_eq!(rt; map.write_entries(&mut sink), written);
+        assert!(rt; map.write_entries(&mut sink) == written);
         assert!(rt; sink.taken.iter().eq(all.iter().take(refuses_at)));
-        assert_eq!(rt;
-            (sink.faults(), sink.last_fault),
-            (faults, Some(Fault::At(last_fault)))
-        );
+        assert!(rt; (sink.faults(), sink.last_fault) == (faults, Some(Fault::At(last_fault))));
     }
     Ok(())
 }
@@ -271,19 +268,19 @@ fn a_source_has_what_comes_after_its_fault(rt: HostRuntime) {
         faults: 0,
         last_fault: None,
     };
-    assert_eq!(rt; source.next_entry(), Err(8));
+    assert!(rt; source.next_entry() == Err(8));
     source.refuses_at = 1;
     source.fault = 9;
     let map: Result<Map<u8, char, 2>, _> = Map::read_entries(&mut source);
     assert!(rt; matches!(map, Err(ReadFault::Source(9))));
-    assert_eq!(rt; source.left, [(1, 'c')].as_slice());
-    assert_eq!(rt; source.faults(), 2);
-    assert_eq!(rt; source.last_fault, Some(9));
+    assert!(rt; source.left == [(1, 'c')].as_slice());
+    assert!(rt; source.faults() == 2);
+    assert!(rt; source.last_fault == Some(9));
     source.refuses_at = 9;
     let map: Result<Map<u8, char, 2>, _> = Map::read_entries(&mut source);
     assert!(rt; map.is_ok_and(|mut map| map.drain().eq([(1, 'c')])));
-    assert_eq!(rt; source.faults(), 2);
-    assert_eq!(rt; source.last_fault, Some(9));
+    assert!(rt; source.faults() == 2);
+    assert!(rt; source.last_fault == Some(9));
 }
 
 #[test]
@@ -291,11 +288,11 @@ fn a_set_is_written_as_keys_with_no_value(rt: HostRuntime) -> Result<(), AllocEr
     let set: Set<u8, 4> = [7, 5, 7, 6].into();
     let mut sink = VecSink::new(rt.alloc());
     set.write_entries(&mut sink)?;
-    assert_eq!(rt; sink.entries(), [(7, ()), (5, ()), (6, ())].as_slice());
-    assert_eq!(rt; sink.faults(), 0);
+    assert!(rt; sink.entries() == [(7, ()), (5, ()), (6, ())].as_slice());
+    assert!(rt; sink.faults() == 0);
     let read: Result<Set<u8, 3>, _> = Set::read_entries(&mut SliceSource::over(sink.entries()));
     assert!(rt; read.is_ok_and(|read| read.iter().eq(&[7, 5, 6])));
-    assert_eq!(rt; sink.into_entries().len(), 3);
+    assert!(rt; sink.into_entries().len() == 3);
     Ok(())
 }
 
@@ -303,10 +300,10 @@ fn a_set_is_written_as_keys_with_no_value(rt: HostRuntime) -> Result<(), AllocEr
 fn a_list_takes_as_many_entries_as_come(rt: HostRuntime) -> Result<(), AllocError> {
     let mut sink = VecSink::new(rt.alloc());
     for key in 0..1000u16 {
-        assert_eq!(rt; sink.faults(), 0);
+        assert!(rt; sink.faults() == 0);
         sink.entry(&key, &())?;
     }
-    assert_eq!(rt; sink.entries().len(), 1000);
+    assert!(rt; sink.entries().len() == 1000);
     Ok(())
 }
 
@@ -315,8 +312,8 @@ fn a_fault_says_whose_it_is(rt: HostRuntime) {
     let alloc = rt.alloc();
     let source: ReadFault<Fault> = ReadFault::Source(Fault::At(2));
     let again = source;
-    assert_eq!(rt; source, again);
-    assert_ne!(rt; source, ReadFault::TooMany);
+    assert!(rt; source == again);
+    assert!(rt; source != ReadFault::TooMany);
     assert!(rt; displays(alloc, &source, "the source failed: refused at 2"));
     assert!(rt; debugs(alloc, &source, "Source(At(2))"));
     let many: ReadFault<Fault> = ReadFault::TooMany;
@@ -341,5 +338,5 @@ fn a_sink_is_written_to_where_it_may_fail_once_more(rt: HostRuntime) {
     let map = Map::from([(1, 10), (2, 20)]);
     let mut sink = VecSink::new(rt.alloc());
     assert!(rt; written(&map, &mut sink));
-    assert_eq!(rt; sink.entries(), [(1, 10), (2, 20)].as_slice());
+    assert!(rt; sink.entries() == [(1, 10), (2, 20)].as_slice());
 }
