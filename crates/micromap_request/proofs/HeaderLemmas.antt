@@ -1,4 +1,4 @@
--- What removals leave of headers whose names are distinct, and what a reader's first bytes have.
+-- What removals leave of headers whose names are distinct, what a reader's first bytes have, and why a run ends.
 use Rattle.std.proofs.Common.{◌≡◌, ℕ, ◌+◌, true, false, List, [], ◌∷◌, take, Option, IfSome, refl, ap, sym, subst, arith}
 use Rattle.std.proofs.lemmas.Cmp.{nat_list_eq_equiv}
 use Rattle.std.proofs.lemmas.Grind.{common_steps}
@@ -9,7 +9,9 @@ use Rattle.std.specs.Map.{keys_of}
 use Rattle.std.specs.Str.{bytes_eq}
 use Rattle.micromap.specs.Pairs.{IsUnique, take_out}
 use Rattle.micromap_uses.specs.Headers.{Header, Text}
-use Rattle.micromap_request.specs.Heads.{without}
+use Rattle.micromap_request.specs.Heads.{without, EndsCopy, EndsRun}
+use Rattle.micromap_request.specs.declared.fault.RunFault.{RunFault}
+use Rattle.micromap_request.specs.declared.fault.RunFault.TheVariants as run
 use Rattle.micromap_request.specs.declared.head.TheConstants.{MOST_BYTES}
 
 -- a name that no header has removes none
@@ -36,3 +38,10 @@ pub ruleset removals = (without_first, without_none)
 -- what is true of the bytes that were read is true of the first that the reader had, where these are known
 pub true_of_front : (known : Option (List ℕ)) (read : List ℕ) (P : List ℕ → Type 0) → IfSome known (λ all. read ≡ take (MOST_BYTES + 1) all) → P read → IfSome known (λ all. P (take (MOST_BYTES + 1) all))
 true_of_front known read P front holds = IfSome_then known front (λ all same. subst P same holds)
+
+-- what ends the copy of a text that was read ends the run
+pub EndsRun-copy : (text : List ℕ) (names : List Text) (fault : RunFault) → EndsCopy text names fault → EndsRun text names fault
+EndsRun-copy text names (run.Input error) ends = tt
+EndsRun-copy text names (run.Head fault) ends = ends
+EndsRun-copy text names run.Memory ends = ends
+EndsRun-copy text names (run.Output error) ends = ends

@@ -79,9 +79,23 @@ head_text head = head.method.now ++ codes " " ++ head.target.now ++ codes "\n" +
 abbrev pub WritesHead : List ℕ → List Text → (old new : Option (List ℕ)) → Type 0
 WritesHead text names old new = (head : Head) × HasHead text head × Appends old new (head_text (record head { headers = without names head.headers }))
 
--- why the head at the front of the text was not written without the headers of these names
+-- why the head at the front of a text that was read was not written without the headers of these names
+abbrev pub EndsCopy : List ℕ → List Text → RunFault → Type 0
+EndsCopy text names (run.Input error) = ⊥
+EndsCopy text names (run.Head fault) = Explains text fault
+EndsCopy text names run.Memory = IsAccepted text × (0 < length names)
+EndsCopy text names (run.Output error) = IsAccepted text
+
+-- the same where the text is read first
 abbrev pub EndsRun : List ℕ → List Text → RunFault → Type 0
 EndsRun text names (run.Input error) = ⊤
-EndsRun text names (run.Head fault) = Explains text fault
-EndsRun text names run.Memory = IsAccepted text × (0 < length names)
-EndsRun text names (run.Output error) = IsAccepted text
+EndsRun text names (run.Head fault) = EndsCopy text names (run.Head fault)
+EndsRun text names run.Memory = EndsCopy text names run.Memory
+EndsRun text names (run.Output error) = EndsCopy text names (run.Output error)
+
+-- the output is as it was before, but where it is itself at fault
+abbrev pub SparesOutput : {W : Type 0} → (old new : W) → RunFault → Type 0
+SparesOutput old new (run.Input error) = new ≡ old
+SparesOutput old new (run.Head fault) = new ≡ old
+SparesOutput old new run.Memory = new ≡ old
+SparesOutput old new (run.Output error) = ⊤

@@ -23,10 +23,10 @@ pub enum RunFault {
 impl fmt::Display for RunFault {
     fn fmt<W: fmt::Write>(&self, f: &mut fmt::Formatter<W>) -> fmt::Result {
         match self {
-            RunFault::Input(error) => write!(f, "{error}"),
+            RunFault::Input(error) => write!(f, "the input can't be read: {error}"),
             RunFault::Head(fault) => write!(f, "{fault}"),
             RunFault::Memory => f.write_str("a request for memory was refused"),
-            RunFault::Output(error) => write!(f, "{error}"),
+            RunFault::Output(error) => write!(f, "the output can't be written: {error}"),
         }
     }
 }

@@ -9,7 +9,7 @@
 ghost use Rattle.std.specs.Prelude.{◌≡◌, ◌+◌, ◌<◌, drop, length, take, IfErr, IfOk, IfSome, OnErr, OnOk};
 ghost use Rattle.std.specs.Io.KnownBytes.{Appends};
 ghost use Rattle.std.specs.List.{flat_map};
-ghost use Rattle.micromap_request.specs.Heads.{head_text, header_line, names_in, names_of, without, EndsRun, WritesHead};
+ghost use Rattle.micromap_request.specs.Heads.{head_text, header_line, names_in, names_of, without, EndsCopy, EndsRun, SparesOutput, WritesHead};
 
 mod fault;
 mod head;
@@ -31,6 +31,7 @@ pub fn run<R: Read + Drop, W: Write>(
 ) -> Result<(), RunFault>
     ensures written { OnOk result (IfSome (R.remaining input) (λ all. WritesHead (take (MOST_BYTES + 1) all) (names_in arguments.now) (W.contents output.old) (W.contents output.new))) }
     ensures fault { IfErr result (λ fault. IfSome (R.remaining input) (λ all. EndsRun (take (MOST_BYTES + 1) all) (names_in arguments.now) fault)) }
+    ensures spared { IfErr result (SparesOutput output.old output.new) }
 {
     let text = read_front(alloc, input, MOST_BYTES as u64 + 1).map_err(RunFault::Input)?;
     copy_head(alloc, &text, arguments, output)
@@ -53,7 +54,8 @@ pub fn copy_head<W: Write>(
     output: &mut W,
 ) -> Result<(), RunFault>
     ensures written { OnOk result (WritesHead text.now (names_in arguments.now) (W.contents output.old) (W.contents output.new)) }
-    ensures fault { IfErr result (EndsRun text.now (names_in arguments.now)) }
+    ensures fault { IfErr result (EndsCopy text.now (names_in arguments.now)) }
+    ensures spared { IfErr result (SparesOutput output.old output.new) }
 {
     let mut head = Head::parse(alloc, text)?;
     remove_each(alloc, &mut head.headers, behind_first(arguments))?;

@@ -1,9 +1,9 @@
 //! What is written of a head, and the message of each fault.
 use anyhow::Result;
-use micromap_request::run;
-use micromap_testing::displays;
+use micromap_request::{RunFault, run};
+use micromap_testing::{Refusing, displays};
 use std::alloc::Global;
-use std::io::Write;
+use std::io::{self, Read, Write};
 
 // What the program writes for a text, if its first argument is its own name, `host`, and the second is `Cookie`.
 fn written(alloc: Global, text: &[u8]) -> Result<Vec<u8>> {
@@ -98,14 +98,57 @@ fn a_malformed_head_has_its_kind(rt: HostRuntime) {
     }
 }
 
+// An input that can't be read.
+#[derive(Drop)]
+struct Broken;
+
+impl Read for Broken {
+    fn read(&mut self, _buf: &mut [u8]) -> io::Result<usize> {
+        Err(io::Error::from(io::ErrorKind::BrokenPipe))
+    }
+}
+
+#[test]
+fn a_broken_input_ends_the_program(rt: HostRuntime) {
+    let mut output = Refusing::new(usize::MAX);
+    let ended = run(rt.alloc(), &[], Broken, &mut output);
+    assert!(rt;
+        ended.is_err_and(|fault| displays(
+            rt.alloc(),
+            &fault,
+            "the input can't be read: broken pipe"
+        ))
+    );
+    assert!(rt; output.writes == 0);
+}
+
 #[test]
 fn a_full_output_ends_the_program(rt: HostRuntime) {
     let text = b"GET / HTTP/1.1\nHost: x\n\n".as_slice();
     let mut room = [0; 8];
     let ended = run(rt.alloc(), &[], text, &mut room.as_mut_slice());
     assert!(rt;
-        ended.is_err_and(|fault| displays(rt.alloc(), &fault, "failed to write whole buffer"))
+        ended.is_err_and(|fault| displays(
+            rt.alloc(),
+            &fault,
+            "the output can't be written: failed to write whole buffer"
+        ))
     );
+}
+
+#[test]
+fn a_text_without_a_head_leaves_the_output(rt: HostRuntime) {
+    let mut output = Refusing::new(usize::MAX);
+    for text in [
+        "",
+        "GET / HTTP/1.1\nHost: x\n",
+        "GET / HTTP/2.0\n\n",
+        "GET / HTTP/1.1\nAccept: x\n\n",
+    ] {
+        let ended = run(rt.alloc(), &[], text.as_bytes(), &mut output);
+        assert!(rt; matches!(ended, Err(RunFault::Head(_))));
+    }
+    assert!(rt; output.writes == 0);
 }
 
 #[test]
