@@ -12,11 +12,10 @@ from pages.sources import LIBRARY, Sources, anchor, read
 CLAIMS = "docs/CLAIMS.md"
 # The sections of the edits of other crates than the library's.
 PROGRAMS = {
-    "micromap_lockstep": "The worked rows",
+    "micromap_testing": "The worked rows",
     "micromap_replay": "Recorded calls",
     "micromap_uses": "Example libraries",
     "micromap_contract": "A caller with a contract",
-    "micromap_request": "An example program",
 }
 HEAD = """# Claims
 

@@ -2,8 +2,8 @@
 //! expected.
 #![tactic(auto)]
 
-pub use micromap_lockstep::{Call, lockstep};
 pub use micromap_rows::run_rows;
+pub use micromap_testing::{Call, lockstep};
 use std::io;
 use std::process::ExitCode;
 

@@ -4,11 +4,11 @@
 ghost use Rattle.std.specs.Prelude.{◌≡◌, ◌≤◌};
 ghost use Rattle.std.specs.Io.KnownBytes.{Appends};
 ghost use Rattle.std.specs.List.{flat_map};
-ghost use Rattle.micromap_lockstep.specs.Rows.{ok_line};
+ghost use Rattle.micromap_testing.specs.Rows.{ok_line};
 
 mod rows;
 
-use micromap_lockstep::write_rows;
+use micromap_testing::write_rows;
 use rows::{NUMBERS, is_ok};
 use std::alloc::Global;
 use std::io::Write;

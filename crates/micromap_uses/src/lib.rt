@@ -9,6 +9,7 @@ pub mod graph;
 pub mod headers;
 pub mod order;
 pub mod permissions;
+pub mod request;
 pub mod scopes;
 pub mod stock;
 pub mod votes;

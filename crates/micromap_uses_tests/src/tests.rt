@@ -17,6 +17,7 @@ mod order;
 mod permissions;
 mod probes;
 mod reads;
+mod request;
 mod scopes;
 mod set_loops;
 mod stock;

@@ -7,6 +7,7 @@ mod comparison;
 mod counted;
 mod extending;
 mod json;
+mod lockstep;
 mod map;
 mod printing;
 mod readme;

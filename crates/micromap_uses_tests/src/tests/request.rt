@@ -1,0 +1,169 @@
+//! What is written of a head, and the message of each fault.
+use anyhow::Result;
+use micromap_testing::{Refusing, displays};
+use micromap_uses::request::{RunFault, run};
+use std::alloc::Global;
+use std::io::{self, Read, Write};
+
+// What the program writes for a text, if its first argument is its own name, `host`, and the second is `Cookie`.
+fn written(alloc: Global, text: &[u8]) -> Result<Vec<u8>> {
+    let mut arguments = Vec::new(alloc);
+    for argument in ["host", "Cookie"] {
+        arguments.push(String::from_str(alloc, argument)?)?;
+    }
+    let mut output = Vec::new(alloc);
+    run(alloc, &arguments, text, &mut output)?;
+    Ok(output)
+}
+
+// Whether a head with these fields is refused with this message.
+fn refuses(alloc: Global, fields: &[u8], message: &str) -> Result<bool> {
+    let mut text = Vec::from_slice(alloc, b"GET / HTTP/1.1\r\n")?;
+    text.extend_from_slice(fields)?;
+    Ok(written(alloc, &text).is_err_and(|error| displays(alloc, &error, message)))
+}
+
+// So many fields with names of their own, and the end of a head.
+fn fields(alloc: Global, count: u8) -> Result<Vec<u8>> {
+    let mut fields = Vec::new(alloc);
+    for number in 0..count {
+        write!(fields, "{number}:\r\n")?;
+    }
+    fields.extend_from_slice(b"\r\n")?;
+    Ok(fields)
+}
+
+#[test]
+fn a_head_is_written_in_order(rt: HostRuntime) -> Result<()> {
+    let text = b"PUT /a HTTP/1.1\nB: c\nHost: x\nb:\td \ncookie: e\nhost:x\nF: \xff\n\nHost: y";
+    assert!(rt;
+        written(rt.alloc(), text)?.as_slice() == b"PUT /a\nb: c, d\nhost: x\nf: \xff\n".as_slice()
+    );
+    Ok(())
+}
+
+#[test]
+fn each_fault_has_its_message(rt: HostRuntime) -> Result<()> {
+    for (fields, message) in [
+        ("Host: x\n", "the input ends before the head does"),
+        ("Host\n", "the head can't be read: invalid header name"),
+        ("Accept: x\n\n", "there is no host"),
+        ("Host: x\nHOST: y\n\n", "two values of host differ"),
+        (
+            "Content-Length: 1\ncontent-length: 2\n\n",
+            "two values of content-length differ",
+        ),
+    ] {
+        assert!(rt; refuses(rt.alloc(), fields.as_bytes(), message)?);
+    }
+    Ok(())
+}
+
+#[test]
+fn an_empty_value_is_a_value(rt: HostRuntime) -> Result<()> {
+    assert!(rt;
+        written(rt.alloc(), b"GET / HTTP/1.1\nHost:\nA: \n\n")?.as_slice()
+            == b"GET /\nhost: \na: \n".as_slice()
+    );
+    Ok(())
+}
+
+#[test]
+fn a_malformed_head_has_its_kind(rt: HostRuntime) {
+    let alloc = rt.alloc();
+    for (text, message) in [
+        (
+            "G\x01T / HTTP/1.1\n\n",
+            "the head can't be read: invalid token",
+        ),
+        (
+            "GET /\x01 HTTP/1.1\n\n",
+            "the head can't be read: invalid token",
+        ),
+        (
+            "GET / HTTP/2.0\n\n",
+            "the head can't be read: invalid HTTP version",
+        ),
+        (
+            "GET / HTTP/1.1\r\r\n",
+            "the head can't be read: invalid new line",
+        ),
+        (
+            "GET / HTTP/1.1\nHost: \x01\n\n",
+            "the head can't be read: invalid header value",
+        ),
+    ] {
+        let refused = written(alloc, text.as_bytes());
+        assert!(rt; refused.is_err_and(|fault| displays(alloc, &fault, message)));
+    }
+}
+
+// An input that can't be read.
+#[derive(Drop)]
+struct Broken;
+
+impl Read for Broken {
+    fn read(&mut self, _buf: &mut [u8]) -> io::Result<usize> {
+        Err(io::Error::from(io::ErrorKind::BrokenPipe))
+    }
+}
+
+#[test]
+fn a_broken_input_ends_the_program(rt: HostRuntime) {
+    let mut output = Refusing::new(usize::MAX);
+    let ended = run(rt.alloc(), &[], Broken, &mut output);
+    assert!(rt;
+        ended.is_err_and(|fault| displays(
+            rt.alloc(),
+            &fault,
+            "the input can't be read: broken pipe"
+        ))
+    );
+    assert!(rt; output.writes == 0);
+}
+
+#[test]
+fn a_full_output_ends_the_program(rt: HostRuntime) {
+    let text = b"GET / HTTP/1.1\nHost: x\n\n".as_slice();
+    let mut room = [0; 8];
+    let ended = run(rt.alloc(), &[], text, &mut room.as_mut_slice());
+    assert!(rt;
+        ended.is_err_and(|fault| displays(
+            rt.alloc(),
+            &fault,
+            "the output can't be written: failed to write whole buffer"
+        ))
+    );
+}
+
+#[test]
+fn a_text_without_a_head_leaves_the_output(rt: HostRuntime) {
+    let mut output = Refusing::new(usize::MAX);
+    for text in [
+        "",
+        "GET / HTTP/1.1\nHost: x\n",
+        "GET / HTTP/2.0\n\n",
+        "GET / HTTP/1.1\nAccept: x\n\n",
+    ] {
+        let ended = run(rt.alloc(), &[], text.as_bytes(), &mut output);
+        assert!(rt; matches!(ended, Err(RunFault::Head(_))));
+    }
+    assert!(rt; output.writes == 0);
+}
+
+#[test]
+fn a_head_has_its_limits(rt: HostRuntime) -> Result<()> {
+    let alloc = rt.alloc();
+    assert!(rt; refuses(alloc, &fields(alloc, 32)?, "there is no host")?);
+    assert!(rt; refuses(alloc, &fields(alloc, 33)?, "there are more than 32 names")?);
+    assert!(rt;
+        refuses(
+            alloc,
+            &fields(alloc, 101)?,
+            "the head can't be read: too many headers"
+        )?
+    );
+    let long = vec![in alloc; b'a'; 9000]?;
+    assert!(rt; refuses(alloc, &long, "the head has more than 8192 bytes")?);
+    Ok(())
+}
