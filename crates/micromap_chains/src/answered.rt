@@ -1,7 +1,7 @@
 //! Chains with one expression as the proof of each. It says what the chain yields, by one law for each step.
 #![tactic(auto)]
 
-ghost use Rattle.std.specs.Prelude.{◌≡◌, ◌↔◌, ◌<◌, ◌/◌, [], IfErr, IfOk, IsErr, OnOk, length, map, max, nat_eq, nat_lt};
+ghost use Rattle.std.specs.Prelude.{◌≡◌, ◌↔◌, ◌<◌, ◌/◌, [], IfErr, IfOk, IsErr, OnOk, map, max, nat_eq, nat_lt};
 ghost use Rattle.std.specs.List.{find, reduce};
 ghost use Rattle.std.specs.Map.{keys_of, values_of};
 ghost use Rattle.std.specs.Map.Iter.{deref_pair};
@@ -50,16 +50,6 @@ pub fn put_copies<const N: usize, const M: usize>(
     ensures { OnOk result (pairs.new ≡ put_all nat_eq pairs.old other.now) }
 {
     pairs.try_extend(other.iter().map(|(k, v)| (*k, *v)))
-}
-
-/// Puts a list of pairs into a map. If it is refused, there would be more than `N`.
-pub fn put_list<const N: usize>(
-    pairs: &mut Map<u8, u8, N>,
-    list: &[(u8, u8)],
-) -> Result<(), Overfull>
-    ensures { IfErr result (λ _. N < length (put_all nat_eq pairs.old list.now)) }
-{
-    pairs.try_extend(list.iter().copied())
 }
 
 /// Returns the first pair whose value is above a limit, if any.

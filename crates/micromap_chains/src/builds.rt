@@ -51,15 +51,6 @@ pub fn built_above<const N: usize>(pairs: &Map<u8, u32, N>) -> Map<u8, u32, N>
     some
 }
 
-/// Returns the pairs with the halves of their values, as the map that is built of them.
-pub fn built_halves<const N: usize>(pairs: &Map<u8, u32, N>) -> Map<u8, u32, N>
-    ensures { result ≡ build nat_eq (map (λ p. (p.0, p.1 / 2)) pairs.now) }
-{
-    let mut halves = pairs.copied();
-    halves.update_all(|_, value| *value /= 2);
-    halves
-}
-
 /// Returns the pairs whose values are above 9.
 pub fn map_above(pairs: Map<u8, u32, 8>) -> Result<Map<u8, u32, 8>, Overfull>
     ensures { IfOk result (λ m. m ≡ filter (λ p. nat_lt 9 p.1) pairs) }
@@ -81,9 +72,10 @@ pub fn set_of_lists<const N: usize>(a: &[u8], b: &[u8]) -> Result<Set<u8, N>, Ov
     Set::try_from_iter(a.iter().chain(b.iter()).copied())
 }
 
-/// Returns the keys of a map as a set.
+/// Returns the keys of a map as a set, which has room for them.
 pub fn set_of_keys<const N: usize>(pairs: &Map<u8, u32, N>) -> Result<Set<u8, N>, Overfull>
-    ensures { IfOk result (λ s. s ≡ keys_of pairs.now) }
+    ensures keys { IfOk result (λ s. s ≡ keys_of pairs.now) }
+    ensures room { IsOk result }
 {
     Set::try_from_iter(pairs.keys().copied())
 }
@@ -95,9 +87,10 @@ pub fn set_of_keys_above<const N: usize>(pairs: &Map<u8, u32, N>) -> Result<Set<
     Set::try_from_iter(pairs.keys().copied().filter(|k| *k > 9))
 }
 
-/// Returns the items of a set that are above 9.
+/// Returns the items of a set that are above 9, for which a set of the same capacity has room.
 pub fn set_above<const N: usize>(set: &Set<u8, N>) -> Result<Set<u8, N>, Overfull>
-    ensures { IfOk result (λ s. s ≡ filter (nat_lt 9) set.now) }
+    ensures items { IfOk result (λ s. s ≡ filter (nat_lt 9) set.now) }
+    ensures room { IsOk result }
 {
     Set::try_from_iter(set.iter().copied().filter(|x| *x > 9))
 }
@@ -121,13 +114,6 @@ pub fn set_of_difference<const N: usize, const M: usize, const L: usize>(
     ensures refused { IsErr result ↔ (L < length (difference nat_eq a.now b.now)) }
 {
     Set::try_from_iter(a.difference(b).copied())
-}
-
-/// Returns the keys of a map as a set, which has room for them.
-pub fn set_of_all_keys<const N: usize>(pairs: &Map<u8, u32, N>) -> Result<Set<u8, N>, Overfull>
-    ensures { IsOk result }
-{
-    Set::try_from_iter(pairs.keys().copied())
 }
 
 /// Returns the distinct values of a map as a set.
@@ -158,13 +144,6 @@ pub fn map_of_all_above<const N: usize>(
     ensures { IsOk result }
 {
     Map::try_from_iter(pairs.iter().filter(|(_, v)| **v > 9).map(|(k, v)| (*k, *v)))
-}
-
-/// Returns the items of a set that are above 9, for which a set of the same capacity has room.
-pub fn set_of_all_above<const N: usize>(set: &Set<u8, N>) -> Result<Set<u8, N>, Overfull>
-    ensures { IsOk result }
-{
-    Set::try_from_iter(set.iter().copied().filter(|x| *x > 9))
 }
 
 /// Returns the items of a list with their halves, or `None` exactly if more than `N` items are distinct. The function

@@ -1,10 +1,9 @@
 //! Maps and sets that are made by `fold`, where no call makes them. A fold moves the map in each turn.
 #![tactic(auto)]
 
-ghost use Rattle.std.specs.Prelude.{◌≡◌, ◌/◌, ◌+◌, ◌-◌, ◌^◌, ◌<◌, ◌&&◌, [], Some, None, List, Option, ℕ, true, drop, filter, fold, if◌then◌else◌, is_none, length, map, max, min, nat_eq, nat_lt, not, unwrap_or};
+ghost use Rattle.std.specs.Prelude.{◌≡◌, ◌/◌, ◌+◌, ◌-◌, ◌^◌, ◌<◌, ◌&&◌, [], Some, None, List, Option, ℕ, drop, filter, fold, if◌then◌else◌, is_none, length, map, max, min, nat_eq, nat_lt, not, unwrap_or};
 ghost use Rattle.std.specs.List.{enumerate_from, zip, range_with_len};
 ghost use Rattle.std.specs.Option.{option_and_then, option_or};
-ghost use Rattle.std.specs.Set.{is_member};
 ghost use Rattle.std.specs.Ordering.{on};
 ghost use Rattle.std.specs.Str.{bytes_eq};
 ghost use Rattle.micromap.specs.Items.{put_item_if_fits, take_item};
@@ -265,16 +264,6 @@ pub fn first_value(layers: &[Map<u8, u32, 16>], key: u8) -> Option<u32>
         None,
         |found: Option<u32>, layer| found.or(layer.get(&key).copied()),
     )
-}
-
-/// Returns a map with each of the votes, as far as they fit.
-pub fn seen(votes: &[u8]) -> Map<u8, u8, 16>
-    ensures { result ≡ fold (λ (m : List (ℕ × ℕ)) (v : ℕ). put_if_fits nat_eq 16 m v 1) [] votes.now }
-{
-    votes.iter().fold(Map::new(), |mut m, v| {
-        m.checked_insert(*v, 1);
-        m
-    })
 }
 
 /// Returns a map of any capacity with each of the votes, as far as they fit.

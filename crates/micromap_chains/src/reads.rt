@@ -41,14 +41,6 @@ pub fn total<const N: usize>(pairs: &Map<u8, u32, N>) -> u32
     pairs.values().sum()
 }
 
-/// Returns the sum of the values, which must fit, by their copies.
-pub fn total_of_copies<const N: usize>(pairs: &Map<u8, u32, N>) -> u32
-    requires { sum (values_of pairs.now) < 2 ^ 32 }
-    ensures { result ≡ sum (values_of pairs.now) }
-{
-    pairs.values().copied().sum()
-}
-
 /// Returns the greatest value, or 0.
 pub fn greatest_or_zero<const N: usize>(pairs: &Map<u8, u32, N>) -> u32
     ensures { result ≡ fold (λ most v. if nat_lt most v then v else most) 0 (values_of pairs.now) }

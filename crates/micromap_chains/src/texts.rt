@@ -54,13 +54,6 @@ pub fn longest_or_zero<const N: usize>(settings: &Map<String, String, N>) -> usi
         .fold(0, |most: usize, key| most.max(key.len()))
 }
 
-/// Returns how many bytes the longest key has, if any, by the pairs.
-pub fn longest_of_pairs<const N: usize>(names: &Map<&str, u64, N>) -> Option<usize>
-    ensures { result ≡ reduce max (map (λ p. length p.0.now) names.now) }
-{
-    names.iter().map(|(k, _)| k.len()).max()
-}
-
 /// Returns how many bytes the longest key has, if any, where keys are `String`s.
 pub fn longest_of_strings<const N: usize>(names: &Map<String, u64, N>) -> Option<usize>
     ensures { result ≡ reduce max (map (λ p. length (string_bytes p.0)) names.now) }

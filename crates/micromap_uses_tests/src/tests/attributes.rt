@@ -37,10 +37,10 @@ fn attributes_stand_in_the_order_in_which_they_came(rt: HostRuntime) {
     let alloc = rt.alloc();
     let mut list = full(alloc);
     assert!(rt; reads(alloc, &list, "{id: b, class: wide, href: /}"));
-    assert_eq!(rt; put(alloc, &mut list, "alt", ""), Some(false));
-    assert_eq!(rt; put(alloc, &mut list, "href", "#"), Some(true));
-    assert_eq!(rt; value_or(&list, "href", "none"), "#");
-    assert_eq!(rt; value_or(&list, "alt", "none"), "none");
+    assert!(rt; put(alloc, &mut list, "alt", "") == Some(false));
+    assert!(rt; put(alloc, &mut list, "href", "#") == Some(true));
+    assert!(rt; value_or(&list, "href", "none") == "#");
+    assert!(rt; value_or(&list, "alt", "none") == "none");
 }
 
 // The other attributes keep their order, and the new name stands behind them.
@@ -48,8 +48,8 @@ fn attributes_stand_in_the_order_in_which_they_came(rt: HostRuntime) {
 fn a_renamed_attribute_goes_last(rt: HostRuntime) {
     let alloc = rt.alloc();
     let mut list = full(alloc);
-    assert_eq!(rt; renamed(alloc, &mut list, "id", "name"), Some(true));
-    assert_eq!(rt; renamed(alloc, &mut list, "id", "alt"), Some(false));
+    assert!(rt; renamed(alloc, &mut list, "id", "name") == Some(true));
+    assert!(rt; renamed(alloc, &mut list, "id", "alt") == Some(false));
     assert!(rt; reads(alloc, &list, "{class: wide, href: /, name: b}"));
     assert!(rt; remove(&mut list, "class"));
     assert!(rt; !remove(&mut list, "class"));

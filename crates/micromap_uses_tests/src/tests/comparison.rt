@@ -17,7 +17,6 @@ ghost use Rattle.micromap.specs.Same.{HaveEqualItems, Same, has_value, same_at};
 ghost use Rattle.micromap.specs.Texts.{item_texts, key_texts, texts};
 
 use micromap::{Map, Set};
-use micromap_uses::board::{Board, Square};
 
 // What each of two maps has at a key where they differ, or `None` exactly if they are the same. Of the two values the
 // contract says that they differ.
@@ -112,15 +111,6 @@ fn remove_name<const N: usize, const M: usize>(
     let _contents = (list.len(), replica.len());
     list.remove(key);
     replica.remove(key);
-}
-
-// Takes a piece off two boards. They are the same, and stay so.
-fn clear_square<const N: usize>(board: &mut Board<N>, copy: &mut Board<N>, at: &Square)
-    requires { Same ⟦<Square as PartialEq>⟧.eq nat_eq board.old copy.old }
-    ensures { Same ⟦<Square as PartialEq>⟧.eq nat_eq board.new copy.new }
-{
-    board.remove(at);
-    copy.remove(at);
 }
 
 // Compares three maps, by two comparisons. If it returns `true`, the first and the third are the same, and equally
@@ -234,9 +224,9 @@ mod tests {
     fn a_conflict_is_read_from_both(rt: HostRuntime) {
         let first = Map::from([(1, 10), (2, 20)]);
         let second = Map::from([(2, 25), (1, 10), (3, 30)]);
-        assert_eq!(rt; conflict(&first, &second), Some((Some(&20), Some(&25))));
-        assert_eq!(rt; conflict(&second, &first), Some((Some(&25), Some(&20))));
-        assert_eq!(rt; conflict(&first, &first), None);
+        assert!(rt; conflict(&first, &second) == Some((Some(&20), Some(&25))));
+        assert!(rt; conflict(&second, &first) == Some((Some(&25), Some(&20))));
+        assert!(rt; conflict(&first, &first).is_none());
         assert!(rt; is_replica(&first, &Map::from([(2, 20), (1, 10)])));
         assert!(rt; !is_replica(&first, &second));
     }

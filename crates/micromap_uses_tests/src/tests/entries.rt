@@ -52,14 +52,10 @@ fn count_once<const N: usize>(counts: &mut Map<char, u8, N>, letter: char) -> bo
 
 // Adds to the amount of an article that is there, unless it would pass the limit, or stores that of a new one, whatever
 // it is, if there is room. Returns whether it did.
-fn add_up<K: Eq + Drop, const N: usize>(
-    stock: &mut Map<K, u64, N>,
-    article: K,
-    amount: u64,
-    limit: u64,
-) -> bool
-    ensures answer { result ≡ option_map_or (λ n. nat_le n limit && nat_le amount (limit - n)) (at K.eq stock.old article) (has_room N stock.old) }
-    ensures pairs { stock.new ≡ (if result then put K.eq stock.old article (unwrap_or (at K.eq stock.old article) 0 + amount) else stock.old) }
+#[tactic(auto, using(micromap::proofs::Rules::maps))]
+fn add_up<const N: usize>(stock: &mut Map<u8, u64, N>, article: u8, amount: u64, limit: u64) -> bool
+    ensures answer { result ≡ option_map_or (λ n. nat_le n limit && nat_le amount (limit - n)) (at nat_eq stock.old article) (has_room N stock.old) }
+    ensures pairs { stock.new ≡ (if result then put nat_eq stock.old article (unwrap_or (at nat_eq stock.old article) 0 + amount) else stock.old) }
 {
     match stock.entry(article) {
         Entry::Occupied(mut entry) if *entry.get() <= limit && amount <= limit - *entry.get() => {
@@ -132,9 +128,9 @@ mod tests {
         assert!(rt; raise_any(&mut map, 1, 15, 16));
         assert!(rt; !raise_any(&mut map, 1, 15, 17));
         assert!(rt; !raise_any(&mut map, 3, 15, 18));
-        assert_eq!(rt; map.get(&2), Some(&20));
-        assert_eq!(rt; raise_then_read(&mut map, 2, 29, &1), Some(16));
-        assert_eq!(rt; map.get(&2), Some(&21));
+        assert!(rt; map.get(&2) == Some(&20));
+        assert!(rt; raise_then_read(&mut map, 2, 29, &1) == Some(16));
+        assert!(rt; map.get(&2) == Some(&21));
     }
 
     #[test]
@@ -143,11 +139,11 @@ mod tests {
         assert!(rt; count_once(&mut counts, 'a'));
         assert!(rt; count_once(&mut counts, 'a'));
         assert!(rt; !count_once(&mut counts, 'b'));
-        assert_eq!(rt; counts.get(&'a'), Some(&2));
+        assert!(rt; counts.get(&'a') == Some(&2));
         let mut stock: Map<u8, u64, 1> = Map::new();
         assert!(rt; add_up(&mut stock, 1, 30, 40));
         assert!(rt; !add_up(&mut stock, 1, 20, 40));
-        assert_eq!(rt; stock.get(&1), Some(&30));
+        assert!(rt; stock.get(&1) == Some(&30));
     }
 
     #[test]
@@ -155,7 +151,7 @@ mod tests {
         let mut map: Map<String, u8, 1> = Map::new();
         assert!(rt; raise_text(&mut map, String::from_str(rt.alloc(), "a")?, 5, 4));
         assert!(rt; !raise_text(&mut map, String::from_str(rt.alloc(), "b")?, 5, 4));
-        assert_eq!(rt; map.get_by(&Text("a")), Some(&4));
+        assert!(rt; map.get_by(&Text("a")) == Some(&4));
         Ok(())
     }
 }

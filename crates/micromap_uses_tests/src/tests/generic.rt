@@ -299,11 +299,8 @@ mod tests {
 
     #[test]
     fn what_differs_is_counted_in_any_capacity(rt: HostRuntime) {
-        assert_eq!(rt;
-            count_keys::<u8, char, 2>(&[(1, 'a'), (2, 'b'), (1, 'c')]),
-            Some(2)
-        );
-        assert_eq!(rt; count_keys::<u8, char, 1>(&[(1, 'a'), (2, 'b')]), None);
-        assert_eq!(rt; count_items::<char, 2>(&['a', 'b', 'a']), Some(2));
+        assert!(rt; count_keys::<u8, char, 2>(&[(1, 'a'), (2, 'b'), (1, 'c')]) == Some(2));
+        assert!(rt; count_keys::<u8, char, 1>(&[(1, 'a'), (2, 'b')]).is_none());
+        assert!(rt; count_items::<char, 2>(&['a', 'b', 'a']) == Some(2));
     }
 }

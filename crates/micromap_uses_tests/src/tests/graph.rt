@@ -12,20 +12,20 @@ fn an_edge_goes_both_ways_or_is_refused(rt: HostRuntime) {
     assert!(rt; graph.add_edge(0, 7));
     assert!(rt; graph.has_edge(1, 0));
     assert!(rt; graph.has_edge(0, 2));
-    assert_eq!(rt; graph.degree(0), 3);
+    assert!(rt; graph.degree(0) == 3);
     assert!(rt; graph.neighbours(0).eq(&[1, 2, 7]));
     assert!(rt; !graph.add_edge(3, 0));
     assert!(rt; !graph.has_edge(3, 0));
-    assert_eq!(rt; graph.degree(3), 0);
+    assert!(rt; graph.degree(3) == 0);
     // An edge that is there, and one to the node itself.
     assert!(rt; graph.add_edge(1, 0));
     assert!(rt; graph.add_edge(3, 3));
-    assert_eq!(rt; graph.degree(3), 1);
+    assert!(rt; graph.degree(3) == 1);
     assert!(rt; graph.remove_edge(1, 0));
     assert!(rt; !graph.has_edge(0, 1));
     assert!(rt; !graph.remove_edge(0, 1));
     assert!(rt; graph.neighbours(0).eq(&[2, 7]));
-    assert_eq!(rt; graph.degree(1), 0);
+    assert!(rt; graph.degree(1) == 0);
 }
 
 #[test]

@@ -37,7 +37,7 @@ fn has(alloc: Global, headers: &Headers<2>, name: &str, value: Option<&[u8]>) ->
 fn names_have_one_case_and_values_are_joined(rt: HostRuntime) -> Result<(), HeaderFault> {
     let alloc = rt.alloc();
     let headers = read::<2>(alloc, &FIELDS)?;
-    assert_eq!(rt; headers.len(), 2);
+    assert!(rt; headers.len() == 2);
     let joined = b"text/html, text/plain, text/plain";
     assert!(rt; has(alloc, &headers, "aCCept", Some(joined.as_slice())));
     assert!(rt; has(alloc, &headers, "HOST", Some(b"example.org".as_slice())));

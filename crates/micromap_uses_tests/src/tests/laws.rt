@@ -1,7 +1,7 @@
 //! Callers that are proved by the laws of the map and the set alone: one line names the laws. Only `strike` has a proof
 //! file.
 ghost use Rattle.std.specs.Prelude.{◌≡◌, ◌≤◌, ◌+◌, ◌&&◌, ◌||◌, IfOk, Some, None, IsFalse, IsTrue, filter, is_some, length, nat_eq, not, if◌then◌else◌};
-ghost use Rattle.std.specs.Map.{keys_of, lookup, remove_entry, set_value};
+ghost use Rattle.std.specs.Map.{keys_of, lookup, remove_entry};
 ghost use Rattle.std.specs.Option.{option_map_or};
 ghost use Rattle.std.specs.Ordering.{on};
 ghost use Rattle.std.specs.String.{string_bytes, string_eq};
@@ -32,20 +32,6 @@ fn set_default<const N: usize>(
     map.checked_insert(name, value).is_some()
 }
 
-// Writes the value of a name that is there, and returns whether it is.
-fn overwrite<const N: usize>(map: &mut Map<String, String, N>, name: &str, value: String) -> bool
-    ensures answer { result ≡ is_some (lookup (is_text name.now) map.old) }
-    ensures pairs { map.new ≡ set_value (is_text name.now) map.old value }
-{
-    match map.get_mut_by(&Text(name)) {
-        Some(stored) => {
-            *stored = value;
-            true
-        }
-        None => false,
-    }
-}
-
 // Moves the value of one name to another, which goes to its index or to the end. Returns whether there was one; if not,
 // nothing changes.
 fn rename<const N: usize>(map: &mut Map<String, String, N>, from: &str, to: String) -> bool
@@ -71,17 +57,8 @@ fn put_two(map: &mut Map<u8, u8, 8>, a: u8, b: u8) -> Option<u8>
     map.get(&a).copied()
 }
 
-// Puts 1 at one key and reads another: it has 1 if the two are equal, and else what it had.
-fn put_then_read(map: &mut Map<String, u8, 8>, a: String, b: &String) -> Option<u8>
-    requires { IsTrue (fits string_eq 8 map.old a) }
-    ensures order { result ≡ (if string_eq b.now a then Some 1 else at string_eq map.old b.now) }
-    ensures turned { result ≡ (if string_eq a b.now then Some 1 else at string_eq map.old b.now) }
-{
-    map.insert(a, 1);
-    map.get(b).copied()
-}
-
-// The same of keys that are compared by their id.
+// Puts 1 at one of two keys that are compared by their id, and reads the other: it has 1 if the two are equal, and else
+// what it had.
 fn put_marked(map: &mut Map<Marked, u8, 8>, a: Marked, b: &Marked) -> Option<u8>
     requires { IsTrue (fits (on (λ k. k.id) nat_eq) 8 map.old a) }
     ensures { result ≡ (if nat_eq a.id b.now.id then Some 1 else at (on (λ k. k.id) nat_eq) map.old b.now) }

@@ -182,8 +182,8 @@ mod tests {
     #[test]
     fn values_and_items_are_bounded(rt: HostRuntime) {
         let amounts = Map::from([(1, 10), (2, 20)]);
-        assert_eq!(rt; over(&amounts, 10), Some((2, 20)));
-        assert_eq!(rt; over(&amounts, 20), None);
+        assert!(rt; over(&amounts, 10) == Some((2, 20)));
+        assert!(rt; over(&amounts, 20).is_none());
         assert!(rt; each_below(&amounts, 21) && !each_below(&amounts, 20));
         let items = Set::from([1, 5]);
         assert!(rt; each_small(&items, 6) && !each_small(&items, 5));
@@ -200,7 +200,7 @@ mod tests {
 
     #[test]
     fn what_is_over_a_limit_is_counted(rt: HostRuntime) {
-        assert_eq!(rt; items_over(&Set::from([1, 5, 9]), 5), 1);
-        assert_eq!(rt; longer(&Set::<String, 1>::new(), 0), 0);
+        assert!(rt; items_over(&Set::from([1, 5, 9]), 5) == 1);
+        assert!(rt; longer(&Set::<String, 1>::new(), 0) == 0);
     }
 }

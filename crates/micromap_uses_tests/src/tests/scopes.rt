@@ -20,15 +20,15 @@ fn an_inner_variable_hides_an_outer_one(rt: HostRuntime) -> Result<(), AllocErro
         assert!(rt; define(&mut scopes, 1, value));
     }
     enter(&mut scopes)?;
-    assert_eq!(rt; value_of(&scopes, 1), Some(20));
+    assert!(rt; value_of(&scopes, 1) == Some(20));
     assert!(rt; assign(&mut scopes, 1, 21));
     assert!(rt; !assign(&mut scopes, 2, 0));
-    assert_eq!(rt; value_of(&scopes, 1), Some(21));
+    assert!(rt; value_of(&scopes, 1) == Some(21));
     leave(&mut scopes);
     leave(&mut scopes);
-    assert_eq!(rt; value_of(&scopes, 1), Some(10));
+    assert!(rt; value_of(&scopes, 1) == Some(10));
     leave(&mut scopes);
-    assert_eq!(rt; value_of(&scopes, 1), None);
+    assert!(rt; value_of(&scopes, 1).is_none());
     assert!(rt; leave(&mut scopes).is_none());
     Ok(())
 }

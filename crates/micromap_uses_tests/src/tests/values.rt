@@ -256,9 +256,9 @@ mod tests {
     #[test]
     fn the_holders_of_a_permission_are_found(rt: HostRuntime) {
         let mut holders = Map::from([(1, Read), (2, Write), (3, Write)]);
-        assert_eq!(rt; first_with(&holders, Write), Some(2));
-        assert_eq!(rt; user_with(&holders, Read), Some(1));
-        assert_eq!(rt; user_with(&holders, Delete), None);
+        assert!(rt; first_with(&holders, Write) == Some(2));
+        assert!(rt; user_with(&holders, Read) == Some(1));
+        assert!(rt; user_with(&holders, Delete).is_none());
         keep_listed(&mut holders, &Set::from([Delete, Read]));
         assert!(rt; is_held(&holders, Read));
         assert!(rt; !is_held(&holders, Write));
