@@ -18,7 +18,6 @@ ghost use Rattle.micromap.specs.Texts.{item_texts, key_texts};
 use micromap::{Map, Overfull, Set};
 
 // Inserts an item. A full set loses its first item for a new one. Of the result the contract says nothing.
-#[tactic(auto, using(std::proofs::lemmas::Grind::common_steps))]
 fn add_newest<T: Eq + Drop, const N: usize>(set: &mut Set<T, N>, item: T) -> Option<T>
     requires { 0 < N }
     ensures { set.new ≡ put_item T.eq (if item_fits T.eq N set.old item then set.old else drop 1 set.old) item }
