@@ -2,7 +2,7 @@
 ghost use Rattle.std.specs.Prelude.{◌≡◌};
 ghost use Rattle.micromap_uses.specs.declared.request.fault.RunFault.TheVariants.{Head, Memory};
 
-use crate::head::HeadFault;
+use super::head::HeadFault;
 use std::alloc::AllocError;
 use std::error::Error;
 use std::{fmt, io};
