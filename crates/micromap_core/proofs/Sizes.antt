@@ -2,6 +2,7 @@
 use Rattle.std.proofs.Common.{ℕ, Bool, arith}
 use Rattle.std.specs.Borrow.{RattleType}
 use Rattle.micromap_core.specs.contracts.map.Map as map
+use Rattle.micromap_core.specs.contracts.slots.Slots as slots
 use Rattle.micromap_core.specs.contracts.slots.columns.Columns as columns
 use Rattle.micromap_core.specs.Memory.{FitsInMemory}
 use denote.Param.{number, param}
@@ -12,3 +13,12 @@ module _ (K V : RattleType) (N : ℕ) where
       → FitsInMemory (map.the_row (param 0 K) (param 1 V) (param 2 (number N)) (record { eq = eq }))
       → FitsInMemory (columns.the_row (param 0 K) (param 1 V) (param 2 (number N)))
   columns_fit eq fits = omega arith
+
+  -- the two columns
+  pub keys_fit : FitsInMemory (columns.the_row (param 0 K) (param 1 V) (param 2 (number N)))
+      → FitsInMemory (slots.the_row (param 0 K) (param 1 (number N)))
+  keys_fit fits = omega arith
+
+  pub values_fit : FitsInMemory (columns.the_row (param 0 K) (param 1 V) (param 2 (number N)))
+      → FitsInMemory (slots.the_row (param 0 V) (param 1 (number N)))
+  values_fit fits = omega arith

@@ -1,7 +1,67 @@
-use Rattle.std.proofs.Common.{[], ◌∷◌, ◌++◌, take, ap, sym, ◌∙◌, arith}
+use Rattle.std.proofs.Common.{length, [], ◌∷◌, ◌++◌, take, ap, sym, ◌∙◌, arith, length-take, take_all}
 use Rattle.std.proofs.lemmas.List.{take_more}
 use Rattle.std.proofs.lemmas.Option.{get_or_from_slice_get}
+use Rattle.micromap_core.proofs.Sizes.{keys_fit, values_fit}
+use Rattle.micromap_core.proofs.SlotsLemmas.{as_long}
 use Rattle.micromap_core.proofs.slots.columns.Columns.copied.Goals as goal
+
+pub hint_equal-requires : goal.hint_equal-requires
+hint_equal-requires g c = c.len.ensures.answer ∙ sym c.self.invariant
+    ∙ sym (as_long _ _ _ c.self.invariant c.self.view_is) ∙ sym c.len-len.ensures.answer
+
+pub copied_full-requires : goal.copied_full-requires
+copied_full-requires g c = (
+  keys_fit g.row.K g.row.V g.row.N assumption,
+  sym (as_long _ _ _ c.self.invariant c.self.view_is)
+      ∙ sym c.len-len.ensures.answer ∙ c.if-len.true,
+)
+
+pub copied_full-requires-then-len : goal.copied_full-requires-then-len
+copied_full-requires-then-len g c = (
+  values_fit g.row.K g.row.V g.row.N assumption,
+  sym c.self.invariant
+      ∙ sym (as_long _ _ _ c.self.invariant c.self.view_is)
+      ∙ sym c.len-len.ensures.answer ∙ c.if-len.true,
+)
+
+pub invariant_of-result : goal.invariant_of-result
+invariant_of-result g c = rw (c.copied_full.ensures, c.copied_full-then-len.ensures) c.self.invariant
+
+pub returns-then-len : goal.returns-then-len
+returns-then-len g c = rw (c.copied_full.ensures, c.copied_full-then-len.ensures) c.self.view_is
+
+pub pair_at-requires : goal.pair_at-requires
+pair_at-requires g c = (assumption, rw (← c.len-len.ensures.answer) c.loop-index-test.true)
+
+pub hint_equal-requires-in-loop-index : goal.hint_equal-requires-in-loop-index
+hint_equal-requires-in-loop-index g c = omega (
+  arith,
+  c.len-in-loop-index.ensures.answer,
+  ap length c.loop-index.invariant,
+  length-take c.loop-index.index c.args.self.now,
+  c.loop-index-test.true,
+  c.len-len.ensures.answer,
+)
+
+pub push-requires : goal.push-requires
+push-requires g c = (
+  assumption,
+  omega (
+    arith,
+    ap length c.loop-index.invariant,
+    length-take c.loop-index.index c.args.self.now,
+    c.loop-index-test.true,
+    c.len-len.ensures.answer,
+    c.len-len.ensures.bounded,
+  ),
+)
+
+pub returns : goal.returns
+returns g c = c.loop-index.invariant
+    ∙ take_all c.loop-index.index c.args.self.now (omega (arith, c.loop-index-test.false, c.len-len.ensures.answer))
+
+pub loop-index-init : goal.loop-index-init
+loop-index-init g c = c.new-copy.ensures
 
 pub loop-index-preserved : goal.loop-index-preserved
 loop-index-preserved g c =

@@ -1,5 +1,30 @@
+use Rattle.std.proofs.Common.{◌-◌, length, arith, length-take, sym, ◌∙◌}
+use Rattle.micromap_core.proofs.Sizes.{keys_fit, values_fit}
 use Rattle.micromap_core.proofs.SlotsLemmas.{as_long, zip_take}
 use Rattle.micromap_core.proofs.slots.columns.Columns.drop_last.Goals as goal
+
+pub hint_equal-requires : goal.hint_equal-requires
+hint_equal-requires g c = c.len.ensures.answer ∙ sym c.self.invariant
+    ∙ sym (as_long _ _ _ c.self.invariant c.self.view_is) ∙ sym c.len-2.ensures.answer
+
+pub drop_last-requires : goal.drop_last-requires
+drop_last-requires g c = (
+  keys_fit g.row.K g.row.V g.row.N assumption,
+  rw (as_long _ _ _ c.self.invariant c.self.view_is) at c.requires,
+)
+
+pub drop_last-requires-2 : goal.drop_last-requires-2
+drop_last-requires-2 g c = (
+  values_fit g.row.K g.row.V g.row.N assumption,
+  rw (as_long _ _ _ c.self.invariant c.self.view_is ∙ c.self.invariant) at c.requires,
+)
+
+pub invariant_of-self : goal.invariant_of-self
+invariant_of-self g c =
+    let ks = c.self.inside.keys in
+    let vs = c.self.inside.values in
+    rw (c.drop_last.ensures, c.drop_last-2.ensures)
+    (omega (arith, length-take (length ks - 1) ks, length-take (length vs - 1) vs, c.self.invariant))
 
 pub returns : goal.returns
 returns g c =

@@ -1,5 +1,16 @@
-use Rattle.micromap_core.proofs.SlotsLemmas.{get_zip}
+use Rattle.std.proofs.Common.{rules, ◌∙◌}
+use Rattle.micromap_core.proofs.SlotsLemmas.{as_long, get_zip}
 use Rattle.micromap_core.proofs.slots.columns.Columns.pair_at.Goals as goal
+
+pub item_at-requires : goal.item_at-requires
+item_at-requires g c =
+    (search rules, rw (as_long _ _ _ c.self.invariant c.self.view_is) at c.requires)
+
+pub item_at-requires-2 : goal.item_at-requires-2
+item_at-requires-2 g c = (
+  search rules,
+  rw (as_long _ _ _ c.self.invariant c.self.view_is ∙ c.self.invariant) at c.requires,
+)
 
 pub returns : goal.returns
 returns g c = rw (← c.self.view_is)

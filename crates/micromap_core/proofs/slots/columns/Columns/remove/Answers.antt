@@ -1,5 +1,25 @@
-use Rattle.micromap_core.proofs.SlotsLemmas.{get_zip, zip_remove}
+use Rattle.std.proofs.Common.{sym, ◌∙◌}
+use Rattle.micromap_core.proofs.Sizes.{keys_fit, values_fit}
+use Rattle.micromap_core.proofs.SlotsLemmas.{as_long, equal_remove, get_zip, zip_remove}
 use Rattle.micromap_core.proofs.slots.columns.Columns.remove.Goals as goal
+
+pub remove-key-requires : goal.remove-key-requires
+remove-key-requires g c =
+    (keys_fit g.row.K g.row.V g.row.N assumption, rw (as_long _ _ _ c.self.invariant c.self.view_is) at c.requires)
+
+pub hint_equal-requires : goal.hint_equal-requires
+hint_equal-requires g c = c.len.ensures.answer ∙ sym c.self.invariant
+    ∙ sym (as_long _ _ _ c.self.invariant c.self.view_is) ∙ sym c.len-len.ensures.answer
+
+pub remove-value-requires : goal.remove-value-requires
+remove-value-requires g c = (
+  values_fit g.row.K g.row.V g.row.N assumption,
+  rw (as_long _ _ _ c.self.invariant c.self.view_is ∙ c.self.invariant) at c.requires,
+)
+
+pub invariant_of-self : goal.invariant_of-self
+invariant_of-self g c = rw (c.remove-key.ensures.items, c.remove-value.ensures.items)
+    (equal_remove _ _ _ c.self.invariant)
 
 pub returns : goal.returns
 returns g c = record {
