@@ -1,0 +1,29 @@
+use Rattle.std.proofs.Common.{is_some, refl, rules, ap, ◌∙◌}
+use Rattle.micromap_core.proofs.SlotsLemmas.{AreFilled-from, items_of-map, length_filled, item_at, remove_filled, some_at}
+use Rattle.micromap_core.proofs.slots.Slots.remove.Goals as goal
+
+pub remove_slot-requires : goal.remove_slot-requires
+remove_slot-requires g c =
+    (search rules, rw (← length_filled _ c.self.invariant, c.self.view_is) c.requires)
+
+pub into_item-requires : goal.into_item-requires
+into_item-requires g c = ap is_some c.remove_slot.ensures.value ∙ some_at _ c.self.invariant _ _
+    (rw (← length_filled _ c.self.invariant, c.self.view_is) c.requires)
+
+pub invariant_of-self : goal.invariant_of-self
+invariant_of-self g c = AreFilled-from _ _ (c.remove_slot.ensures.items
+    ∙ remove_filled _ c.self.invariant c.args.index)
+
+pub returns : goal.returns
+returns g c = record {
+  answer = rw (← c.self.view_is)
+      (item_at _ c.self.invariant c.args.index _
+      (rw (← length_filled _ c.self.invariant, c.self.view_is) c.requires)
+      c.remove_slot.ensures.value ∙ c.into_item.ensures);
+  items = rw (
+    c.remove_slot.ensures.items,
+    remove_filled _ c.self.invariant c.args.index,
+    items_of-map,
+    c.self.view_is,
+  ) refl;
+}
