@@ -17,6 +17,39 @@ loop-key-preserved g c =
     omega (arith, c.loop-key.invariant.counted, ap length c.in-Some.ensures.steps) in
     rw more (not_yet-on c.loop-key.invariant c.in-Some.ensures.steps (sym c.if-matches.ensures))
 
+pub overflow_sub-index : goal.overflow_sub-index
+overflow_sub-index g c = omega (
+  arith,
+  c.len.ensures.answer,
+  c.len-then-matches.ensures.value,
+  c.loop-key.invariant.counted,
+  ap length c.in-Some.ensures.steps,
+  length-keys_of c.args.self.now,
+)
+
+pub overflow_sub-index-then-matches : goal.overflow_sub-index-then-matches
+overflow_sub-index-then-matches g c = omega (
+  arith,
+  c.len.ensures.answer,
+  c.len-then-matches.ensures.value,
+  c.loop-key.invariant.counted,
+  ap length c.in-Some.ensures.steps,
+  length-keys_of c.args.self.now,
+)
+
+pub pair_at-requires : goal.pair_at-requires
+pair_at-requires g c = (
+  assumption,
+  omega (
+    arith,
+    c.len.ensures.answer,
+    c.len-then-matches.ensures.value,
+    c.loop-key.invariant.counted,
+    ap length c.in-Some.ensures.steps,
+    length-keys_of c.args.self.now,
+  ),
+)
+
 pub returns : goal.returns
 returns g c =
     let none = not_found (g.P.Probe.matches c.args.probe.now) c.args.self.now
