@@ -1,4 +1,4 @@
-use Rattle.std.proofs.Common.{arith, ◌+◌, ◌*◌, ◌≤◌, length, sym, ◌∙◌}
+use Rattle.std.proofs.Common.{arith, ◌+◌, ◌*◌, ◌^◌, ◌<◌, ◌≤◌, length, subst, sym, ◌∙◌}
 use Rattle.micromap_core.proofs.FairLemmas.{compared_long, compared_short}
 use Rattle.micromap_core.proofs.StepsLemmas.{comparison_long, comparison_short, walk_steps-square}
 use Rattle.micromap_core.proofs.map.Map.eq_with_counted.Goals as goal
@@ -13,12 +13,15 @@ returns-then-lengths g c =
     (sym one ∙ c.if-lengths.true ∙ two) in
     let bounded : c.is_within_counted.new.steps ≤ c.args.steps.now + length c.args.self.now * length
     c.args.self.now = omega (arith, c.is_within_counted.ensures.count, most) in
-    assumption (
-      compared_long g.met.V.Eq.laws c.len.ensures.content c.len-2.ensures.content one two
-          c.if-lengths.true c.is_within_counted.ensures.answer,
-      rw (← steps) at c.is_within_counted.ensures.count,
-      bounded,
-    )
+    let all = compared_long g.met.V.Eq.laws c.len.ensures.content c.len-2.ensures.content one two
+    c.if-lengths.true c.is_within_counted.ensures.answer in
+    record {
+      answer = all.0;
+      told_apart = all.1;
+      outlasts = all.2;
+      count = rw (← steps) at c.is_within_counted.ensures.count;
+      bounded = bounded;
+    }
 
 pub returns-else-lengths : goal.returns-else-lengths
 returns-else-lengths g c =
@@ -36,3 +39,10 @@ returns-else-lengths g c =
           omega (arith, steps);
       bounded = omega arith;
     }
+
+pub is_within_counted-requires : goal.is_within_counted-requires
+is_within_counted-requires g c =
+    let same = sym c.len.ensures.answer ∙ c.if-lengths.true ∙ c.len-2.ensures.answer in (
+      assumption,
+      omega (arith, subst (λ n. c.args.steps.now + length c.args.self.now * n < 2 ^ 128) same c.requires),
+    )

@@ -43,3 +43,20 @@ loop-key-preserved g c = record {
     ap (λ l. most_steps l (length c.args.other.now)) c.in-Some.ensures.steps,
   );
 }
+
+pub has_value_counted-requires : goal.has_value_counted-requires
+has_value_counted-requires g c = (
+  assumption,
+  omega (
+    arith,
+    c.requires,
+    c.loop-key.invariant.bounded,
+    ap (λ l. most_steps l (length c.args.other.now)) c.in-Some.ensures.steps,
+  ),
+)
+
+pub returns : goal.returns
+returns g c = record {
+  answer = rw c.in-None.ensures.steps.0 at c.loop-key.invariant.answer;
+  count = omega (arith, rw c.in-None.ensures.steps.0 at c.loop-key.invariant.count);
+}
