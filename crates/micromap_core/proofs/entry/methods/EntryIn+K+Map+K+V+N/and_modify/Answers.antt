@@ -1,4 +1,4 @@
-use Rattle.std.proofs.Common.{refl}
+use Rattle.std.proofs.Common.{refl, rules}
 use Rattle.std.specs.Map.Calls.{MayWrite}
 use Rattle.micromap_core.specs.Entry.{entry_put, with_entry_value}
 use Rattle.micromap_core.proofs.Lists.{slice_get_some}
@@ -37,3 +37,6 @@ returns-in-Occupied g c =
       };
       content = λ _. c.get_mut.ensures.content v;
     })
+
+pub get_mut-requires : goal.get_mut-requires
+get_mut-requires g c = (search rules, rw c.in-Occupied.is at c.requires.sound)

@@ -1,4 +1,5 @@
-use Rattle.std.proofs.Common.{refl, sym, subst, ◌∙◌}
+use Rattle.std.proofs.Common.{[], ◌∷◌, length, refl, ap, sym, subst, ◌∙◌, length-append, arith, rules}
+use Rattle.std.proofs.lemmas.Bool.Decides.{nat_tests}
 use Rattle.std.proofs.lemmas.Option.{same_Some}
 use Rattle.micromap_core.specs.Entry.{entry_put}
 use Rattle.micromap_core.specs.Pairs.{IsContent}
@@ -22,4 +23,20 @@ returns g c =
             λ w. subst (IsContent g.K.PartialEq.eq g.row.N) (written.puts w)
             (c.value_at_mut.ensures.content w);
       },
+    )
+
+pub push_pair-requires : goal.push_pair-requires
+push_pair-requires g c =
+    (search rules, (c.requires.sound, grind (arith, nat_tests, c.requires.room)))
+
+pub value_at_mut-requires : goal.value_at_mut-requires
+value_at_mut-requires g c =
+    let self = c.args.self in (
+      search rules,
+      omega (
+        arith,
+        c.len-index.ensures.answer,
+        ap length c.push_pair.ensures.pairs,
+        length-append self.map.now ((self.key, c.args.value) ∷ []),
+      ),
     )
