@@ -1,9 +1,7 @@
 //! Callers of entries, each with one look-up and no proof: a `match` with guards, `or_insert` and `insert`.
-ghost use Rattle.std.specs.Prelude.{◌≡◌, ◌+◌, ◌-◌, ◌≤◌, ◌&&◌, IsFalse, if◌then◌else◌, length, nat_eq, nat_le, nat_lt, string_bytes, unwrap_or};
+ghost use Rattle.std.specs.Prelude.{◌≡◌, ◌+◌, ◌-◌, ◌≤◌, ◌&&◌, IsFalse, if◌then◌else◌, length, nat_eq, nat_le, nat_lt, unwrap_or};
 ghost use Rattle.std.specs.Option.{option_map_or};
-ghost use Rattle.std.specs.Str.{bytes_eq};
 ghost use Rattle.micromap.specs.Pairs.{at, fits, has_room, put};
-ghost use Rattle.micromap.specs.Texts.{key_texts};
 
 use micromap::{Entry, Map, Text};
 use std::alloc::AllocError;
@@ -71,30 +69,6 @@ fn add_up<const N: usize>(stock: &mut Map<u8, u64, N>, article: u8, amount: u64,
     }
 }
 
-// As `raise_any`, with texts as keys, which are known by their bytes.
-fn raise_text<const N: usize>(
-    map: &mut Map<String, u8, N>,
-    name: String,
-    limit: u8,
-    value: u8,
-) -> bool
-    ensures answer { result ≡ option_map_or (λ old. nat_lt old limit) (at bytes_eq (key_texts map.old) (string_bytes name)) (has_room N (key_texts map.old)) }
-    ensures pairs { key_texts map.new ≡ (if result then put bytes_eq (key_texts map.old) (string_bytes name) value else key_texts map.old) }
-{
-    match map.entry(name) {
-        Entry::Occupied(mut entry) if *entry.get() < limit => {
-            entry.insert(value);
-            true
-        }
-        Entry::Occupied(_entry) => false,
-        Entry::Vacant(entry) if entry.has_room() => {
-            entry.insert(value);
-            true
-        }
-        Entry::Vacant(_entry) => false,
-    }
-}
-
 // Raises a value, and reads another, which is as it was if the two keys differ. There are no fewer pairs than before.
 fn raise_then_read<const N: usize>(
     map: &mut Map<u8, u8, N>,
@@ -149,8 +123,8 @@ mod tests {
     #[test]
     fn a_name_is_raised(rt: HostRuntime) -> Result<(), AllocError> {
         let mut map: Map<String, u8, 1> = Map::new();
-        assert!(rt; raise_text(&mut map, String::from_str(rt.alloc(), "a")?, 5, 4));
-        assert!(rt; !raise_text(&mut map, String::from_str(rt.alloc(), "b")?, 5, 4));
+        assert!(rt; raise_any(&mut map, String::from_str(rt.alloc(), "a")?, 5, 4));
+        assert!(rt; !raise_any(&mut map, String::from_str(rt.alloc(), "b")?, 5, 4));
         assert!(rt; map.get_by(&Text("a")) == Some(&4));
         Ok(())
     }

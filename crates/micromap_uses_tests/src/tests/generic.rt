@@ -137,7 +137,7 @@ fn is_among_keys<K: Eq, V, const N: usize>(map: &Map<K, V, N>, key: &K) -> bool
 }
 
 // Puts all pairs, one after the other, if it returns `true`. If it returns `false`, they would be more than `N`.
-#[tactic(auto, using(micromap::proofs::Rules::lists, micromap::proofs::Rules::maps))]
+#[tactic(auto, using(micromap::proofs::Rules::lists))]
 fn put_each<K: Eq + Copy + Drop, const N: usize>(map: &mut Map<K, u8, N>, items: &[(K, u8)]) -> bool
     ensures put { OnTrue result (map.new ≡ put_all K.eq map.old items.now) }
     ensures refused { IsFalse result → N < length (put_all K.eq map.old items.now) }
@@ -169,7 +169,7 @@ fn put_each_then_read<K: Eq + Copy + Drop, const N: usize>(
 }
 
 // Adds all items, one after the other, if it returns `true`. If it returns `false`, they would be more than `N`.
-#[tactic(auto, using(micromap::proofs::Rules::lists, micromap::proofs::Rules::sets))]
+#[tactic(auto, using(micromap::proofs::Rules::lists))]
 fn add_each<T: Eq + Copy + Drop, const N: usize>(set: &mut Set<T, N>, items: &[T]) -> bool
     ensures added { OnTrue result (set.new ≡ put_all_items T.eq set.old items.now) }
     ensures refused { IsFalse result → N < length (put_all_items T.eq set.old items.now) }
