@@ -40,3 +40,6 @@ returns-in-Occupied g c =
 
 pub get_mut-requires : goal.get_mut-requires
 get_mut-requires g c = (search rules, rw c.in-Occupied.is at c.requires.sound)
+
+pub f-requires : goal.f-requires
+f-requires g c = c.requires.callable _ (rw c.in-Occupied.is c.get_mut.ensures.answer)
