@@ -186,7 +186,7 @@ class Claims:
         unnamed, library = self.unnamed(), self.library()
         without = {call: len(names) for call, names in unnamed.items()}
         tried = sum(count for call, count in without.items() if self.verdict(call) not in SILENT)
-        strong = (it for it in self.edits if kind_of(self.goals.get(it.path, "")) != PROOF)
+        strong = (it for it in self.edits if it.path in self.goals and kind_of(self.goals[it.path]) != PROOF)
         shown = {*library} & {name for edit in strong for _, names in edit.claims for name in names}
         named = len(library) - sum(without.values())
         return len(shown), named - len(shown), tried, sum(without.values()) - tried, len(library)
