@@ -19,6 +19,7 @@ mod probed;
 mod relation;
 mod remove;
 mod stream;
+mod texts;
 mod walk;
 
 use crate::Map;

@@ -8,8 +8,10 @@ mod probe;
 mod slots;
 mod steps;
 pub mod stream;
+mod text_buf;
 
 pub use map::Map;
 pub use overfull::Overfull;
 pub use probe::{Probe, Text};
 pub use steps::Steps;
+pub use text_buf::TextBuf;

@@ -16,6 +16,7 @@ mod print;
 mod probed;
 mod remove;
 mod stream;
+mod texts;
 mod walk;
 
 pub use crate::entry::{Entry, OccupiedEntry, VacantEntry};

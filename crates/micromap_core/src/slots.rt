@@ -4,7 +4,7 @@
 
 ghost use Rattle.std.specs.Prelude.{◌≡◌, ◌-◌, ◌<◌, ◌≤◌, [], ◌∷◌, ◌++◌, length, take, Some, slice_get, slice_index_or};
 ghost use Rattle.std.specs.Borrow.{sem};
-ghost use Rattle.std.specs.List.{remove, swap};
+ghost use Rattle.std.specs.List.{remove, swap, AllZip};
 ghost use Rattle.micromap_core.specs.Lends.{lends_item_at};
 ghost use Rattle.micromap_walk.specs.Filled.{items_of, AreFilled};
 
@@ -141,6 +141,19 @@ impl<T: Drop, const N: usize> Slots<T, N> {
         let mut slots = ArrayVec::new();
         for slot in filled.drain(..) {
             slots.push(slot);
+        }
+        Slots { slots }
+    }
+
+    /// Returns what each item is converted into, in the same order.
+    #[inline]
+    pub(crate) fn converted<U: From<T> + Drop>(self) -> Slots<U, N>
+        ensures { AllZip U.from_gives self result }
+    {
+        let mut filled = self.into_array_vec();
+        let mut slots = ArrayVec::new();
+        for slot in filled.drain(..) {
+            slots.push(Some(U::from(into_item(slot))));
         }
         Slots { slots }
     }

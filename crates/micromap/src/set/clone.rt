@@ -1,5 +1,5 @@
 //! Cloning and copying a set.
-ghost use Rattle.std.specs.Prelude.{◌≡◌, ⊤, All, IsOk, IfOk};
+ghost use Rattle.std.specs.Prelude.{◌≡◌, All, IsOk, IfOk};
 ghost use Rattle.std.specs.List.{AllZip};
 ghost use Rattle.std.specs.Set.{ClonesAreEqual};
 ghost use Rattle.micromap.specs.Clones.{AreIdentical};
@@ -39,12 +39,12 @@ impl<T: Eq + Copy, const N: usize> Set<T, N> {
     }
 }
 
-/// A set whose items are `Copy` has the trait too, so that a map of sets can be cloned. It never fails, and needs no
-/// precondition. `set.clone()` is the call above.
-impl<T: Eq + Copy, const N: usize> Clone for Set<T, N> {
-    ghost is_clone = { λ items new. (new ≡ items) × IsItems T.eq N new };
+/// A set has the trait too, so that a map of sets can be cloned. It asks for nothing, but compares each item with its
+/// clone, and is `Err` if they differ. `set.clone()` is the call above.
+impl<T: Eq + Clone, const N: usize> Clone for Set<T, N> {
+    ghost is_clone = { λ items new. (AreIdentical T.is_clone → new ≡ items) × AllZip T.is_clone items new × IsItems T.eq N new };
 
-    ghost is_infallible = { λ _. ⊤ };
+    ghost is_infallible = { λ items. ClonesAreEqual T.eq T.is_clone × All T.is_infallible items };
 
     fn clone(&self) -> Result<Self, AllocError> {
         let map = Clone::clone(&self.map)?;

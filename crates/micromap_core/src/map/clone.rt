@@ -1,5 +1,5 @@
 //! Cloning and copying a map.
-ghost use Rattle.std.specs.Prelude.{◌≡◌, ◌≤◌, All, IsOk, IfOk};
+ghost use Rattle.std.specs.Prelude.{◌≡◌, ◌≤◌, All, IsFalse, IsOk, IfOk};
 ghost use Rattle.std.specs.List.{AllZip};
 ghost use Rattle.std.specs.Set.{ClonesAreEqual};
 ghost use Rattle.micromap_core.specs.Clones.{AreIdentical, IsPairClone};
@@ -22,15 +22,32 @@ impl<K: Eq + Clone + Drop, V: Clone + Drop, const N: usize> Map<K, V, N> {
         ensures content { IfOk result (IsContent K.eq N) }
         ensures succeeds { All (λ p. K.is_infallible p.0 × V.is_infallible p.1) self.now → IsOk result }
     {
+        self.cloned(false)
+    }
+
+    // Returns the clones of all pairs. With `compares` a key whose clone isn't equal to it ends this with `Err`.
+    #[inline]
+    fn cloned(&self, compares: bool) -> Result<Self, AllocError>
+        requires { IsFalse compares → ClonesAreEqual K.eq K.is_clone }
+        ensures clones { IfOk result (AllZip (IsPairClone K.is_clone V.is_clone) self.now) }
+        ensures same { AreIdentical K.is_clone → AreIdentical V.is_clone
+            → IfOk result (λ new. new ≡ self.now) }
+        ensures content { IfOk result (IsContent K.eq N) }
+        ensures succeeds { ClonesAreEqual K.eq K.is_clone
+            → All (λ p. K.is_infallible p.0 × V.is_infallible p.1) self.now → IsOk result }
+    {
         let len = self.len();
         let mut map = Map::new();
         for index in 0..clone_turns::<N>(len) {
             if index < len {
                 let (key, value) = self.pair_at(index);
-                let key = key.clone()?;
+                let new_key = key.clone()?;
                 let value = value.clone()?;
+                if compares && *key != new_key {
+                    return Err(AllocError);
+                }
                 hint_equal(map.len(), index);
-                map.pairs.push(key, value);
+                map.pairs.push(new_key, value);
             }
         }
         let _content = map.len();
@@ -54,25 +71,15 @@ impl<K: Eq + Copy, V: Copy, const N: usize> Map<K, V, N> {
     }
 }
 
-/// A map whose keys are `Copy` has the trait too, so that a map of maps can be cloned. Each key is copied, and needs no
-/// precondition. `map.clone()` is the call above.
-impl<K: Eq + Copy, V: Clone, const N: usize> Clone for Map<K, V, N> {
-    ghost is_clone = { λ pairs new. AllZip (IsPairClone (λ k q. q ≡ k) V.is_clone) pairs new × IsContent K.eq N new };
+/// A map has the trait too, so that a map of maps can be cloned. It asks for nothing, but compares each key with its clone,
+/// and is `Err` if they differ. `map.clone()` is the call above.
+impl<K: Eq + Clone, V: Clone, const N: usize> Clone for Map<K, V, N> {
+    ghost is_clone = { λ pairs new. (AreIdentical K.is_clone → AreIdentical V.is_clone → new ≡ pairs) × AllZip (IsPairClone K.is_clone V.is_clone) pairs new × IsContent K.eq N new };
 
-    ghost is_infallible = { λ pairs. All (λ p. V.is_infallible p.1) pairs };
+    ghost is_infallible = { λ pairs. ClonesAreEqual K.eq K.is_clone × All (λ p. K.is_infallible p.0 × V.is_infallible p.1) pairs };
 
     fn clone(&self) -> Result<Self, AllocError> {
-        let len = self.len();
-        let mut copy = Map::new();
-        for index in 0..clone_turns::<N>(len) {
-            if index < len {
-                let (key, value) = self.pair_at(index);
-                let value = value.clone()?;
-                hint_equal(copy.len(), index);
-                copy.pairs.push(*key, value);
-            }
-        }
-        Ok(copy)
+        self.cloned(true)
     }
 }
 

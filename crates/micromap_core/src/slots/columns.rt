@@ -3,7 +3,7 @@
 
 ghost use Rattle.std.specs.Prelude.{◌≡◌, ◌-◌, ◌<◌, ◌≤◌, [], ◌∷◌, ◌++◌, length, take, Some, slice_get, slice_set};
 ghost use Rattle.std.specs.Borrow.{sem};
-ghost use Rattle.std.specs.List.{remove, swap, zip};
+ghost use Rattle.std.specs.List.{remove, swap, zip, AllZip};
 ghost use Rattle.std.specs.Map.{keys_of, values_of};
 ghost use Rattle.std.specs.Map.Calls.{CallableOnEachPair, RetainsPairs};
 ghost use Rattle.std.specs.Option.{IfSome, option_map};
@@ -205,6 +205,19 @@ impl<K: Drop, V: Drop, const N: usize> Columns<K, V, N> {
         Columns {
             keys: keys.into_capacity(),
             values: values.into_capacity(),
+        }
+    }
+
+    /// Returns the pairs with what each key is converted into, in the same order.
+    #[inline]
+    pub(crate) fn converted_keys<L: From<K> + Drop>(self) -> Columns<L, V, N>
+        ensures keys { AllZip L.from_gives (keys_of self) (keys_of result) }
+        ensures values { values_of result ≡ values_of self }
+    {
+        let Columns { keys, values } = self;
+        Columns {
+            keys: keys.converted(),
+            values,
         }
     }
 

@@ -1,0 +1,204 @@
+//! `&str` as keys or items.
+#![tactic(auto, using(micromap::proofs::Rules::caller))]
+
+ghost use Rattle.std.specs.Prelude.{◌≡◌, ◌↔◌, ◌+◌, ◌-◌, ◌<◌, ◌^◌, [], ℕ, IfOk, IsFalse, IsTrue, None, OnOk, Option, Some, filter, fold, if◌then◌else◌, length, map, max, min, nat_lt, not, unwrap_or};
+ghost use Rattle.std.specs.Bool.{OnTrue};
+ghost use Rattle.std.specs.List.{list_all, list_any, reduce};
+ghost use Rattle.std.specs.Map.{keys_of, lookup, values_of};
+ghost use Rattle.std.specs.Option.{option_and_then, option_map_or};
+ghost use Rattle.std.specs.Str.{bytes_eq};
+ghost use Rattle.micromap.specs.Build.{counts_or_refuse, put_all};
+ghost use Rattle.micromap.specs.Extend.{put_all_items};
+ghost use Rattle.micromap.specs.Pairs.{at, fits, has, put, put_if_fits, take_out};
+ghost use Rattle.micromap.specs.Probe.{is_str};
+ghost use Rattle.micromap.specs.Same.{Same};
+ghost use Rattle.micromap.specs.Texts.{item_strs, key_strs, str_eq};
+
+use micromap::{Map, Overfull, Set, Text};
+use std::alloc::{AllocError, Global};
+
+/// Reads the value at a `&str`.
+pub fn number_of<const N: usize>(numbers: &Map<&str, u8, N>, word: &str) -> Option<u8>
+    ensures { result ≡ at bytes_eq (key_strs numbers.now) word.now }
+{
+    numbers.get_by(&Text(word)).copied()
+}
+
+/// Sets the value at a `&str`, if it fits, and returns the old one.
+pub fn set<'a, const N: usize>(
+    numbers: &mut Map<&'a str, u8, N>,
+    word: &'a str,
+    number: u8,
+) -> Option<Option<u8>>
+    ensures answer { result ≡ (if fits bytes_eq N (key_strs numbers.old) word.now then Some (at bytes_eq (key_strs numbers.old) word.now) else None) }
+    ensures numbers { key_strs numbers.new ≡ put_if_fits bytes_eq N (key_strs numbers.old) word.now number }
+{
+    numbers.checked_insert(word, number)
+}
+
+/// Reads the value at a `&str`, which is put there if it is missing and there is room.
+///
+/// An `entry` of a map with `&str` keys isn't covered by the borrow checker.
+pub fn amount_or_put<'a, const N: usize>(
+    amounts: &mut Map<&'a str, u32, N>,
+    name: &'a str,
+    default: u32,
+) -> Option<u32>
+    ensures answer { result ≡ (if fits str_eq N amounts.old name.entry then Some (unwrap_or (at str_eq amounts.old name.entry) default) else None) }
+    ensures amounts { amounts.new ≡ put_if_fits str_eq N amounts.old name.entry (unwrap_or (at str_eq amounts.old name.entry) default) }
+{
+    let amount = amounts.get(&name).copied().unwrap_or(default);
+    amounts.checked_insert(name, amount)?;
+    Some(amount)
+}
+
+/// Counts a `&str`, up to the greatest number, if it fits.
+pub fn count_word<'a, const N: usize>(counts: &mut Map<&'a str, u32, N>, word: &'a str) -> bool
+    ensures answer { result ≡ fits str_eq N counts.old word.entry }
+    ensures counts { counts.new ≡ put_if_fits str_eq N counts.old word.entry (min (unwrap_or (at str_eq counts.old word.entry) 0 + 1) (2 ^ 32 - 1)) }
+{
+    match counts.get_mut(&word) {
+        Some(count) => {
+            *count = count.saturating_add(1);
+            true
+        }
+        None => counts.checked_insert(word, 1).is_some(),
+    }
+}
+
+/// Moves a value from one `&str` to another, which goes to its index or to the end.
+///
+/// The answer is `false`, and nothing changes, if there is none.
+pub fn rename<'a, const N: usize>(
+    numbers: &mut Map<&'a str, u8, N>,
+    from: &'a str,
+    to: &'a str,
+) -> bool
+    ensures answer { result ≡ has bytes_eq (key_strs numbers.old) from.now }
+    ensures numbers { key_strs numbers.new ≡ option_map_or (λ v. put bytes_eq (take_out bytes_eq (key_strs numbers.old) from.now) to.now v) (at bytes_eq (key_strs numbers.old) from.now) (key_strs numbers.old) }
+{
+    match numbers.remove(&from) {
+        Some(number) => {
+            numbers.insert(to, number);
+            true
+        }
+        None => false,
+    }
+}
+
+/// Returns whether a `&str` key passes.
+pub fn any_long<const N: usize>(names: &Map<&str, u64, N>) -> bool
+    ensures { result ≡ list_any (λ k. nat_lt 5 (length k.now)) (keys_of names.now) }
+{
+    names.keys().any(|k| k.len() > 5)
+}
+
+/// Finds how many bytes the longest `&str` key has, if any.
+pub fn longest<const N: usize>(names: &Map<&str, u64, N>) -> Option<usize>
+    ensures { result ≡ reduce max (map (λ k. length k.now) (keys_of names.now)) }
+{
+    names.keys().map(|k| k.len()).max()
+}
+
+/// Copies the pairs with `&str` keys whose value passes.
+pub fn large<'a, const N: usize>(names: &Map<&'a str, u64, N>) -> Map<&'a str, u64, N>
+    ensures { result ≡ filter (λ p. nat_lt 5 p.1) names.now }
+{
+    let mut some = names.copied();
+    some.retain(|_, value| *value > 5);
+    some
+}
+
+/// Adds up the values of a list of words, or answers `None` if one is missing or the sum doesn't fit.
+pub fn sum_named(names: &[&str], amounts: &Map<&str, u32, 16>) -> Option<u32>
+    ensures { result ≡ fold (λ (sum : Option ℕ) name. option_and_then (λ s. option_and_then (λ n. if nat_lt (s + n) (2 ^ 32) then Some (s + n) else None) (lookup (is_str name.now) amounts.now)) sum) (Some 0) names.now }
+{
+    names.iter().fold(Some(0), |sum: Option<u32>, name| {
+        let so_far = sum?;
+        let amount = amounts.get_by(&Text(*name))?;
+        so_far.checked_add(*amount)
+    })
+}
+
+/// Changes each value by what another map has at its `&str` key.
+pub fn limit_each<const N: usize>(amounts: &mut Map<&str, u32, N>, limits: &Map<&str, u32, 16>)
+    ensures { amounts.new ≡ map (λ p. (p.0, option_map_or (min p.1) (lookup (is_str p.0.now) limits.now) p.1)) amounts.old }
+{
+    amounts.update_all(|name, amount| {
+        if let Some(limit) = limits.get_by(&Text(*name)) {
+            *amount = (*amount).min(*limit);
+        }
+    });
+}
+
+/// Lists the words of a list that are no value of a map, by a closure that has a chain of its own.
+pub fn unused_words<'a>(
+    alloc: Global,
+    words: &[&'a str],
+    bindings: &Map<&str, &str, 16>,
+) -> Result<Vec<&'a str>, AllocError>
+    ensures { IfOk result (λ list. list.items ≡ filter (λ word. list_all (λ used. not (str_eq used word)) (values_of bindings.now)) words.now) }
+{
+    words
+        .iter()
+        .copied()
+        .filter(
+            |word: &&str| -> bool
+                ensures { result ≡ list_all (λ used. not (str_eq used word.now)) (values_of bindings.entry.now) }
+            { bindings.values().all(|used| *used != *word) },
+        )
+        .collect(alloc)
+}
+
+/// Returns whether two maps with `&str` keys are the same.
+pub fn have_same_settings<'a, const N: usize, const M: usize>(
+    one: &Map<&'a str, &'a str, N>,
+    other: &Map<&'a str, &'a str, M>,
+) -> bool
+    ensures { IsTrue result ↔ Same str_eq str_eq one.now other.now }
+{
+    one.eq_with(other)
+}
+
+/// Counts how often each word of a list comes, or answers `None` if there are too many different ones.
+#[tactic(auto, unfolding(micromap_core::specs::Build::counts_or_refuse))]
+pub fn words_of<'a, const N: usize>(list: &[&'a str]) -> Option<Map<&'a str, usize, N>>
+    ensures { result ≡ counts_or_refuse str_eq N list.now }
+{
+    Map::counts_of(list.iter().map(|x| *x))
+}
+
+/// Makes a map with each word of a list and one value, as far as they fit.
+pub fn named<'a>(words: &[&'a str]) -> Map<&'a str, u32, 16>
+    ensures { result ≡ fold (λ m v. put_if_fits str_eq 16 m v 1) [] words.now }
+{
+    words.iter().fold(Map::new(), |mut m, v| {
+        m.checked_insert(*v, 1);
+        m
+    })
+}
+
+/// Puts a map with `&str` keys over another, all or nothing.
+pub fn overlay<'a, const N: usize, const M: usize>(
+    settings: &mut Map<&'a str, u32, N>,
+    other: &Map<&'a str, u32, M>,
+) -> bool
+    ensures put { OnTrue result (key_strs settings.new ≡ put_all bytes_eq (key_strs settings.old) (key_strs other.now)) }
+    ensures unchanged { IsFalse result → settings.new ≡ settings.old }
+    ensures refused { IsFalse result → N < length (put_all bytes_eq (key_strs settings.old) (key_strs other.now)) }
+{
+    settings.try_extend_from(other).is_ok()
+}
+
+/// Puts the words of two sets into another, up to the first set that doesn't fit as a whole.
+pub fn add_words<'a, const N: usize, const M: usize>(
+    words: &mut Set<&'a str, N>,
+    one: &Set<&'a str, M>,
+    other: &Set<&'a str, M>,
+) -> Result<(), Overfull>
+    ensures { OnOk result (item_strs words.new
+        ≡ put_all_items bytes_eq (put_all_items bytes_eq (item_strs words.old) (item_strs one.now)) (item_strs other.now)) }
+{
+    words.try_extend_from(one)?;
+    words.try_extend_from(other)
+}

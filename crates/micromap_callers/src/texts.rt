@@ -1,0 +1,234 @@
+//! Owned texts as keys or items.
+#![tactic(auto, using(micromap::proofs::Rules::caller))]
+
+ghost use Rattle.std.specs.Prelude.{◌≡◌, ◌↔◌, ◌<◌, ◌+◌, ◌-◌, ◌^◌, [], IfOk, IsFalse, IsNone, None, Some, filter, fold, if◌then◌else◌, length, map, min, nat_eq, nat_lt, not, string_bytes, unwrap_or};
+ghost use Rattle.std.specs.Bool.{OnTrue};
+ghost use Rattle.std.specs.Fmt.{decimal};
+ghost use Rattle.std.specs.List.{list_all, starts_with};
+ghost use Rattle.std.specs.Map.{keys_of};
+ghost use Rattle.std.specs.Option.{IfSome, option_and_then, option_map_or};
+ghost use Rattle.std.specs.Set.{is_member};
+ghost use Rattle.std.specs.Str.{bytes_eq};
+ghost use Rattle.micromap.specs.Build.{put_all};
+ghost use Rattle.micromap.specs.Extend.{put_all_items};
+ghost use Rattle.micromap.specs.Operations.{difference, union};
+ghost use Rattle.micromap.specs.Pairs.{at, fits, has, put, put_if_fits, take_out};
+ghost use Rattle.micromap.specs.Print.{map_text};
+
+use micromap::{Map, Set, Text, TextBuf};
+use std::alloc::{AllocError, Global};
+
+/// Reads the value at a text.
+pub fn age_of<const N: usize>(ages: &Map<TextBuf, u8, N>, name: &str) -> Option<u8>
+    ensures { result ≡ at bytes_eq ages.now name.now }
+{
+    ages.get_by(&Text(name)).copied()
+}
+
+/// Follows a text to another one, and reads the value there.
+pub fn port_of(
+    hosts: &Map<TextBuf, TextBuf, 8>,
+    ports: &Map<TextBuf, u16, 8>,
+    service: &str,
+) -> Option<u16>
+    ensures { result ≡ option_and_then (λ host. at bytes_eq ports.now host) (at bytes_eq hosts.now service.now) }
+{
+    hosts
+        .get_by(&Text(service))
+        .and_then(|host| ports.get(host))
+        .copied()
+}
+
+/// Returns whether a set has all texts of a list.
+pub fn has_all(names: &Set<TextBuf, 16>, list: &[&str]) -> bool
+    ensures { result ≡ list_all (λ name. is_member bytes_eq names.now name.now) list.now }
+{
+    list.iter().all(|name| names.contains_by(&Text(*name)))
+}
+
+/// Sets the value at a text, if it fits, and returns whether it did.
+///
+/// The text is copied before it is known whether it fits. `fits_by` asks without a copy.
+pub fn set<const N: usize>(
+    alloc: Global,
+    ages: &mut Map<TextBuf, u8, N>,
+    name: &str,
+    age: u8,
+) -> Result<bool, AllocError>
+    ensures { IfOk result (λ fit. (fit ≡ fits bytes_eq N ages.old name.now) × (ages.new ≡ put_if_fits bytes_eq N ages.old name.now age)) }
+{
+    let name = TextBuf::new(alloc, name)?;
+    Ok(ages.checked_insert(name, age).is_some())
+}
+
+/// Counts a text, which is copied only if it is new.
+///
+/// The answer is `false` if it has no room. A count stays at the greatest number.
+pub fn count<const N: usize>(
+    alloc: Global,
+    counts: &mut Map<TextBuf, u32, N>,
+    word: &str,
+) -> Result<bool, AllocError>
+    ensures { IfOk result (λ fit. (fit ≡ fits bytes_eq N counts.old word.now) × (counts.new ≡ put_if_fits bytes_eq N counts.old word.now (min (unwrap_or (at bytes_eq counts.old word.now) 0 + 1) (2 ^ 32 - 1)))) }
+{
+    match counts.get_mut_by(&Text(word)) {
+        Some(count) => {
+            *count = count.saturating_add(1);
+            Ok(true)
+        }
+        None => {
+            let word = TextBuf::new(alloc, word)?;
+            Ok(counts.checked_insert(word, 1).is_some())
+        }
+    }
+}
+
+/// Moves a value from one text to another, which goes to its index or to the end.
+///
+/// The answer is `false`, and nothing changes, if there is none.
+pub fn rename<const N: usize>(ages: &mut Map<TextBuf, u8, N>, from: &str, to: TextBuf) -> bool
+    ensures answer { result ≡ has bytes_eq ages.old from.now }
+    ensures ages { ages.new ≡ option_map_or (put bytes_eq (take_out bytes_eq ages.old from.now) to) (at bytes_eq ages.old from.now) ages.old }
+{
+    match ages.remove_by(&Text(from)) {
+        Some(age) => {
+            ages.insert(to, age);
+            true
+        }
+        None => false,
+    }
+}
+
+/// Copies the texts that begin with a text.
+pub fn beginning<const N: usize>(
+    names: &Set<TextBuf, N>,
+    text: &str,
+) -> Result<Set<TextBuf, N>, AllocError>
+    ensures { IfOk result (λ new. new ≡ filter (λ name. starts_with nat_eq name text.now) names.now) }
+{
+    let mut kept = names.clone()?;
+    kept.retain(|name| name.as_str().starts_with(text));
+    Ok(kept)
+}
+
+/// Copies the pairs whose value passes.
+pub fn above<const N: usize>(
+    ages: &Map<TextBuf, u8, N>,
+    limit: u8,
+) -> Result<Map<TextBuf, u8, N>, AllocError>
+    ensures { IfOk result (λ new. new ≡ filter (λ p. nat_lt limit p.1) ages.now) }
+{
+    let mut kept = ages.clone()?;
+    kept.retain(|_, age| *age > limit);
+    Ok(kept)
+}
+
+/// Copies a map of sets of texts.
+pub fn plan_of<const N: usize>(
+    needs: &Map<TextBuf, Set<TextBuf, 4>, N>,
+) -> Result<Map<TextBuf, Set<TextBuf, 4>, N>, AllocError>
+    ensures { IfOk result (λ new. new ≡ needs.now) }
+{
+    needs.clone()
+}
+
+/// Copies the texts of a list into a set, or refuses them if there are more than `N` different ones.
+#[tactic(auto, using(micromap::proofs::Rules::loops))]
+pub fn names_of<const N: usize>(
+    alloc: Global,
+    list: &[&str],
+) -> Result<Option<Set<TextBuf, N>>, AllocError>
+    ensures { IfOk result (λ answer. IfSome answer (λ new. new ≡ put_all_items bytes_eq [] (map (λ name. name.now) list.now))) }
+{
+    let mut names = Set::new();
+    for name in list {
+        if !names.fits_by(&Text(*name)) {
+            return Ok(None);
+        }
+        names.insert(TextBuf::new(alloc, *name)?);
+    }
+    Ok(Some(names))
+}
+
+/// Copies the keys of a map into a set.
+#[tactic(auto, using(micromap::proofs::Rules::loops))]
+pub fn keys<const N: usize>(ages: &Map<TextBuf, u8, N>) -> Result<Set<TextBuf, N>, AllocError>
+    ensures { IfOk result (λ new. new ≡ keys_of ages.now) }
+{
+    let mut names = Set::new();
+    for name in ages.keys() {
+        names.insert(name.clone()?);
+    }
+    Ok(names)
+}
+
+/// Copies the texts of two sets into one, and knows exactly that there are too many.
+#[tactic(auto, using(micromap::proofs::Rules::loops))]
+pub fn union_of<const N: usize, const M: usize, const L: usize>(
+    one: &Set<TextBuf, M>,
+    other: &Set<TextBuf, L>,
+) -> Result<Option<Set<TextBuf, N>>, AllocError>
+    ensures names { IfOk result (λ answer. IfSome answer (λ new. new ≡ union bytes_eq one.now other.now)) }
+    ensures refused { IfOk result (λ answer. IsNone answer ↔ (N < length (union bytes_eq one.now other.now))) }
+{
+    let mut names = Set::new();
+    for name in one.union(other) {
+        if !names.fits(name) {
+            return Ok(None);
+        }
+        names.insert(name.clone()?);
+    }
+    Ok(Some(names))
+}
+
+/// Copies the texts of one set that another lacks.
+///
+/// Those that both have are `bitand`.
+pub fn beyond<const N: usize, const M: usize>(
+    names: &Set<TextBuf, N>,
+    other: &Set<TextBuf, M>,
+) -> Result<Set<TextBuf, N>, AllocError>
+    ensures { IfOk result (λ new. new ≡ difference bytes_eq names.now other.now) }
+{
+    names.sub(other)
+}
+
+// Puts the pairs of another map over those of a map, up to the first that doesn't fit.
+#[tactic(auto, using(micromap::proofs::Rules::loops))]
+fn overlay<const N: usize, const M: usize>(
+    settings: &mut Map<TextBuf, TextBuf, N>,
+    other: &Map<TextBuf, TextBuf, M>,
+) -> Result<bool, AllocError>
+    ensures settings { IfOk result (λ all. OnTrue all (settings.new ≡ put_all bytes_eq settings.old other.now)) }
+    ensures refused { IfOk result (λ all. IsFalse all → N < length (put_all bytes_eq settings.old other.now)) }
+{
+    for (name, value) in other {
+        if !settings.fits(name) {
+            return Ok(false);
+        }
+        settings.insert(name.clone()?, value.clone()?);
+    }
+    Ok(true)
+}
+
+/// Copies settings with others put over them, or refuses exactly those that are too many.
+pub fn merged<const N: usize, const M: usize>(
+    settings: &Map<TextBuf, TextBuf, N>,
+    other: &Map<TextBuf, TextBuf, M>,
+) -> Result<Option<Map<TextBuf, TextBuf, N>>, AllocError>
+    ensures merged { IfOk result (λ answer. IfSome answer (λ new. new ≡ put_all bytes_eq settings.now other.now)) }
+    ensures refused { IfOk result (λ answer. IsNone answer → N < length (put_all bytes_eq settings.now other.now)) }
+{
+    let mut merged = settings.clone()?;
+    if !overlay(&mut merged, other)? {
+        return Ok(None);
+    }
+    Ok(Some(merged))
+}
+
+/// Prints a map whose keys are texts.
+pub fn shown<const N: usize>(alloc: Global, ages: &Map<TextBuf, u8, N>) -> Result<String, AllocError>
+    ensures { IfOk result (λ text. map_text (λ name. Some name) (λ age. Some (decimal age)) ages.now ≡ Some (string_bytes text)) }
+{
+    format!(in alloc; "{ages}")
+}

@@ -1,0 +1,45 @@
+//! Maps whose keys are owned texts: from `String` to [`TextBuf`] and back.
+ghost use Rattle.std.specs.Prelude.{◌≡◌};
+ghost use Rattle.std.specs.Str.{bytes_eq};
+ghost use Rattle.std.specs.String.{string_eq};
+ghost use Rattle.micromap_core.specs.Pairs.{IsContent};
+ghost use Rattle.micromap_core.specs.Texts.{key_texts};
+
+use super::Map;
+use crate::text_buf::TextBuf;
+
+impl<V: Drop, const N: usize> Map<String, V, N> {
+    /// Returns this map with each key as a [`TextBuf`], in the same order.
+    ///
+    /// Moves each key once. Compares no key, and takes no memory.
+    pub fn into_text_bufs(self) -> Map<TextBuf, V, N>
+        ensures answer { result ≡ key_texts self }
+        ensures content { IsContent bytes_eq N result }
+    {
+        let _content = self.len();
+        let Map { pairs } = self;
+        let map = Map {
+            pairs: pairs.converted_keys(),
+        };
+        let _content = map.len();
+        map
+    }
+}
+
+impl<V: Drop, const N: usize> Map<TextBuf, V, N> {
+    /// Returns this map with each key as a `String`, in the same order.
+    ///
+    /// Moves each key once. Compares no key, and takes no memory.
+    pub fn into_strings(self) -> Map<String, V, N>
+        ensures answer { key_texts result ≡ self }
+        ensures content { IsContent string_eq N result }
+    {
+        let _content = self.len();
+        let Map { pairs } = self;
+        let map = Map {
+            pairs: pairs.converted_keys(),
+        };
+        let _content = map.len();
+        map
+    }
+}
