@@ -48,24 +48,20 @@ const CAPACITIES: [u64; 6] = [2, 4, 8, 16, 32, 64];
 const ALONE: (u64, [&str; 2]) = (9, ["JSON out", "JSON in"]);
 /// The subject of the static library that has calls beside the loops that they replace, and those calls, each with the
 /// first of its workloads and with how many of `WAYS` it has.
-const BUILDS: (u64, [(&str, u64, usize); 15]) = (
+const BUILDS: (u64, [(&str, u64, usize); 11]) = (
     10,
     [
         ("Map::of_all", 0, 3),
         ("Map::of_fitting", 3, 2),
-        ("Map::with_all", 5, 2),
-        ("Map::with_fitting", 7, 2),
-        ("Map::counts_of", 9, 2),
-        ("Map::try_from_iter", 11, 2),
-        ("Map::try_extend", 13, 2),
-        ("Map::try_extend_from", 15, 2),
-        ("Set::of_all", 17, 3),
-        ("Set::of_fitting", 20, 2),
-        ("Set::with_all", 22, 2),
-        ("Set::with_fitting", 24, 2),
-        ("Set::try_from_iter", 26, 2),
-        ("Set::try_extend", 28, 2),
-        ("Set::try_extend_from", 30, 2),
+        ("Map::counts_of", 5, 2),
+        ("Map::try_from_iter", 7, 2),
+        ("Map::try_extend", 9, 2),
+        ("Map::try_extend_from", 11, 2),
+        ("Set::of_all", 13, 3),
+        ("Set::of_fitting", 16, 2),
+        ("Set::try_from_iter", 18, 2),
+        ("Set::try_extend", 20, 2),
+        ("Set::try_extend_from", 22, 2),
     ],
 );
 /// The ways to build a map or a set, in the order of a call's workloads.

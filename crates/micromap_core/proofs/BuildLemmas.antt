@@ -3,7 +3,7 @@
 -- any container that is `IsKeyed`.
 use Rattle.std.proofs.Common.{◌≡◌, ℕ, zero, suc, ◌+◌, ◌<◌, ◌≤◌, nat_lt, Bool, true, false, ◌&&◌, ◌||◌, not, List, []}
 use Rattle.std.proofs.Common.{◌∷◌, ◌++◌, length, get_or, take, drop, Option, Some, None, is_some, if◌then◌else◌, IsTrue, refl}
-use Rattle.std.proofs.Common.{ap, sym, subst, ◌∙◌, arith, nat_le, ◌⊎◌, inl, inr, map, IfSome}
+use Rattle.std.proofs.Common.{ap, sym, subst, ◌∙◌, arith, nat_le, ◌⊎◌, inl, inr, map}
 use Rattle.std.specs.Cmp.{first_so, second_so, IsEquivalence}
 use Rattle.std.specs.Cmp.Derive.{both_true}
 use Rattle.std.specs.Iterator.{Drains, YieldsThen}
@@ -177,18 +177,6 @@ module _ {C X : Type 0} (fits : C → X → Bool) (put : C → X → C) where
     none_left : (items : List X) → fold (put_whole fits put) None items ≡ None
     none_left [] = refl
     none_left (x ∷ items) = none_left items
-
-  -- what a result that is made of them says of the content
-  pub whole_made : (content : C) (items : List X) {result : Option C}
-      → result ≡ fold (put_whole fits put) (Some content) items
-      → IfSome result (λ c. c ≡ fold put content items)
-  whole_made content items made =
-      subst (λ o. IfSome o (λ c. c ≡ fold put content items))
-      (sym (made ∙ all_or_none content items))
-      (elim (cases_Bool (each_fits fits put content items)) [
-        | inl fit ↦ rw fit refl
-        | inr misfit ↦ rw misfit tt
-      ])
 
   -- the item of a list at an index
   module _ (old : C) (items : List X) (index : ℕ) (d : X) (now : C) (within : index < length items)

@@ -1,20 +1,19 @@
 -- For callers: what a map or a set is once it is built by a chain of iterators, in a part of `lists` of `Rules`. Unequal keys or items are
 -- built as they are, and those that pass a test are unequal too. What is made of all items of a chain is built of them,
 -- or there is none, exactly if they have too many distinct keys.
-use Rattle.std.proofs.Common.{◌≡◌, ℕ, Bool, List, Option, Some, None, IfSome, if◌then◌else◌, ap, ◌∙◌, fold, map-id, nat_le}
+use Rattle.std.proofs.Common.{◌≡◌, ℕ, Bool, List, Some, None, if◌then◌else◌, ap, ◌∙◌, map-id, nat_le}
 use Rattle.std.specs.List.{IsDistinct}
 use Rattle.std.specs.Map.{keys_of}
 use Rattle.std.specs.Set.{distinct_count}
 use Rattle.std.proofs.lemmas.Map.Made.{IsDistinct-keys_filter}
-use Rattle.micromap_core.specs.Build.{build, build_or_refuse, counts, counts_or_refuse, pair_fits, put_all, put_or_refuse, put_pair}
+use Rattle.micromap_core.specs.Build.{build, build_or_refuse, counts, counts_or_refuse}
 use Rattle.micromap_core.specs.Equalities.{Lawful}
-use Rattle.micromap_core.proofs.BuildLemmas.{pairs_keyed, whole_counted, whole_made}
+use Rattle.micromap_core.proofs.BuildLemmas.{pairs_keyed, whole_counted}
 use Rattle.micromap_core.proofs.DistinctLemmas.{IsDistinct-filter}
 use Rattle.micromap_core.proofs.laws.CountLaws.{counts_keyed}
 use Rattle.micromap_core.proofs.laws.Equalities.{equalities, of_lawful}
 use Rattle.micromap_core.proofs.laws.LoopLaws.{build_unique}
-use Rattle.micromap.specs.Extend.{distinct, distinct_or_refuse, put_all_items, put_item_or_refuse}
-use Rattle.micromap.specs.Items.{item_fits, put_item}
+use Rattle.micromap.specs.Extend.{distinct, distinct_or_refuse}
 use Rattle.micromap.proofs.AddedItems.{added_all}
 use Rattle.micromap.proofs.ExtendLemmas.{items_keyed}
 
@@ -31,12 +30,6 @@ module _ {K V : Type 0} (eq : K → K → Bool) (N : ℕ) (items : List (K × V)
   unfolding build_or_refuse
   build_or_refuse_is laws = whole_counted (of_lawful eq laws) (pairs_keyed eq N) items
 
-  -- the same of a map that was there, as far as there is one
-  pub put_or_refuse_is : (pairs : List (K × V)) {result : Option (List (K × V))}
-      → result ≡ fold (put_or_refuse eq N) (Some pairs) items
-      → IfSome result (λ m. m ≡ put_all eq pairs items)
-  put_or_refuse_is pairs made = whole_made (pair_fits eq N) (put_pair eq) pairs items made
-
 -- what a counter is that all items came to, or none if too many of them are distinct
 pub counts_or_refuse_is : {K : Type 0} (eq : K → K → Bool) (N : ℕ) (items : List K) → Lawful eq
     → counts_or_refuse eq N items
@@ -51,11 +44,6 @@ module _ {T : Type 0} (eq : T → T → Bool) (N : ℕ) (items : List T) where
       ≡ (if nat_le (distinct_count eq items) N then Some (distinct eq items) else None)
   unfolding distinct_or_refuse
   distinct_or_refuse_is laws = whole_counted (of_lawful eq laws) (items_keyed eq N) items
-
-  pub put_item_or_refuse_is : (old : List T) {result : Option (List T)}
-      → result ≡ fold (put_item_or_refuse eq N) (Some old) items
-      → IfSome result (λ s. s ≡ put_all_items eq old items)
-  put_item_or_refuse_is old made = whole_made (item_fits eq N) (put_item eq) old items made
 
 pub ruleset chain_laws = (
   distinct_unique,

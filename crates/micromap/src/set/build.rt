@@ -128,41 +128,6 @@ impl<T: Eq + Drop, const N: usize> Set<T, N> {
         fitting.put_fitting(items);
         fitting
     }
-
-    /// Returns the set with all items of an iterator, inserted one after the other as `insert` does, or `None` if they
-    /// don't all fit.
-    ///
-    /// Requires that the iterator ends. Takes every item, also after one that doesn't fit. The result is `None` exactly
-    /// if there are more than `N` distinct items with those of the set: then the set and all items are dropped. Makes one
-    /// scan for each item.
-    pub fn with_all<I: Iterator<Item = T>>(items: I, mut set: Self) -> Option<Self>
-        requires can { I.can_next items }
-        requires ends { IsFinite (I.remaining items) }
-        ensures ran { (xs : List T) × (⊤ → Drains I.next_gives items xs)
-            × (result ≡ fold (put_item_or_refuse T.eq N) (Some set) xs) }
-        ensures content { IsItems T.eq N set × IfSome result (IsItems T.eq N) }
-    {
-        if set.put_fitting(items) {
-            Some(set)
-        } else {
-            None
-        }
-    }
-
-    /// Returns the set with those items of an iterator that fit, inserted one after the other.
-    ///
-    /// Requires that the iterator ends. A new item doesn't fit a full set: it is dropped, and the next ones are taken.
-    /// Makes one scan for each item.
-    pub fn with_fitting<I: Iterator<Item = T>>(items: I, mut set: Self) -> Self
-        requires can { I.can_next items }
-        requires ends { IsFinite (I.remaining items) }
-        ensures ran { (xs : List T) × (⊤ → Drains I.next_gives items xs)
-            × (result ≡ fold (put_item_if_fits T.eq N) set xs) }
-        ensures content { AreItems T.eq N set result }
-    {
-        set.put_fitting(items);
-        set
-    }
 }
 
 impl<T: Eq + Copy, const N: usize> From<[T; N]> for Set<T, N> {

@@ -167,41 +167,6 @@ impl<K: Eq + Drop, V: Drop, const N: usize> Map<K, V, N> {
         fitting.put_fitting(items);
         fitting
     }
-
-    /// Returns the map with all items of an iterator, inserted one after the other as `insert` does, or `None` if they
-    /// don't all fit.
-    ///
-    /// Requires that the iterator ends. Takes every item, also after one that doesn't fit. A `None` is the answer exactly
-    /// if the map has more than `N` keys with those of the items: then the map and all items are dropped. Makes one scan
-    /// for each item.
-    pub fn with_all<I: Iterator<Item = (K, V)>>(items: I, mut map: Self) -> Option<Self>
-        requires can { I.can_next items }
-        requires ends { IsFinite (I.remaining items) }
-        ensures ran { (xs : List (K × V)) × (⊤ → Drains I.next_gives items xs)
-            × (result ≡ fold (put_or_refuse K.eq N) (Some map) xs) }
-        ensures content { IsContent K.eq N map × IfSome result (IsContent K.eq N) }
-    {
-        if map.put_fitting(items) {
-            Some(map)
-        } else {
-            None
-        }
-    }
-
-    /// Returns the map with those items of an iterator that fit, inserted one after the other as `checked_insert` does.
-    ///
-    /// Requires that the iterator ends. An item with a new key doesn't fit a full map: it is dropped, and the next ones
-    /// are taken. Makes one scan for each item.
-    pub fn with_fitting<I: Iterator<Item = (K, V)>>(items: I, mut map: Self) -> Self
-        requires can { I.can_next items }
-        requires ends { IsFinite (I.remaining items) }
-        ensures ran { (xs : List (K × V)) × (⊤ → Drains I.next_gives items xs)
-            × (result ≡ fold (put_pair_if_fits K.eq N) map xs) }
-        ensures content { AreContents K.eq N map result }
-    {
-        map.put_fitting(items);
-        map
-    }
 }
 
 impl<K: Eq + Drop, const N: usize> Map<K, usize, N> {

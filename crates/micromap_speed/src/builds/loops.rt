@@ -22,23 +22,6 @@ pub fn map_of_fitting<const N: usize>(first: u64) -> NumberMap<N> {
     map
 }
 
-pub fn map_with_all<const N: usize>(first: u64, mut map: NumberMap<N>) -> Option<NumberMap<N>> {
-    let mut all_fit = true;
-    for (key, value) in pairs!(N, first) {
-        if map.checked_insert(key, value).is_none() {
-            all_fit = false;
-        }
-    }
-    if all_fit { Some(map) } else { None }
-}
-
-pub fn map_with_fitting<const N: usize>(first: u64, mut map: NumberMap<N>) -> NumberMap<N> {
-    for (key, value) in pairs!(N, first) {
-        map.checked_insert(key, value);
-    }
-    map
-}
-
 pub fn map_counts_of<const N: usize>(first: u64) -> Option<CountMap<N>> {
     let mut counts = CountMap::<N>::new();
     let mut all_fit = true;
@@ -107,23 +90,6 @@ pub fn set_of_all<const N: usize>(first: u64) -> Option<NumberSet<N>> {
 
 pub fn set_of_fitting<const N: usize>(first: u64) -> NumberSet<N> {
     let mut set = Set::new();
-    for item in keys!(N, first) {
-        set.checked_insert(item);
-    }
-    set
-}
-
-pub fn set_with_all<const N: usize>(first: u64, mut set: NumberSet<N>) -> Option<NumberSet<N>> {
-    let mut all_fit = true;
-    for item in keys!(N, first) {
-        if set.try_insert(item).is_err() {
-            all_fit = false;
-        }
-    }
-    if all_fit { Some(set) } else { None }
-}
-
-pub fn set_with_fitting<const N: usize>(first: u64, mut set: NumberSet<N>) -> NumberSet<N> {
     for item in keys!(N, first) {
         set.checked_insert(item);
     }

@@ -72,58 +72,6 @@ pub fn loop_of_fitting<const N: usize>(salt: u64, rounds: u64) -> u64
 }
 
 #[inline(never)]
-pub fn call_with_all<const N: usize>(salt: u64, rounds: u64) -> u64
-    requires { N ≤ 1024 }
-{
-    rounds!(N, salt, rounds, |first, index| {
-        let mut map = NumberMap::<N>::new();
-        map.checked_insert(first, index);
-        if let Some(built) = Map::with_all(pairs!(N, first), map) {
-            built.found(key_of(index, first))
-        } else {
-            0
-        }
-    })
-}
-
-#[inline(never)]
-pub fn loop_with_all<const N: usize>(salt: u64, rounds: u64) -> u64
-    requires { N ≤ 1024 }
-{
-    rounds!(N, salt, rounds, |first, index| {
-        let mut map = NumberMap::<N>::new();
-        map.checked_insert(first, index);
-        if let Some(built) = loops::map_with_all::<N>(first, map) {
-            built.found(key_of(index, first))
-        } else {
-            0
-        }
-    })
-}
-
-#[inline(never)]
-pub fn call_with_fitting<const N: usize>(salt: u64, rounds: u64) -> u64
-    requires { N ≤ 1024 }
-{
-    rounds!(N, salt, rounds, |first, index| {
-        let mut map = NumberMap::<N>::new();
-        map.checked_insert(first, index);
-        Map::with_fitting(pairs!(N, first), map).found(key_of(index, first))
-    })
-}
-
-#[inline(never)]
-pub fn loop_with_fitting<const N: usize>(salt: u64, rounds: u64) -> u64
-    requires { N ≤ 1024 }
-{
-    rounds!(N, salt, rounds, |first, index| {
-        let mut map = NumberMap::<N>::new();
-        map.checked_insert(first, index);
-        loops::map_with_fitting::<N>(first, map).found(key_of(index, first))
-    })
-}
-
-#[inline(never)]
 pub fn call_counts_of<const N: usize>(salt: u64, rounds: u64) -> u64
     requires { N ≤ 1024 }
 {

@@ -72,58 +72,6 @@ pub fn loop_of_fitting<const N: usize>(salt: u64, rounds: u64) -> u64
 }
 
 #[inline(never)]
-pub fn call_with_all<const N: usize>(salt: u64, rounds: u64) -> u64
-    requires { N ≤ 1024 }
-{
-    rounds!(N, salt, rounds, |first, index| {
-        let mut set = NumberSet::<N>::new();
-        set.checked_insert(first);
-        if let Some(built) = Set::with_all(keys!(N, first), set) {
-            built.found(key_of(index, first))
-        } else {
-            0
-        }
-    })
-}
-
-#[inline(never)]
-pub fn loop_with_all<const N: usize>(salt: u64, rounds: u64) -> u64
-    requires { N ≤ 1024 }
-{
-    rounds!(N, salt, rounds, |first, index| {
-        let mut set = NumberSet::<N>::new();
-        set.checked_insert(first);
-        if let Some(built) = loops::set_with_all::<N>(first, set) {
-            built.found(key_of(index, first))
-        } else {
-            0
-        }
-    })
-}
-
-#[inline(never)]
-pub fn call_with_fitting<const N: usize>(salt: u64, rounds: u64) -> u64
-    requires { N ≤ 1024 }
-{
-    rounds!(N, salt, rounds, |first, index| {
-        let mut set = NumberSet::<N>::new();
-        set.checked_insert(first);
-        Set::with_fitting(keys!(N, first), set).found(key_of(index, first))
-    })
-}
-
-#[inline(never)]
-pub fn loop_with_fitting<const N: usize>(salt: u64, rounds: u64) -> u64
-    requires { N ≤ 1024 }
-{
-    rounds!(N, salt, rounds, |first, index| {
-        let mut set = NumberSet::<N>::new();
-        set.checked_insert(first);
-        loops::set_with_fitting::<N>(first, set).found(key_of(index, first))
-    })
-}
-
-#[inline(never)]
 pub fn call_try_from_iter<const N: usize>(salt: u64, rounds: u64) -> u64
     requires { N ≤ 1024 }
 {

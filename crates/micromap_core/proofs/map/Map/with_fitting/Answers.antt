@@ -1,4 +1,0 @@
-use Rattle.micromap_core.proofs.map.Map.with_fitting.Goals as goal
-
-pub returns-clause-ran : goal.returns-clause-ran
-returns-clause-ran g c = let ran = c.put_fitting.ensures.ran in (ran.0, ran.1, ran.3)
