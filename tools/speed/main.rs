@@ -51,14 +51,14 @@ const ALONE: (u64, [&str; 2]) = (9, ["JSON out", "JSON in"]);
 const BUILDS: (u64, [(&str, u64, usize); 11]) = (
     10,
     [
-        ("Map::of_all", 0, 3),
-        ("Map::of_fitting", 3, 2),
+        ("Map::from_all", 0, 3),
+        ("Map::from_fitting", 3, 2),
         ("Map::counts_of", 5, 2),
         ("Map::try_from_iter", 7, 2),
         ("Map::try_extend", 9, 2),
         ("Map::try_extend_from", 11, 2),
-        ("Set::of_all", 13, 3),
-        ("Set::of_fitting", 16, 2),
+        ("Set::from_all", 13, 3),
+        ("Set::from_fitting", 16, 2),
         ("Set::try_from_iter", 18, 2),
         ("Set::try_extend", 20, 2),
         ("Set::try_extend_from", 22, 2),

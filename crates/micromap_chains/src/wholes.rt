@@ -18,7 +18,7 @@ use micromap::{Map, Set};
 pub fn whole<const N: usize>(list: &[(u8, u8)]) -> Option<Map<u8, u8, N>>
     ensures { result ≡ build_or_refuse nat_eq N list.now }
 {
-    Map::of_all(list.iter().map(|p| *p))
+    Map::from_all(list.iter().map(|p| *p))
 }
 
 /// Returns the items of a list with their halves, or `None` if they don't all fit.
@@ -26,14 +26,14 @@ pub fn whole<const N: usize>(list: &[(u8, u8)]) -> Option<Map<u8, u8, N>>
 pub fn halves<const N: usize>(list: &[u8]) -> Option<Map<u8, u8, N>>
     ensures { result ≡ build_or_refuse nat_eq N (map (λ x. (x, x / 2)) list.now) }
 {
-    Map::of_all(list.iter().map(|x| (*x, *x / 2)))
+    Map::from_all(list.iter().map(|x| (*x, *x / 2)))
 }
 
 /// Returns the pairs whose values are below 100, with half the value, or `None` if they don't all fit.
 pub fn low_halves<const N: usize, const M: usize>(pairs: &Map<u8, u8, N>) -> Option<Map<u8, u8, M>>
     ensures { result ≡ fold (put_or_refuse nat_eq M) (Some []) (map (λ p. (p.0, p.1 / 2)) (filter (λ p. nat_lt p.1 100) pairs.now)) }
 {
-    Map::of_all(
+    Map::from_all(
         pairs
             .iter()
             .filter(|p| *p.1 < 100)
@@ -45,14 +45,14 @@ pub fn low_halves<const N: usize, const M: usize>(pairs: &Map<u8, u8, N>) -> Opt
 pub fn first_halves<const N: usize>(list: &[u8]) -> Map<u8, u8, N>
     ensures { result ≡ fold (put_pair_if_fits nat_eq N) [] (map (λ x. (x, x / 2)) list.now) }
 {
-    Map::of_fitting(list.iter().map(|x| (*x, *x / 2)))
+    Map::from_fitting(list.iter().map(|x| (*x, *x / 2)))
 }
 
 /// Returns the keys of a map that another lacks.
 pub fn keys_lacking(pairs: &Map<u8, u32, 16>, other: &Map<u8, u32, 8>) -> Set<u8, 16>
     ensures { result ≡ fold (put_item_if_fits nat_eq 16) [] (filter (λ k. not (has nat_eq other.now k)) (keys_of pairs.now)) }
 {
-    Set::of_fitting(pairs.keys().filter(|k| !other.contains_key(k)).map(|k| *k))
+    Set::from_fitting(pairs.keys().filter(|k| !other.contains_key(k)).map(|k| *k))
 }
 
 /// Returns the halves of a list as a set, or `None` if they don't all fit.
@@ -60,7 +60,7 @@ pub fn keys_lacking(pairs: &Map<u8, u32, 16>, other: &Map<u8, u32, 8>) -> Set<u8
 pub fn set_of_all_halves<const N: usize>(list: &[u8]) -> Option<Set<u8, N>>
     ensures { result ≡ distinct_or_refuse nat_eq N (map (λ x. x / 2) list.now) }
 {
-    Set::of_all(list.iter().map(|x| *x / 2))
+    Set::from_all(list.iter().map(|x| *x / 2))
 }
 
 /// Returns how often each item of a list comes, or `None` if there are too many different ones.

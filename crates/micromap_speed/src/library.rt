@@ -88,7 +88,7 @@ impl<const N: usize> Numbers for Map<u64, u64, N> {
 
     #[inline]
     fn all_and_find(&self, _memory: Global, _room: u64, first: u64, key: u64) -> u64 {
-        let made: Option<Map<u64, u64, N>> = Map::of_all((0..N as u64).map(|index| (
+        let made: Option<Map<u64, u64, N>> = Map::from_all((0..N as u64).map(|index| (
             key_of(index, first),
             index,
         )));

@@ -95,10 +95,10 @@ impl<T: Eq + Drop, const N: usize> Set<T, N> {
     /// if more than `N` of the items are distinct: then all are dropped. Makes one scan for each item.
     ///
     /// ```
-    /// let halves: Option<Set<u8, 2>> = Set::of_all([4, 5, 6].iter().map(|x| *x / 2));
+    /// let halves: Option<Set<u8, 2>> = Set::from_all([4, 5, 6].iter().map(|x| *x / 2));
     /// assert_eq!(rt; halves.map(|set| set.len()), Some(2));
     /// ```
-    pub fn of_all<I: Iterator<Item = T>>(items: I) -> Option<Self>
+    pub fn from_all<I: Iterator<Item = T>>(items: I) -> Option<Self>
         requires can { I.can_next items }
         requires ends { IsFinite (I.remaining items) }
         ensures ran { (xs : List T) × (⊤ → Drains I.next_gives items xs)
@@ -117,7 +117,7 @@ impl<T: Eq + Drop, const N: usize> Set<T, N> {
     ///
     /// Requires that the iterator ends. A new item doesn't fit a full set: it is dropped, and the next ones are taken.
     /// Makes one scan for each item.
-    pub fn of_fitting<I: Iterator<Item = T>>(items: I) -> Self
+    pub fn from_fitting<I: Iterator<Item = T>>(items: I) -> Self
         requires can { I.can_next items }
         requires ends { IsFinite (I.remaining items) }
         ensures ran { (xs : List T) × (⊤ → Drains I.next_gives items xs)

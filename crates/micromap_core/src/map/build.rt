@@ -137,7 +137,7 @@ impl<K: Eq + Drop, V: Drop, const N: usize> Map<K, V, N> {
     ///
     /// Requires that the iterator ends. Takes every item, also after one that doesn't fit. The result is `None` exactly
     /// if the items have more than `N` distinct keys: then all are dropped. Makes one scan for each item.
-    pub fn of_all<I: Iterator<Item = (K, V)>>(items: I) -> Option<Self>
+    pub fn from_all<I: Iterator<Item = (K, V)>>(items: I) -> Option<Self>
         requires can { I.can_next items }
         requires ends { IsFinite (I.remaining items) }
         ensures ran { (xs : List (K × V)) × (⊤ → Drains I.next_gives items xs)
@@ -156,7 +156,7 @@ impl<K: Eq + Drop, V: Drop, const N: usize> Map<K, V, N> {
     ///
     /// Requires that the iterator ends. An item with a new key doesn't fit a full map: it is dropped, and the next ones
     /// are taken. Makes one scan for each item.
-    pub fn of_fitting<I: Iterator<Item = (K, V)>>(items: I) -> Self
+    pub fn from_fitting<I: Iterator<Item = (K, V)>>(items: I) -> Self
         requires can { I.can_next items }
         requires ends { IsFinite (I.remaining items) }
         ensures ran { (xs : List (K × V)) × (⊤ → Drains I.next_gives items xs)

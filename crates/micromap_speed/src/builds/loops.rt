@@ -3,7 +3,7 @@ use crate::inputs::{below, key_of, value_of};
 use crate::{CountMap, NumberMap, NumberSet};
 use micromap::{Map, Overfull, Set};
 
-pub fn map_of_all<const N: usize>(first: u64) -> Option<NumberMap<N>> {
+pub fn map_from_all<const N: usize>(first: u64) -> Option<NumberMap<N>> {
     let mut map = Map::new();
     let mut all_fit = true;
     for (key, value) in pairs!(N, first) {
@@ -14,7 +14,7 @@ pub fn map_of_all<const N: usize>(first: u64) -> Option<NumberMap<N>> {
     if all_fit { Some(map) } else { None }
 }
 
-pub fn map_of_fitting<const N: usize>(first: u64) -> NumberMap<N> {
+pub fn map_from_fitting<const N: usize>(first: u64) -> NumberMap<N> {
     let mut map = Map::new();
     for (key, value) in pairs!(N, first) {
         map.checked_insert(key, value);
@@ -77,7 +77,7 @@ pub fn map_try_extend_from<const N: usize>(
     Ok(())
 }
 
-pub fn set_of_all<const N: usize>(first: u64) -> Option<NumberSet<N>> {
+pub fn set_from_all<const N: usize>(first: u64) -> Option<NumberSet<N>> {
     let mut set = Set::new();
     let mut all_fit = true;
     for item in keys!(N, first) {
@@ -88,7 +88,7 @@ pub fn set_of_all<const N: usize>(first: u64) -> Option<NumberSet<N>> {
     if all_fit { Some(set) } else { None }
 }
 
-pub fn set_of_fitting<const N: usize>(first: u64) -> NumberSet<N> {
+pub fn set_from_fitting<const N: usize>(first: u64) -> NumberSet<N> {
     let mut set = Set::new();
     for item in keys!(N, first) {
         set.checked_insert(item);

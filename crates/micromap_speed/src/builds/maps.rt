@@ -7,11 +7,11 @@ use crate::{CountMap, NumberMap};
 use micromap::Map;
 
 #[inline(never)]
-pub fn call_of_all<const N: usize>(salt: u64, rounds: u64) -> u64
+pub fn call_from_all<const N: usize>(salt: u64, rounds: u64) -> u64
     requires { N ≤ 1024 }
 {
     rounds!(N, salt, rounds, |first, index| {
-        if let Some(built) = NumberMap::<N>::of_all(pairs!(N, first)) {
+        if let Some(built) = NumberMap::<N>::from_all(pairs!(N, first)) {
             built.found(key_of(index, first))
         } else {
             0
@@ -20,11 +20,11 @@ pub fn call_of_all<const N: usize>(salt: u64, rounds: u64) -> u64
 }
 
 #[inline(never)]
-pub fn loop_of_all<const N: usize>(salt: u64, rounds: u64) -> u64
+pub fn loop_from_all<const N: usize>(salt: u64, rounds: u64) -> u64
     requires { N ≤ 1024 }
 {
     rounds!(N, salt, rounds, |first, index| {
-        if let Some(built) = loops::map_of_all::<N>(first) {
+        if let Some(built) = loops::map_from_all::<N>(first) {
             built.found(key_of(index, first))
         } else {
             0
@@ -34,7 +34,7 @@ pub fn loop_of_all<const N: usize>(salt: u64, rounds: u64) -> u64
 
 // The loop stands where its map is used, and makes no `Option`.
 #[inline(never)]
-pub fn in_place_of_all<const N: usize>(salt: u64, rounds: u64) -> u64
+pub fn in_place_from_all<const N: usize>(salt: u64, rounds: u64) -> u64
     requires { N ≤ 1024 }
 {
     rounds!(N, salt, rounds, |first, index| {
@@ -54,20 +54,20 @@ pub fn in_place_of_all<const N: usize>(salt: u64, rounds: u64) -> u64
 }
 
 #[inline(never)]
-pub fn call_of_fitting<const N: usize>(salt: u64, rounds: u64) -> u64
+pub fn call_from_fitting<const N: usize>(salt: u64, rounds: u64) -> u64
     requires { N ≤ 1024 }
 {
     rounds!(N, salt, rounds, |first, index| {
-        NumberMap::<N>::of_fitting(pairs!(N, first)).found(key_of(index, first))
+        NumberMap::<N>::from_fitting(pairs!(N, first)).found(key_of(index, first))
     })
 }
 
 #[inline(never)]
-pub fn loop_of_fitting<const N: usize>(salt: u64, rounds: u64) -> u64
+pub fn loop_from_fitting<const N: usize>(salt: u64, rounds: u64) -> u64
     requires { N ≤ 1024 }
 {
     rounds!(N, salt, rounds, |first, index| {
-        loops::map_of_fitting::<N>(first).found(key_of(index, first))
+        loops::map_from_fitting::<N>(first).found(key_of(index, first))
     })
 }
 
@@ -154,7 +154,7 @@ pub fn loop_try_extend<const N: usize>(salt: u64, rounds: u64) -> u64
 // A full map that is put into others. Its type is another one than that of `both`, so that the call has one place.
 #[inline(never)]
 fn full_counts<const N: usize>(first: u64) -> CountMap<N> {
-    Map::of_fitting((0..N as u64).map(|index| (key_of(index, first), index as usize)))
+    Map::from_fitting((0..N as u64).map(|index| (key_of(index, first), index as usize)))
 }
 
 #[inline(never)]

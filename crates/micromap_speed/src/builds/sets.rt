@@ -7,11 +7,11 @@ use crate::inputs::{key_of, odd};
 use micromap::Set;
 
 #[inline(never)]
-pub fn call_of_all<const N: usize>(salt: u64, rounds: u64) -> u64
+pub fn call_from_all<const N: usize>(salt: u64, rounds: u64) -> u64
     requires { N ≤ 1024 }
 {
     rounds!(N, salt, rounds, |first, index| {
-        if let Some(built) = NumberSet::<N>::of_all(keys!(N, first)) {
+        if let Some(built) = NumberSet::<N>::from_all(keys!(N, first)) {
             built.found(key_of(index, first))
         } else {
             0
@@ -20,11 +20,11 @@ pub fn call_of_all<const N: usize>(salt: u64, rounds: u64) -> u64
 }
 
 #[inline(never)]
-pub fn loop_of_all<const N: usize>(salt: u64, rounds: u64) -> u64
+pub fn loop_from_all<const N: usize>(salt: u64, rounds: u64) -> u64
     requires { N ≤ 1024 }
 {
     rounds!(N, salt, rounds, |first, index| {
-        if let Some(built) = loops::set_of_all::<N>(first) {
+        if let Some(built) = loops::set_from_all::<N>(first) {
             built.found(key_of(index, first))
         } else {
             0
@@ -34,7 +34,7 @@ pub fn loop_of_all<const N: usize>(salt: u64, rounds: u64) -> u64
 
 // The loop stands where its set is used, and makes no `Option`.
 #[inline(never)]
-pub fn in_place_of_all<const N: usize>(salt: u64, rounds: u64) -> u64
+pub fn in_place_from_all<const N: usize>(salt: u64, rounds: u64) -> u64
     requires { N ≤ 1024 }
 {
     rounds!(N, salt, rounds, |first, index| {
@@ -54,20 +54,20 @@ pub fn in_place_of_all<const N: usize>(salt: u64, rounds: u64) -> u64
 }
 
 #[inline(never)]
-pub fn call_of_fitting<const N: usize>(salt: u64, rounds: u64) -> u64
+pub fn call_from_fitting<const N: usize>(salt: u64, rounds: u64) -> u64
     requires { N ≤ 1024 }
 {
     rounds!(N, salt, rounds, |first, index| {
-        NumberSet::<N>::of_fitting(keys!(N, first)).found(key_of(index, first))
+        NumberSet::<N>::from_fitting(keys!(N, first)).found(key_of(index, first))
     })
 }
 
 #[inline(never)]
-pub fn loop_of_fitting<const N: usize>(salt: u64, rounds: u64) -> u64
+pub fn loop_from_fitting<const N: usize>(salt: u64, rounds: u64) -> u64
     requires { N ≤ 1024 }
 {
     rounds!(N, salt, rounds, |first, index| {
-        loops::set_of_fitting::<N>(first).found(key_of(index, first))
+        loops::set_from_fitting::<N>(first).found(key_of(index, first))
     })
 }
 
@@ -128,7 +128,7 @@ pub fn loop_try_extend<const N: usize>(salt: u64, rounds: u64) -> u64
 // A full set that is put into others.
 #[inline(never)]
 fn full_set<const N: usize>(first: u64) -> NumberSet<N> {
-    Set::of_fitting(keys!(N, first))
+    Set::from_fitting(keys!(N, first))
 }
 
 #[inline(never)]

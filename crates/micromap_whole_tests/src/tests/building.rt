@@ -84,23 +84,23 @@ fn items_that_do_not_fit_are_dropped(rt: HostRuntime) {
 #[test]
 fn all_items_or_none_make_a_map(rt: HostRuntime) {
     let items = [(1, 'a'), (2, 'b'), (1, 'c')];
-    let map: Option<Map<u8, char, 2>> = Map::of_all(items.into_iter());
+    let map: Option<Map<u8, char, 2>> = Map::from_all(items.into_iter());
     assert!(rt; map.is_some_and(|map| map.into_iter().eq([(1, 'c'), (2, 'b')])));
     let mut left = items.into_iter();
-    let map: Option<Map<u8, char, 1>> = Map::of_all(&mut left);
+    let map: Option<Map<u8, char, 1>> = Map::from_all(&mut left);
     assert!(rt; map.is_none());
     assert!(rt; left.next().is_none());
-    let set: Option<Set<u8, 2>> = Set::of_all([5, 6, 5].into_iter());
+    let set: Option<Set<u8, 2>> = Set::from_all([5, 6, 5].into_iter());
     assert!(rt; set.is_some_and(|set| holds(&set, &[5, 6])));
-    let set: Option<Set<u8, 1>> = Set::of_all([5, 6, 5].into_iter());
+    let set: Option<Set<u8, 1>> = Set::from_all([5, 6, 5].into_iter());
     assert!(rt; set.is_none());
 }
 
 #[test]
 fn items_that_fit_make_a_map(rt: HostRuntime) {
-    let map: Map<u8, char, 1> = Map::of_fitting([(1, 'a'), (2, 'b'), (1, 'c')].into_iter());
+    let map: Map<u8, char, 1> = Map::from_fitting([(1, 'a'), (2, 'b'), (1, 'c')].into_iter());
     assert!(rt; map.into_iter().eq([(1, 'c')]));
-    let set: Set<u8, 2> = Set::of_fitting([5, 6, 7, 5].into_iter());
+    let set: Set<u8, 2> = Set::from_fitting([5, 6, 7, 5].into_iter());
     assert!(rt; holds(&set, &[5, 6]));
 }
 
@@ -108,7 +108,7 @@ fn items_that_fit_make_a_map(rt: HostRuntime) {
 fn items_that_are_not_in_a_map_are_dropped(rt: HostRuntime) {
     let counts = Counts::new();
     let items = [0, 1, 0, 2, 3].map(|id| Counted::new(id, &counts));
-    let set: Option<Set<Counted<'_>, 2>> = Set::of_all(items.into_iter());
+    let set: Option<Set<Counted<'_>, 2>> = Set::from_all(items.into_iter());
     assert!(rt; set.is_none());
     assert!(rt; counts.drops.get() == 5);
 }
@@ -125,7 +125,7 @@ fn more_distinct_items_than_there_is_room_for_are_not_counted(rt: HostRuntime) {
 fn a_map_takes_every_item_that_is_lent(rt: HostRuntime) {
     let items = [(1, 'a'), (2, 'b'), (1, 'c')];
     let mut left = items.into_iter();
-    let map: Map<u8, char, 1> = Map::of_fitting(&mut left);
+    let map: Map<u8, char, 1> = Map::from_fitting(&mut left);
     assert!(rt; map.into_iter().eq([(1, 'c')]));
     assert!(rt; left.next().is_none());
 }
@@ -145,11 +145,11 @@ fn every_lent_item_is_counted_or_taken(rt: HostRuntime) {
 #[test]
 fn a_set_takes_every_item_that_is_lent(rt: HostRuntime) {
     let mut left = [5, 6, 5].into_iter();
-    let set: Option<Set<u8, 1>> = Set::of_all(&mut left);
+    let set: Option<Set<u8, 1>> = Set::from_all(&mut left);
     assert!(rt; set.is_none());
     assert!(rt; left.next().is_none());
     let mut left = [5, 6, 5].into_iter();
-    let set: Set<u8, 1> = Set::of_fitting(&mut left);
+    let set: Set<u8, 1> = Set::from_fitting(&mut left);
     assert!(rt; holds(&set, &[5]));
     assert!(rt; left.next().is_none());
 }

@@ -91,7 +91,7 @@ fn items_are_inserted_up_to_a_misfit(rt: HostRuntime) {
 
 #[test]
 fn all_items_make_a_set(rt: HostRuntime) {
-    let halves: Option<Set<u8, 2>> = Set::of_all([4, 5, 6].iter().map(|x| *x / 2));
+    let halves: Option<Set<u8, 2>> = Set::from_all([4, 5, 6].iter().map(|x| *x / 2));
     assert_eq!(rt; halves.map(|set| set.len()), Some(2));
 }
 

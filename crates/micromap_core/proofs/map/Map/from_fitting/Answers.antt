@@ -1,4 +1,4 @@
-use Rattle.micromap_core.proofs.map.Map.of_fitting.Goals as goal
+use Rattle.micromap_core.proofs.map.Map.from_fitting.Goals as goal
 
 pub returns-clause-ran : goal.returns-clause-ran
 returns-clause-ran g c = let ran = rw c.new-fitting.ensures.answer at c.put_fitting.ensures.ran in

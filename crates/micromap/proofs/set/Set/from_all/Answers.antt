@@ -1,4 +1,4 @@
-use Rattle.micromap_core.proofs.map.Map.of_all.Goals as goal
+use Rattle.micromap.proofs.set.Set.from_all.Goals as goal
 
 pub returns-then-put_fitting-clause-ran : goal.returns-then-put_fitting-clause-ran
 returns-then-put_fitting-clause-ran g c =
