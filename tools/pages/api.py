@@ -29,7 +29,7 @@ OTHERS = {
     "Streams": "Map::write_entries, Map::read_entries, Set::write_entries, Set::read_entries, EntrySink, EntrySource, "
     "VecSink, SliceSource",
     "JSON": "map_from_json, map_to_json, set_from_json, set_to_json, JsonFault",
-    "Errors": "Overfull, ReadFault",
+    "Errors": "Overfull, InsertError, ReadFault",
     "Counting comparisons": "Steps, Map::get_counted, Map::eq_with_counted",
     "Iterators": "Iter, Keys, Values, IntoIter, IntoKeys, IntoValues, Drain, Iter of a set, IntoIter of a set, "
     "Drain of a set",

@@ -107,7 +107,7 @@ class Vocabulary:
     """The words of some texts, each with the imports of its file. What is amiss is added to `wrong`."""
 
     def __init__(self, texts, wrong):
-        self.texts, self.wrong = texts, wrong
+        self.texts, self.wrong, self.homes = texts, wrong, collections.defaultdict(set)
 
     def tables(self):
         """The tables of the words, and the words that mean what their names say."""
@@ -115,7 +115,8 @@ class Vocabulary:
         for word, module in modules.items():
             path = spec_of(module)
             if word in PLAIN:
-                plain[module].append(word)
+                for home in sorted(self.homes[word] | {module}):  # variants of two types may have one name
+                    plain[home].append(word)
             elif path:
                 form, meaning = self.explained(path, word)
                 own.append(f"| `{form}` | {link(path, 'crates/micromap/API.md', module)} | {meaning} |")
@@ -139,6 +140,7 @@ class Vocabulary:
                     module = imports[word]
                     is_ours = f"pub use Rattle.{module}\n" in exported
                     modules[word] = module.replace("micromap_core", "micromap") if is_ours else module
+                    self.homes[word].add(modules[word])
         modules |= dict(self.guided(exported))
         for path in dict.fromkeys(spec_of(it) for it in modules.values() if spec_of(it)):
             for module, names in re.findall(r"^use Rattle\.([\w.]+)\.\{([^}]*)\}", read(path), re.M):

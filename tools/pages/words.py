@@ -90,7 +90,7 @@ zip xs ys | the pairs of the elements at the same index
 .styled_output x spec | the bytes that `x` prints with these flags, if its type promises them
 """
 # Words that mean what their names say: types, values and functions of Rust, and the variants of types of the library.
-PLAIN = """AllocError Bool Err length List Memory None not Occupied Ok Option Some true Vacant ℕ
+PLAIN = """AllocError Bool Err Full length List Memory None not Occupied Ok Option Some true Vacant ℕ
 .Error .faults .last_fault .left .matches .taken""".split()
 FORMS = dict(line.split(" | ") for line in MEANINGS.strip().split("\n"))
 FORM_OF = {it.split()[0]: form for form in FORMS for it in form.split(", ")}
@@ -109,6 +109,7 @@ entry_key e |
 entry_put e v |
 entry_taken e |
 entry_value e |
+insert_error_text error |
 intersection_hint w | a lower and an upper bound of how many members an intersection has left at `w`
 intersection_left eq w | the members that an intersection has left at `w`
 intersection_on eq w | where a call of `next` leads an intersection from `w`: past the next member, or to the end if there is none

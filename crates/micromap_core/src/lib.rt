@@ -2,6 +2,7 @@
 #![tactic(auto)]
 
 pub mod entry;
+mod insert_error;
 pub mod map;
 mod overfull;
 mod probe;
@@ -10,6 +11,7 @@ mod steps;
 pub mod stream;
 mod text_buf;
 
+pub use insert_error::InsertError;
 pub use map::Map;
 pub use overfull::Overfull;
 pub use probe::{Probe, Text};

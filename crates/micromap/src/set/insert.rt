@@ -1,9 +1,11 @@
 //! Inserting an item.
 ghost use Rattle.std.specs.Prelude.{◌≡◌, length, nat_lt, Some, None, Ok, Err, IsTrue, not, if◌then◌else◌};
 ghost use Rattle.std.specs.Set.{is_member};
+ghost use Rattle.micromap.specs.Insert.{Occupied, Full};
 ghost use Rattle.micromap.specs.Items.{AreItems, put_item, put_item_if_fits, replace_item, find_item, item_fits};
 
 use super::{Set, item_of};
+use crate::InsertError;
 
 impl<T: Eq + Drop, const N: usize> Set<T, N> {
     /// Inserts the item, and returns `true` if it is new.
@@ -61,31 +63,35 @@ impl<T: Eq + Drop, const N: usize> Set<T, N> {
         ensures items { self.new ≡ put_item_if_fits T.eq N self.old item }
         ensures content { AreItems T.eq N self.old self.new }
     {
-        self.try_insert(item).ok()?
+        match self.try_insert(item) {
+            Err(InsertError::Occupied(item)) => Some(item),
+            _ => None,
+        }
     }
 
-    /// Inserts the item if it is new and there is room. Returns `Ok(None)` then, `Ok(Some(item))` if an equal one is
-    /// stored, and `Err(item)` if the item is new and the set is full.
+    /// Inserts the item if it is new and there is room. Returns `Err(Occupied(item))` if an equal one is stored, and
+    /// `Err(Full(item))` if the item is new and the set is full.
     ///
-    /// A new item goes last. A stored item stays: unless the result is `Ok(None)`, the set is unchanged, and the item
-    /// that was passed comes back. Makes one scan.
+    /// A new item goes last. A stored item stays: after an `Err` the set is unchanged, and the item that was passed comes
+    /// back. Makes one scan.
     ///
     /// ```
     /// let mut seen: Set<u8, 1> = Set::new();
-    /// assert_eq!(rt; seen.try_insert(1), Ok(None));
-    /// assert_eq!(rt; seen.try_insert(1), Ok(Some(1)));
-    /// assert_eq!(rt; seen.try_insert(2), Err(2));
+    /// assert_eq!(rt; seen.try_insert(1), Ok(()));
+    /// assert_eq!(rt; seen.try_insert(1), Err(InsertError::Occupied(1)));
+    /// assert_eq!(rt; seen.try_insert(2), Err(InsertError::Full(2)));
     /// ```
     #[inline]
-    pub fn try_insert(&mut self, item: T) -> Result<Option<T>, T>
-        ensures answer { result ≡ (if is_member T.eq self.old item then Ok (Some item)
-            else if nat_lt (length self.old) N then Ok None else Err item) }
+    pub fn try_insert(&mut self, item: T) -> Result<(), InsertError<T>>
+        ensures answer { result ≡ (if is_member T.eq self.old item then Err (Occupied item)
+            else if nat_lt (length self.old) N then Ok tt else Err (Full item)) }
         ensures items { self.new ≡ put_item_if_fits T.eq N self.old item }
         ensures content { AreItems T.eq N self.old self.new }
     {
         match self.map.try_insert(item, ()) {
-            Ok(stored) => Ok(item_of(stored)),
-            Err((item, _)) => Err(item),
+            Ok(()) => Ok(()),
+            Err(InsertError::Occupied((item, _))) => Err(InsertError::Occupied(item)),
+            Err(InsertError::Full((item, _))) => Err(InsertError::Full(item)),
         }
     }
 
@@ -96,6 +102,6 @@ impl<T: Eq + Drop, const N: usize> Set<T, N> {
         ensures items { self.new ≡ put_item_if_fits T.eq N self.old item }
         ensures content { AreItems T.eq N self.old self.new }
     {
-        self.try_insert(item).is_ok()
+        self.map.checked_insert(item, ()).is_some()
     }
 }

@@ -2,9 +2,11 @@
 #![tactic(auto, using(crate::proofs::Opened::opened_map))]
 
 ghost use Rattle.std.specs.Prelude.{◌≡◌, Some, None, Ok, Err, IsTrue, if◌then◌else◌};
+ghost use Rattle.micromap_core.specs.Insert.{Occupied, Full};
 ghost use Rattle.micromap_core.specs.Pairs.{AreContents, at, pair, fits, has, has_room, put, put_if_fits, put_key};
 
 use super::Map;
+use crate::InsertError;
 
 impl<K: Eq + Drop, V: Drop, const N: usize> Map<K, V, N> {
     /// Inserts the pair, and returns the old value, or `None` if the key is new.
@@ -96,34 +98,34 @@ impl<K: Eq + Drop, V: Drop, const N: usize> Map<K, V, N> {
         self.checked_insert(key, value).is_some()
     }
 
-    /// Inserts the pair if its key is new and there is room. Returns `Ok(None)` then, `Ok(Some((key, value)))` if an equal
-    /// key is stored, and `Err((key, value))` if the key is new and the map is full.
+    /// Inserts the pair if its key is new and there is room. Returns `Err(Occupied((key, value)))` if an equal key is
+    /// stored, and `Err(Full((key, value)))` if the key is new and the map is full.
     ///
-    /// A new pair goes last. A stored pair is never replaced: unless the result is `Ok(None)`, the map is unchanged, and
-    /// the pair comes back. Makes one scan.
+    /// A new pair goes last. A stored pair is never replaced: after an `Err` the map is unchanged, and the pair comes back.
+    /// Makes one scan.
     ///
     /// ```
     /// let mut map: Map<u64, &str, 1> = Map::new();
-    /// assert_eq!(rt; map.try_insert(1, "foo"), Ok(None));
-    /// assert_eq!(rt; map.try_insert(1, "bar"), Ok(Some((1, "bar"))));
-    /// assert_eq!(rt; map.try_insert(2, "baz"), Err((2, "baz")));
+    /// assert_eq!(rt; map.try_insert(1, "foo"), Ok(()));
+    /// assert_eq!(rt; map.try_insert(1, "bar"), Err(InsertError::Occupied((1, "bar"))));
+    /// assert_eq!(rt; map.try_insert(2, "baz"), Err(InsertError::Full((2, "baz"))));
     /// assert_eq!(rt; map.get(&1), Some(&"foo"));
     /// ```
     #[inline]
-    pub fn try_insert(&mut self, key: K, value: V) -> Result<Option<(K, V)>, (K, V)>
-        ensures answer { result ≡ (if has K.eq self.old key then Ok (Some (key, value))
-            else if has_room N self.old then Ok None else Err (key, value)) }
+    pub fn try_insert(&mut self, key: K, value: V) -> Result<(), InsertError<(K, V)>>
+        ensures answer { result ≡ (if has K.eq self.old key then Err (Occupied (key, value))
+            else if has_room N self.old then Ok tt else Err (Full (key, value))) }
         ensures pairs { self.new ≡ (if has K.eq self.old key then self.old
             else put_if_fits K.eq N self.old key value) }
         ensures content { AreContents K.eq N self.old self.new }
     {
         match self.index_of(&key) {
-            Some(_) => Ok(Some((key, value))),
+            Some(_) => Err(InsertError::Occupied((key, value))),
             None if self.has_room() => {
                 self.push_pair(key, value);
-                Ok(None)
+                Ok(())
             }
-            None => Err((key, value)),
+            None => Err(InsertError::Full((key, value))),
         }
     }
 }

@@ -5,7 +5,7 @@ ghost use Rattle.std.specs.Map.{lookup};
 ghost use Rattle.micromap.specs.Pairs.{fits, has, put};
 ghost use Rattle.micromap.specs.Probe.{is_str};
 
-use micromap::{Map, Text};
+use micromap::{InsertError, Map, Text};
 use micromap_testing::{Counted, Counts, Digit, Id, Marked, counted_map, gives};
 use std::alloc::{AllocError, Global};
 
@@ -68,12 +68,12 @@ fn insertions_answer_what_was_there(rt: HostRuntime) {
 #[test]
 fn a_pair_with_a_stored_key_or_no_room_comes_back(rt: HostRuntime) {
     let mut map: Map<Marked, u8, 2> = Map::new();
-    assert!(rt; map.try_insert(Marked::new(1, 'x'), 10) == Ok(None));
-    let stored = map.try_insert(Marked::new(1, 'y'), 11).ok().flatten();
-    assert!(rt; stored.map(|(key, value)| (key.mark, value)) == Some(('y', 11)));
-    assert!(rt; map.try_insert(Marked::new(2, 'x'), 20) == Ok(None));
-    let refused = map.try_insert(Marked::new(3, 'z'), 30).err();
-    assert!(rt; refused.map(|(key, value)| (key.mark, value)) == Some(('z', 30)));
+    assert!(rt; map.try_insert(Marked::new(1, 'x'), 10).is_ok());
+    let stored = map.try_insert(Marked::new(1, 'y'), 11);
+    assert!(rt; matches!(stored, Err(InsertError::Occupied((Marked { mark: 'y', .. }, 11)))));
+    assert!(rt; map.try_insert(Marked::new(2, 'x'), 20).is_ok());
+    let refused = map.try_insert(Marked::new(3, 'z'), 30);
+    assert!(rt; matches!(refused, Err(InsertError::Full((Marked { mark: 'z', .. }, 30)))));
     assert!(rt; gives(map.keys().map(|key| key.mark), &['x', 'x']));
     assert!(rt; gives(map.values(), &[&10, &20]));
 }

@@ -11,7 +11,7 @@ mod sub;
 mod symmetric_difference;
 mod union;
 
-use micromap::{Overfull, Set, Text};
+use micromap::{InsertError, Overfull, Set, Text};
 use micromap_testing::{Counts, Digit, Id, Marked, counted_set, drops_all, gives, holds};
 use std::alloc::{AllocError, Global};
 
@@ -104,11 +104,11 @@ fn a_stored_item_stays_but_in_replace(rt: HostRuntime) {
 #[test]
 fn an_item_that_is_stored_or_has_no_room_comes_back(rt: HostRuntime) {
     let mut set: Set<Marked, 1> = Set::new();
-    assert!(rt; set.try_insert(Marked::new(1, 'x')) == Ok(None));
-    let stored = set.try_insert(Marked::new(1, 'y')).ok().flatten();
-    assert!(rt; stored.map(|item| item.mark) == Some('y'));
-    let refused = set.try_insert(Marked::new(2, 'z')).err();
-    assert!(rt; refused.map(|item| item.mark) == Some('z'));
+    assert!(rt; set.try_insert(Marked::new(1, 'x')).is_ok());
+    let stored = set.try_insert(Marked::new(1, 'y'));
+    assert!(rt; matches!(stored, Err(InsertError::Occupied(Marked { mark: 'y', .. }))));
+    let refused = set.try_insert(Marked::new(2, 'z'));
+    assert!(rt; matches!(refused, Err(InsertError::Full(Marked { mark: 'z', .. }))));
     assert!(rt; set.checked_insert(Marked::new(2, 'z')).is_none());
     assert!(rt; gives(set.iter().map(|item| item.mark), &['x']));
 }

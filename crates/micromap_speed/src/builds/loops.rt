@@ -1,7 +1,7 @@
 //! The loops that the calls replace, each in a function with the result of its call.
 use crate::inputs::{below, key_of, value_of};
 use crate::{CountMap, NumberMap, NumberSet};
-use micromap::{Map, Overfull, Set};
+use micromap::{InsertError, Map, Overfull, Set};
 
 pub fn map_from_all<const N: usize>(first: u64) -> Option<NumberMap<N>> {
     let mut map = Map::new();
@@ -81,7 +81,7 @@ pub fn set_from_all<const N: usize>(first: u64) -> Option<NumberSet<N>> {
     let mut set = Set::new();
     let mut all_fit = true;
     for item in keys!(N, first) {
-        if set.try_insert(item).is_err() {
+        if matches!(set.try_insert(item), Err(InsertError::Full(_))) {
             all_fit = false;
         }
     }
@@ -100,7 +100,7 @@ pub fn set_try_from_iter<const N: usize>(first: u64) -> Result<NumberSet<N>, Ove
     let mut set = Set::new();
     let mut at = 0usize;
     for item in keys!(N, first) {
-        if set.try_insert(item).is_err() {
+        if matches!(set.try_insert(item), Err(InsertError::Full(_))) {
             return Err(Overfull { at });
         }
         at = at.wrapping_add(1);
@@ -111,7 +111,7 @@ pub fn set_try_from_iter<const N: usize>(first: u64) -> Result<NumberSet<N>, Ove
 pub fn set_try_extend<const N: usize>(set: &mut NumberSet<N>, first: u64) -> Result<(), Overfull> {
     let mut at = 0usize;
     for item in keys!(N, first) {
-        if set.try_insert(item).is_err() {
+        if matches!(set.try_insert(item), Err(InsertError::Full(_))) {
             return Err(Overfull { at });
         }
         at = at.wrapping_add(1);
@@ -126,7 +126,7 @@ pub fn set_try_extend_from<const N: usize>(
     let mut all = set.copied();
     let mut at = 0usize;
     for item in other.iter() {
-        if all.try_insert(*item).is_err() {
+        if matches!(all.try_insert(*item), Err(InsertError::Full(_))) {
             return Err(Overfull { at });
         }
         at = at.wrapping_add(1);

@@ -4,7 +4,7 @@ ghost use Rattle.std.specs.Prelude.{◌≤◌};
 use super::{Built, loops};
 use crate::NumberSet;
 use crate::inputs::{key_of, odd};
-use micromap::Set;
+use micromap::{InsertError, Set};
 
 #[inline(never)]
 pub fn call_from_all<const N: usize>(salt: u64, rounds: u64) -> u64
@@ -41,7 +41,7 @@ pub fn in_place_from_all<const N: usize>(salt: u64, rounds: u64) -> u64
         let mut set = NumberSet::<N>::new();
         let mut all_fit = true;
         for item in keys!(N, first) {
-            if set.try_insert(item).is_err() {
+            if matches!(set.try_insert(item), Err(InsertError::Full(_))) {
                 all_fit = false;
             }
         }

@@ -3,7 +3,7 @@ ghost use Rattle.std.specs.Prelude.{◌≡◌, [], IfErr, IfOk, nat_eq};
 ghost use Rattle.std.specs.Vec.{vec_items};
 ghost use Rattle.micromap.specs.Build.{build, MisfitIn};
 
-use micromap::{Map, Overfull, Set};
+use micromap::{InsertError, Map, Overfull, Set};
 use micromap_testing::{Counted, Counts, debugs, displays, holds};
 use std::alloc::AllocError;
 
@@ -70,6 +70,17 @@ fn a_misfit_can_be_read(rt: HostRuntime) {
     assert!(rt; displays(rt.alloc(), &misfit, text));
     assert!(rt; debugs(rt.alloc(), &misfit, "Overfull { at: 3 }"));
     assert!(rt; misfit == Overfull { at: 3 });
+}
+
+#[test]
+fn an_error_of_an_insertion_can_be_read(rt: HostRuntime) {
+    let stored = InsertError::Occupied((1, 10));
+    assert!(rt; displays(rt.alloc(), &stored, "the key is stored already"));
+    assert!(rt; debugs(rt.alloc(), &stored, "Occupied((1, 10))"));
+    assert!(rt; stored != InsertError::Full((1, 10)));
+    let full = InsertError::Full(5);
+    assert!(rt; displays(rt.alloc(), &full, "the key is new, and there is no room for it"));
+    assert!(rt; debugs(rt.alloc(), &full, "Full(5)"));
 }
 
 #[test]

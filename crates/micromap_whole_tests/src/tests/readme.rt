@@ -1,5 +1,5 @@
 //! The code of the README, and the examples of doc comments.
-use micromap::{Map, Overfull, Set, Text};
+use micromap::{InsertError, Map, Overfull, Set, Text};
 use std::alloc::AllocError;
 
 #[test]
@@ -105,14 +105,14 @@ fn items_are_counted(rt: HostRuntime) {
 #[test]
 fn a_new_pair_or_item_is_inserted_or_comes_back(rt: HostRuntime) {
     let mut map: Map<u64, &str, 1> = Map::new();
-    assert_eq!(rt; map.try_insert(1, "foo"), Ok(None));
-    assert_eq!(rt; map.try_insert(1, "bar"), Ok(Some((1, "bar"))));
-    assert_eq!(rt; map.try_insert(2, "baz"), Err((2, "baz")));
+    assert_eq!(rt; map.try_insert(1, "foo"), Ok(()));
+    assert_eq!(rt; map.try_insert(1, "bar"), Err(InsertError::Occupied((1, "bar"))));
+    assert_eq!(rt; map.try_insert(2, "baz"), Err(InsertError::Full((2, "baz"))));
     assert_eq!(rt; map.get(&1), Some(&"foo"));
     let mut seen: Set<u8, 1> = Set::new();
-    assert_eq!(rt; seen.try_insert(1), Ok(None));
-    assert_eq!(rt; seen.try_insert(1), Ok(Some(1)));
-    assert_eq!(rt; seen.try_insert(2), Err(2));
+    assert_eq!(rt; seen.try_insert(1), Ok(()));
+    assert_eq!(rt; seen.try_insert(1), Err(InsertError::Occupied(1)));
+    assert_eq!(rt; seen.try_insert(2), Err(InsertError::Full(2)));
 }
 
 #[test]
