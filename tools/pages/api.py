@@ -13,10 +13,10 @@ OF_EACH = {
     "make": "new with_capacity Default",
     "look up": "get get_or get_key_value get_mut contains_key contains fits index index_mut Index IndexMut first last "
     "len is_empty capacity",
-    "look up by probe": "get_by get_key_value_by get_mut_by contains_key_by contains_by fits_by index_by index_mut_by "
+    "look up by probe": "get_by get_or_by get_key_value_by get_mut_by contains_key_by contains_by fits_by index_by index_mut_by "
     "remove_by remove_entry_by take_by",
     "insert": "checked_insert insert try_insert replace insert_key_value insert_unchecked try_extend try_extend_from",
-    "remove": "remove remove_entry take pop_first retain clear",
+    "remove": "remove remove_entry take pop_first pop_last retain clear",
     "update": "update_all update_disjoint",
     "iterate": "iter keys values into_keys into_values drain IntoIterator",
     "compare": "eq_with differs_at is_subset is_superset is_disjoint PartialEq",

@@ -68,6 +68,7 @@ slice_get xs i | the element at the index `i`, if any
 string_bytes s | the bytes of the text
 string_eq s t | `==` of `String`: the texts have the same bytes
 swap_key test xs x | the list with `x` in the place of the first element that passes the test
+take n xs | the first `n` elements of the list, or all if there are fewer
 TakesFirst shows s r t | `r` shows the first of the items `s`, and `t` are the others; it is `None` if there are none
 unwrap_or o d | the value, or `d` if there is none
 UnwrapsOrElse o P r | `r` is the value, or one of which `P` holds if there is none

@@ -5,7 +5,7 @@ use Rattle.std.proofs.Common.{drop-cons, ◌+◌, subst, not, true, false, ◌&&
 use Rattle.std.specs.Option.{ForSome, IfSome, MatchOption}
 use Rattle.std.specs.List.{find, list_all, remove, swap, refill}
 use Rattle.std.proofs.Math.ListN.{get_or-map}
-use Rattle.std.proofs.lemmas.List.{get_or-set_same, length-map, drop-map, drop-set-lt, map-set, map-append, take-map, take-set, length-set, take_at}
+use Rattle.std.proofs.lemmas.List.{append-nil, drop_all, get_or-set_same, length-map, drop-map, drop-set-lt, map-set, map-append, take-map, take-set, length-set, take_at}
 use Rattle.std.proofs.lemmas.Option.{get_or_from_slice_get, slice_get-get_or, slice_get_within}
 
 -- written back whole, a list of the same length is what it was written as
@@ -19,6 +19,11 @@ module _ {X : Type 0} where
       → remove (kept ++ x ∷ rest) (length kept) ≡ kept ++ rest
   remove_seam [] x rest = refl
   remove_seam (y ∷ kept) x rest = ap (λ l. y ∷ l) (remove_seam kept x rest)
+
+  -- without its last element, a list has those before it
+  pub remove_last : (xs : List X) (i : ℕ) → length xs ≤ suc i → remove xs i ≡ take i xs
+  remove_last xs i last = ap (λ l. take i xs ++ l) (drop_all (suc i) xs last)
+      ∙ append-nil (take i xs)
 
   -- what stood at the index says nothing of the rest
   pub remove-set : (xs : List X) (i : ℕ) (x : X) → remove (set xs i x) i ≡ remove xs i

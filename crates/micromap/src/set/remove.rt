@@ -1,5 +1,5 @@
 //! Removing an item.
-ghost use Rattle.std.specs.Prelude.{◌≡◌, drop, slice_get};
+ghost use Rattle.std.specs.Prelude.{◌≡◌, ◌-◌, drop, length, slice_get, take};
 ghost use Rattle.std.specs.Set.{is_member};
 ghost use Rattle.micromap.specs.Items.{AreItems, find_item, take_item};
 
@@ -40,5 +40,17 @@ impl<T: Eq + Drop, const N: usize> Set<T, N> {
         ensures content { AreItems T.eq N self.old self.new }
     {
         item_of(self.map.pop_first())
+    }
+
+    /// Removes the last item, and returns it, or `None` if the set is empty.
+    ///
+    /// The others stay where they are. Compares no item.
+    #[inline]
+    pub fn pop_last(&mut self) -> Option<T>
+        ensures answer { result ≡ slice_get self.old (length self.old - 1) }
+        ensures items { self.new ≡ take (length self.old - 1) self.old }
+        ensures content { AreItems T.eq N self.old self.new }
+    {
+        item_of(self.map.pop_last())
     }
 }

@@ -1,6 +1,6 @@
 //! The keyed calls by probe. Each call does what its plain form does at the one stored key that matches, or at a
 //! missing key if none matches.
-ghost use Rattle.std.specs.Prelude.{◌≡◌, Some, IsTrue, is_some};
+ghost use Rattle.std.specs.Prelude.{◌≡◌, Some, IsTrue, is_some, unwrap_or};
 ghost use Rattle.std.specs.Borrow.{sem};
 ghost use Rattle.std.specs.Map.{lookup, lookup_entry, remove_entry};
 ghost use Rattle.std.specs.Map.Iter.{deref_pair};
@@ -99,6 +99,16 @@ impl<K: Eq, V, const N: usize> Map<K, V, N> {
             Some(index) => self.value_at_mut(index),
             None => unreachable!(),
         }
+    }
+}
+
+impl<K: Eq, V: Copy, const N: usize> Map<K, V, N> {
+    /// Returns a copy of the value of the key that matches, or `default` if none does. Makes one scan.
+    #[inline]
+    pub fn get_or_by<P: Probe<K>>(&self, probe: &P, default: V) -> V
+        ensures { result ≡ unwrap_or (lookup (P.matches probe.now) self.now) default }
+    {
+        self.get_by(probe).copied().unwrap_or(default)
     }
 }
 

@@ -1,7 +1,7 @@
 //! Removing a pair.
 #![tactic(auto, using(crate::proofs::Opened::opened_map))]
 
-ghost use Rattle.std.specs.Prelude.{◌≡◌, drop, slice_get};
+ghost use Rattle.std.specs.Prelude.{◌≡◌, ◌-◌, drop, length, slice_get, take};
 ghost use Rattle.micromap_core.specs.Pairs.{AreContents, at, pair, take_out};
 
 use super::Map;
@@ -47,6 +47,21 @@ impl<K: Eq + Drop, V: Drop, const N: usize> Map<K, V, N> {
         match self.len() {
             0 => None,
             _ => Some(self.take_at(0)),
+        }
+    }
+
+    /// Removes the last pair, and returns it, or `None` if the map is empty.
+    ///
+    /// The others stay where they are. Compares no key.
+    #[inline]
+    pub fn pop_last(&mut self) -> Option<(K, V)>
+        ensures answer { result ≡ slice_get self.old (length self.old - 1) }
+        ensures pairs { self.new ≡ take (length self.old - 1) self.old }
+        ensures content { AreContents K.eq N self.old self.new }
+    {
+        match self.len() {
+            0 => None,
+            len => Some(self.take_at(len - 1)),
         }
     }
 }

@@ -262,6 +262,20 @@ fn the_first_pair_is_taken_out(rt: HostRuntime) {
 }
 
 #[test]
+fn the_last_pair_is_taken_out(rt: HostRuntime) {
+    let mut map = Map::from([(3, 30), (1, 10), (2, 20)]);
+    assert!(rt; map.pop_last() == Some((2, 20)));
+    assert!(rt; map.get(&2).is_none());
+    map.checked_insert(2, 22);
+    assert!(rt; map.keys().eq(&[3, 1, 2]));
+    assert!(rt; map.pop_last() == Some((2, 22)));
+    assert!(rt; map.pop_last() == Some((1, 10)));
+    assert!(rt; map.pop_last() == Some((3, 30)));
+    assert!(rt; map.pop_last().is_none());
+    assert!(rt; map.is_empty());
+}
+
+#[test]
 fn the_pairs_at_both_ends_are_read(rt: HostRuntime) {
     let mut map: Map<u8, u8, 3> = Map::new();
     assert!(rt; (map.first(), map.last()) == (None, None));
@@ -282,6 +296,8 @@ fn a_default_stands_for_a_missing_value(rt: HostRuntime) {
     map.checked_insert(Marked::new(1, 'x'), 10);
     assert!(rt; map.get_or(&Marked::new(1, 'y'), 9) == 10);
     assert!(rt; map.get_or(&Marked::new(2, 'x'), 9) == 9);
+    assert!(rt; map.get_or_by(&Id(1), 9) == 10);
+    assert!(rt; map.get_or_by(&Id(2), 9) == 9);
 }
 
 // Inserts a pair by each call that requires room, if there is some.

@@ -346,6 +346,18 @@ fn the_first_item_is_taken_out(rt: HostRuntime) {
 }
 
 #[test]
+fn the_last_item_is_taken_out(rt: HostRuntime) {
+    let mut set = Set::from([3, 1, 2]);
+    assert!(rt; set.pop_last() == Some(2));
+    assert!(rt; !set.contains(&2));
+    assert!(rt; set.iter().eq(&[3, 1]));
+    assert!(rt; set.pop_last() == Some(1));
+    assert!(rt; set.pop_last() == Some(3));
+    assert!(rt; set.pop_last().is_none());
+    assert!(rt; set.is_empty());
+}
+
+#[test]
 fn the_items_at_both_ends_are_read(rt: HostRuntime) {
     let mut set: Set<u8, 3> = Set::new();
     assert!(rt; (set.first(), set.last()) == (None, None));
