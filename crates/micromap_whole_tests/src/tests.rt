@@ -13,4 +13,5 @@ mod printing;
 mod readme;
 mod set;
 mod streams;
+mod uses;
 mod writers;

@@ -1,8 +1,0 @@
--- A name of the derived `==` of permissions, for clauses and invariants. The `proofs` file `PermissionLaws` has its laws.
-use Rattle.std.specs.Prelude.{Bool}
-use Rattle.micromap_uses.specs.contracts.permissions.PermissionPartialEq.TheImpl.{eq-value}
-use Rattle.micromap_uses.specs.declared.permissions.Permission.{Permission}
-
--- whether two permissions are equal
-abbrev pub permission_eq : Permission → Permission → Bool
-permission_eq = eq-value.it

@@ -1,0 +1,12 @@
+//! Tests of the small libraries of `micromap_uses`. Each of them has a module.
+
+mod attributes;
+mod frame;
+mod graph;
+mod headers;
+mod order;
+mod permissions;
+mod request;
+mod scopes;
+mod stock;
+mod votes;

@@ -1,0 +1,160 @@
+"""RECIPES.md: the proved callers of the crate `micromap_callers` by what one wants, each with its contract, body and proof."""
+import collections
+import glob
+import os
+import re
+
+from pages.examples import tactic
+from pages.sources import anchor, doc_of, read
+
+RECIPES, CRATE, WHOLE = "crates/micromap/RECIPES.md", "micromap_callers", "micromap_uses"
+WORDS = "Words and laws of their own"
+INTRO = """# Recipes
+
+A recipe is a small function over a map or a set, with a contract. Each is proved as it stands here. Take its block, and \
+put your own types and tests in the place of its numbers. What stops a check, as a lifetime, is in \
+[CALLING](CALLING.md#when-a-check-fails).
+
+- The line `tactic` is what a recipe is proved under. Write it as `#[..]` at your function, or as `#![..]` at the head of \
+your file.
+- The imports are those of the words in the clauses. [CALLING](CALLING.md#callers) has those of types.
+- A block `antt` is a proof by hand: an [invariant](PROVING.md#an-invariant) of a loop, or *answers* to single goals. The path \
+of its file is that of its function: `total` of `src/walks.rt` has `proofs/walks/total/Invariants.antt`. In it, `my_crate` \
+stands for your crate.
+- Many a contract says only what an `Ok`, a `Some` or a `true` means, and nothing of what is left after a refusal.
+
+The files are in `crates/micromap_callers` of micromap's own repository. Its `micromap_uses` has whole examples, with \
+definitions and laws of their own:
+
+"""
+# An item at the margin, with the comments and the attributes above it.
+BLOCK = r"(?:.*[;}]$|(?s:.*?)^\}$)"
+ITEM = rf"^((?:(?://|#\[).*\n)*)((?:pub(?:\(\w+\))? )?(?:(?:(?:const )?fn|struct|enum|impl)\b{BLOCK}|(?:type|const)\b(?s:.*?);$))"
+NAME = r"(?:pub(?:\(\w+\))? )?(?:impl(?:<.*?>)? (?:.* for )?|(?:const )?fn |struct |enum |type |const )(\w+)"
+Item = collections.namedtuple("Item", "name above code")
+Recipe = collections.namedtuple("Recipe", "name path heading rest items")
+
+
+def sentences(comment):
+    """The first sentence of a comment without its full stop, and the rest of the comment."""
+    first, rest = re.match(r"((?:`[^`]*`|[^`])*?)(?:\.(?:\s+|$)(.*))?$", comment.strip(), re.S).groups("")
+    return " ".join(first.split()), rest.strip()
+
+
+def title_of(path):
+    """The first sentence of a file's comment, and the sentences after it."""
+    return sentences(re.sub(r"^//! ?", "", re.match(r"(?://!.*\n)*", read(path))[0], flags=re.M))
+
+
+def with_helpers(item, items):
+    """An item with the private functions and the types of its file that it names, and those that they name, in order."""
+    found, left = [], [item]
+    while left:
+        found.append(left.pop())
+        helpers = (it for it in items if not it.code.startswith("pub fn ") and it not in found and it not in left)
+        left += [it for it in helpers if re.search(rf"\b{it.name}\b", found[-1].code)]
+    return sorted(found, key=items.index)
+
+
+def recipes_of(path, wrong):
+    """The recipes of a file. What is amiss in it is added to `wrong`."""
+    text, folder = read(path), path.replace("/src/", "/proofs/").removesuffix(".rt")
+    items = [Item(re.match(NAME, code)[1], above, code) for above, code in re.findall(ITEM, text, re.M)]
+    proofs = {it: it.split("/")[-2].lstrip("+") for it in glob.glob(f"{folder}/**/*.antt", recursive=True)}
+    wrong += [f"{it} is of no function of {path}" for it, name in proofs.items() if not re.search(rf"\bfn {name}\b", text)]
+    wrong += [] if title_of(path)[0] else [f"{path} has no title"]
+    for item in (it for it in items if it.code.startswith("pub fn ")):
+        heading, rest = sentences(doc_of(item.above))
+        wrong += [] if heading else [f"{path}: {item.name} has no comment that says what one wants"]
+        above = re.sub(r"^///.*\n", "", item.above, flags=re.M)
+        all_items = [Item(it.name, above, it.code) if it is item else it for it in with_helpers(item, items)]
+        yield Recipe(item.name, path, heading, rest, all_items)
+
+
+def is_named(name, text):
+    """Whether a text has a word, or each part of an operator."""
+    parts = [it for it in name.split("◌") if it]
+    if parts == [name]:  # a word, or `[]`
+        return bool(re.search(rf"(?<![\w.']){re.escape(name)}(?![\w'.])", text))
+    return all(f" {it} " in f" {text} " for it in parts)
+
+
+def imports(recipe):
+    """The lines `ghost use` of the file, with the words that the clauses of a recipe name."""
+    code = "\n".join(it.code for it in recipe.items)
+    clauses = "\n".join(re.findall(r"\b(?:ensures|requires|ghost)\b(?:(?!\n *(?:ensures|requires|ghost|fn|\{)).)*", code, re.S))
+    for path, names in re.findall(r"^ghost use ([\w.]+)\.\{(.*)\};$", read(recipe.path), re.M):
+        used = [it for it in names.split(", ") if is_named(it, clauses)]
+        if used:
+            yield f"ghost use {path}.{{{', '.join(used)}}};"
+
+
+def proofs_of(recipe):
+    """The proof files of a recipe and of its helpers. A recursive function's folder has a `+` before its name."""
+    folder = recipe.path.replace("/src/", "/proofs/").removesuffix(".rt")
+    names = {name for it in recipe.items for name in re.findall(r"^ *(?:pub(?:\(\w+\))? )?fn (\w+)", it.code, re.M)}
+    found = sorted(glob.glob(f"{folder}/**/*.antt", recursive=True))
+    return [it for it in found if it.split("/")[-2].lstrip("+") in names]
+
+
+def own(texts):
+    """The files of specs/, and of laws in proofs/, that some texts name, and those that these name."""
+    named = re.findall(rf"(?:Rattle\.{CRATE}\.|\bcrate::)(specs|proofs)(?:\.|::)(\w+)(?:\.\{{|::)", "\n".join(texts))
+    found = {f"crates/{CRATE}/{folder}/{name}.antt" for folder, name in named}
+    return found | own(map(read, found)) if found else found
+
+
+def calls(recipe, known):
+    """The recipes that another one calls, of its own file or of one that its file imports."""
+    code, text = "\n".join(it.code for it in recipe.items), read(recipe.path)
+    for it in known:
+        if it.name != recipe.name and re.search(rf"(?<![\w.]){it.name}(?:::<[^;]*?>)?\(", code):
+            imported = rf"^use (?:super|crate)::{os.path.basename(it.path)[:-3]}::(?:{it.name};|\{{[^}}]*\b{it.name}\b)"
+            if it.path == recipe.path or re.search(imported, text, re.M):
+                yield it
+
+
+def block(language, text):
+    """A block, whose paths are those in a crate of the user's."""
+    return f"```{language}\n{text.strip()}\n```".replace(f"Rattle.{CRATE}.", "Rattle.my_crate.")
+
+
+def linked(title):
+    return f"[{title}](#{anchor(title)})"
+
+
+def own_title(path):
+    return f"`{path.removeprefix(f'crates/{CRATE}/')}`"
+
+
+def section(recipe, known):
+    """A recipe with its text, the line under which it is proved, its block and its proofs; and the files of its own words."""
+    code, proofs = "\n\n".join(it.above + it.code for it in recipe.items), proofs_of(recipe)
+    inherits = any("fn " in it.code and "tactic(" not in it.above for it in recipe.items)
+    line = f"Under `{tactic(recipe.path.removeprefix('crates/'))}`:" * inherits
+    words = own([*imports(recipe), code, line, *map(read, proofs)])
+    needs = [f"`{it.name}` is in {linked(it.heading)}." for it in calls(recipe, known)]
+    needs += [f"{linked(own_title(it))} has its own words." for it in sorted(words)]
+    source = block("rust", "\n".join([*imports(recipe), "", code]))
+    quoted = [f"In {own_title(it)}:\n\n{block('antt', read(it))}" for it in proofs]
+    return "\n\n".join(filter(None, [f"### {recipe.heading}", recipe.rest, " ".join(needs), line, source, *quoted])), words
+
+
+def recipes(wrong):
+    """The page. What is amiss is added to `wrong`."""
+    files = [f"crates/{CRATE}/src/{it}.rt" for it in re.findall(r"^pub mod (\w+);", read(f"crates/{CRATE}/src/lib.rt"), re.M)]
+    found = {path: [*recipes_of(path, wrong)] for path in files}
+    known, rows, sections, words = [it for those in found.values() for it in those], [], [], set()
+    for path, those in found.items():
+        title, rest = title_of(path)
+        rows.append(f"| {linked(title)} | " + "; ".join(linked(it.heading).replace("|", "\\|") for it in those) + " |")
+        made = [section(it, known) for it in those]
+        sections += ["\n\n".join(filter(None, [f"## {title}", rest])), *(text for text, _ in made)]
+        words = words.union(*(files for _, files in made))
+    times = collections.Counter(map(anchor, [*(title_of(it)[0] for it in found), *(it.heading for it in known), WORDS]))
+    wrong += [f"{RECIPES}: {times[it]} headings have the anchor {it}" for it in times if times[it] > 1]
+    uses = sorted(it for it in glob.glob(f"crates/{WHOLE}/src/*.rt") if not it.endswith("/lib.rt"))
+    listed = "\n".join(f"- `{os.path.basename(it)}`: {title_of(it)[0]}" for it in uses)
+    ends = [f"### {own_title(it)}\n\n{block('antt', read(it))}" for it in sorted(words, key=lambda it: ("/specs/" not in it, it))]
+    table = "| Subject | Recipes |\n|---|---|\n" + "\n".join(rows)
+    return "\n\n".join([INTRO.strip(), listed, table, *sections, *([f"## {WORDS}", *ends] if ends else [])]) + "\n"
