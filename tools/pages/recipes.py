@@ -11,20 +11,17 @@ RECIPES, CRATE, WHOLE = "crates/micromap/RECIPES.md", "micromap_callers", "micro
 WORDS = "Words and laws of their own"
 INTRO = """# Recipes
 
-A recipe is a small function over a map or a set, with a contract. Each is proved as it stands here. Take its block, and \
-put your own types and tests in the place of its numbers. What stops a check, as a lifetime, is in \
-[CALLING](CALLING.md#when-a-check-fails).
+A recipe is a small function over a map or a set, with a contract. Each is proved as it stands here. Take its block, and put
+your own types and tests in the place of its numbers. [CALLING](CALLING.md#when-a-check-fails) has what to do when a check fails.
 
-- The line `tactic` is what a recipe is proved under. Write it as `#[..]` at your function, or as `#![..]` at the head of \
-your file.
+- Write the line `tactic` as `#[..]` at your function, or as `#![..]` at the head of your file.
 - The imports are those of the words in the clauses. [CALLING](CALLING.md#callers) has those of types.
-- A block `antt` is a proof by hand: an [invariant](PROVING.md#an-invariant) of a loop, or *answers* to single goals. The path \
-of its file is that of its function: `total` of `src/walks.rt` has `proofs/walks/total/Invariants.antt`. In it, `my_crate` \
-stands for your crate.
+- A block `antt` is a proof by hand: an [invariant](PROVING.md#an-invariant) of a loop, or *answers* to single goals. Its file has
+the path of its function: that of `total` of `src/walks.rt` is `proofs/walks/total/Invariants.antt`. `my_crate` stands for your crate.
 - Many a contract says only what an `Ok`, a `Some` or a `true` means, and nothing of what is left after a refusal.
 
-The files are in `crates/micromap_callers` of micromap's own repository. Its `micromap_uses` has whole examples, with \
-definitions and laws of their own:
+The files are in `crates/micromap_callers` of micromap's own repository. Its `micromap_uses` has whole examples, with definitions
+and laws of their own:
 
 """
 # An item at the margin, with the comments and the attributes above it.
@@ -100,18 +97,19 @@ def proofs_of(recipe):
 def own(texts):
     """The files of specs/, and of laws in proofs/, that some texts name, and those that these name."""
     named = re.findall(rf"(?:Rattle\.{CRATE}\.|\bcrate::)(specs|proofs)(?:\.|::)(\w+)(?:\.\{{|::)", "\n".join(texts))
-    found = {f"crates/{CRATE}/{folder}/{name}.antt" for folder, name in named}
+    found = {it for it in (f"crates/{CRATE}/{folder}/{name}.antt" for folder, name in named) if os.path.exists(it)}
     return found | own(map(read, found)) if found else found
 
 
-def calls(recipe, known):
-    """The recipes that another one calls, of its own file or of one that its file imports."""
+def needed(recipe, known):
+    """The recipes that another one calls, of its own file or of one that its file imports, and those that its comment names."""
     code, text = "\n".join(it.code for it in recipe.items), read(recipe.path)
-    for it in known:
-        if it.name != recipe.name and re.search(rf"(?<![\w.]){it.name}(?:::<[^;]*?>)?\(", code):
-            imported = rf"^use (?:super|crate)::{os.path.basename(it.path)[:-3]}::(?:{it.name};|\{{[^}}]*\b{it.name}\b)"
-            if it.path == recipe.path or re.search(imported, text, re.M):
-                yield it
+    for it in (it for it in known if it.name != recipe.name):
+        imported = rf"^use (?:super|crate)::{os.path.basename(it.path)[:-3]}::(?:{it.name};|\{{[^}}]*\b{it.name}\b)"
+        is_called = re.search(rf"(?<![\w.]){it.name}(?:::<[^;]*?>)?\(", code)
+        is_near = it.path == recipe.path or is_called and re.search(imported, text, re.M)
+        if is_called and is_near or f" in `{it.name}`" in " ".join(recipe.rest.split()):
+            yield it
 
 
 def block(language, text):
@@ -133,8 +131,8 @@ def section(recipe, known):
     inherits = any("fn " in it.code and "tactic(" not in it.above for it in recipe.items)
     line = f"Under `{tactic(recipe.path.removeprefix('crates/'))}`:" * inherits
     words = own([*imports(recipe), code, line, *map(read, proofs)])
-    needs = [f"`{it.name}` is in {linked(it.heading)}." for it in calls(recipe, known)]
-    needs += [f"{linked(own_title(it))} has its own words." for it in sorted(words)]
+    needs = [f"`{it.name}`: {linked(it.heading)}." for it in needed(recipe, known)]
+    needs += [f"Its own words: {', '.join(linked(own_title(it)) for it in sorted(words))}."] if words else []
     source = block("rust", "\n".join([*imports(recipe), "", code]))
     quoted = [f"In {own_title(it)}:\n\n{block('antt', read(it))}" for it in proofs]
     return "\n\n".join(filter(None, [f"### {recipe.heading}", recipe.rest, " ".join(needs), line, source, *quoted])), words

@@ -24,4 +24,4 @@ impl<P> fmt::Display for InsertError<P> {
     }
 }
 
-impl<P: fmt::Debug> Error for InsertError<P> {}
+impl<P: fmt::Debug + Drop> Error for InsertError<P> {}
