@@ -122,6 +122,15 @@ fn takes<const N: usize>(map: &mut Map<String, i32, N>, name: &str, value: i32) 
 }
 
 #[test]
+fn a_text_fits_where_it_is_a_key_or_there_is_room(rt: HostRuntime) -> Result<(), AllocError> {
+    let map = named::<1>(rt.alloc(), &[("one", 1)])?;
+    assert!(rt; map.fits_by(&Text("one")));
+    assert!(rt; !map.fits_by(&Text("two")));
+    assert!(rt; Map::<String, i32, 1>::new().fits_by(&Text("two")));
+    Ok(())
+}
+
+#[test]
 fn texts_find_their_keys(rt: HostRuntime) -> Result<(), AllocError> {
     let mut map = named::<10>(rt.alloc(), &[("one", 1), ("two", 3), ("three", 5)])?;
     write(&mut map, "two", 7);

@@ -142,6 +142,29 @@ fn texts_find_their_items(rt: HostRuntime) -> Result<(), AllocError> {
     Ok(())
 }
 
+// Puts a copy of a text into a set if it fits, and returns whether it does.
+fn put_copy<const N: usize>(
+    alloc: Global,
+    set: &mut Set<String, N>,
+    text: &str,
+) -> Result<bool, AllocError> {
+    if !set.fits_by(&Text(text)) {
+        return Ok(false);
+    }
+    set.checked_insert(String::from_str(alloc, text)?);
+    Ok(true)
+}
+
+#[test]
+fn a_word_is_copied_if_it_fits(rt: HostRuntime) -> Result<(), AllocError> {
+    let mut words: Set<String, 1> = Set::new();
+    assert!(rt; put_copy(rt.alloc(), &mut words, "a")?);
+    assert!(rt; put_copy(rt.alloc(), &mut words, "a")?);
+    assert!(rt; !put_copy(rt.alloc(), &mut words, "b")?);
+    assert!(rt; words.len() == 1 && words.contains_by(&Text("a")));
+    Ok(())
+}
+
 #[test]
 fn a_probe_finds_the_stored_item_or_leaves_the_set(rt: HostRuntime) {
     let mut set: Set<Marked, 2> = Set::new();
