@@ -9,6 +9,7 @@ from pages.sources import anchor, doc_of, read
 
 RECIPES, CRATE, WHOLE = "crates/micromap/RECIPES.md", "micromap_callers", "micromap_uses"
 WORDS = "Words and laws of their own"
+LISTED = "A file of `specs/` is listed in `specs/Lib.antt`, as `pub mod Totals`, and one of laws in `proofs/Lib.antt`."
 INTRO = """# Recipes
 
 A recipe is a small function over a map or a set, with a contract. Each is proved as it stands here. Take its block, and put
@@ -55,10 +56,7 @@ def with_helpers(item, items):
 
 def recipes_of(path, wrong):
     """The recipes of a file. What is amiss in it is added to `wrong`."""
-    text, folder = read(path), path.replace("/src/", "/proofs/").removesuffix(".rt")
-    items = [Item(re.match(NAME, code)[1], above, code) for above, code in re.findall(ITEM, text, re.M)]
-    proofs = {it: it.split("/")[-2].lstrip("+") for it in glob.glob(f"{folder}/**/*.antt", recursive=True)}
-    wrong += [f"{it} is of no function of {path}" for it, name in proofs.items() if not re.search(rf"\bfn {name}\b", text)]
+    items = [Item(re.match(NAME, code)[1], above, code) for above, code in re.findall(ITEM, read(path), re.M)]
     wrong += [] if title_of(path)[0] else [f"{path} has no title"]
     for item in (it for it in items if it.code.startswith("pub fn ")):
         heading, rest = sentences(doc_of(item.above))
@@ -142,12 +140,15 @@ def recipes(wrong):
     """The page. What is amiss is added to `wrong`."""
     files = [f"crates/{CRATE}/src/{it}.rt" for it in re.findall(r"^pub mod (\w+);", read(f"crates/{CRATE}/src/lib.rt"), re.M)]
     found = {path: [*recipes_of(path, wrong)] for path in files}
+    for it in sorted(glob.glob(f"crates/{CRATE}/proofs/*/**/*.antt", recursive=True)):
+        text = "".join(read(path) for path in files if path.endswith(f"/{it.split('/')[3]}.rt"))
+        wrong += [] if re.search(rf"\bfn {it.split('/')[-2].lstrip('+')}\b", text) else [f"{it} is of no function"]
     known, rows, sections, words = [it for those in found.values() for it in those], [], [], set()
     for path, those in found.items():
         title, rest = title_of(path)
         rows.append(f"| {linked(title)} | " + "; ".join(linked(it.heading).replace("|", "\\|") for it in those) + " |")
         made = [section(it, known) for it in those]
-        sections += ["\n\n".join(filter(None, [f"## {title}", rest])), *(text for text, _ in made)]
+        sections += [f"## {title}\n\nIn `{os.path.basename(path)}`. {rest}".strip(), *(text for text, _ in made)]
         words = words.union(*(files for _, files in made))
     times = collections.Counter(map(anchor, [*(title_of(it)[0] for it in found), *(it.heading for it in known), WORDS]))
     wrong += [f"{RECIPES}: {times[it]} headings have the anchor {it}" for it in times if times[it] > 1]
@@ -155,4 +156,4 @@ def recipes(wrong):
     listed = "\n".join(f"- `{os.path.basename(it)}`: {title_of(it)[0]}" for it in uses)
     ends = [f"### {own_title(it)}\n\n{block('antt', read(it))}" for it in sorted(words, key=lambda it: ("/specs/" not in it, it))]
     table = "| Subject | Recipes |\n|---|---|\n" + "\n".join(rows)
-    return "\n\n".join([INTRO.strip(), listed, table, *sections, *([f"## {WORDS}", *ends] if ends else [])]) + "\n"
+    return "\n\n".join([INTRO.strip(), listed, table, *sections, *([f"## {WORDS}", LISTED, *ends] if ends else [])]) + "\n"
