@@ -1,10 +1,12 @@
 -- The clones of a map's first pairs have pairwise unequal keys.
 use Rattle.std.proofs.Common.{◌≡◌, ◌<◌, ◌≤◌, ◌+◌, ℕ, zero, suc, Bool, false, All, List, [], ◌∷◌, ◌++◌, length, IsTrue}
-use Rattle.std.proofs.Common.{sym, subst, ◌∙◌, arith, slice_get, Some, take, length-take-le, take_all}
+use Rattle.std.proofs.Common.{Result, Ok, Err, IsOk, IfOk, sym, subst, ◌∙◌, arith, slice_get, Some, take, length-take-le, take_all}
 use Rattle.std.specs.Cmp.{IsEquivalence}
 use Rattle.std.specs.List.{AllByRecursion, AllZip, IsDistinct}
 use Rattle.std.specs.Map.{keys_of}
 use Rattle.std.specs.Set.{ClonesAreEqual}
+use Rattle.std.specs.Result.{MatchResult}
+use Rattle.std.proofs.lemmas.Bool.{false≢true}
 use Rattle.std.proofs.lemmas.List.Elements.{All-get_or, all_zip_more, length_all_zip}
 use Rattle.std.proofs.lemmas.Option.{get_or_from_slice_get, slice_get_within}
 use Rattle.micromap_core.specs.Clones.{IsPairClone}
@@ -15,6 +17,28 @@ pub all_at : {X : Type 0} (P : X → Type 0) (xs : List X) (i : ℕ) (x : X) →
     → All P xs → P x
 all_at P xs i x is all = subst P (get_or_from_slice_get xs i x x is)
     (All-get_or P xs i x (slice_get_within xs i x is) all)
+
+-- a clone that is equal to its key
+abbrev pub IsEqualClone : {K : Type 0} → (K → K → Bool) → (K → K → Type 0) → K → K → Type 0
+IsEqualClone eq C k q = C k q × IsTrue (eq k q)
+
+-- pairs with such keys are clones
+pub from_equal : {K V : Type 0} (eq : K → K → Bool) (C : K → K → Type 0) (D : V → V → Type 0)
+    (ps qs : List (K × V)) → AllZip (IsPairClone (IsEqualClone eq C) D) ps qs
+    → AllZip (IsPairClone C D) ps qs
+from_equal eq C D [] [] clones = tt
+from_equal eq C D [] (q ∷ qs) clones = absurd clones
+from_equal eq C D (p ∷ ps) [] clones = absurd clones
+from_equal eq C D (p ∷ ps) (q ∷ qs) clones =
+    ((clones.0.0.0, clones.0.1), from_equal eq C D ps qs clones.1)
+
+-- what a call says of its `Ok` and its `Err`, by the case
+pub cloned_cases : {X E S T I J : Type 0} (P Q R : X → Type 0) (r : Result X E)
+    → (S → T → IfOk r P) → IfOk r Q → IfOk r R → (I → J → IsOk r)
+    → MatchResult r (λ x. (S → T → P x) × Q x × R x) (λ _. ¬ (I × J))
+cloned_cases P Q R (Ok x) same clones content sure = (same, clones, content)
+cloned_cases P Q R (Err e) same clones content sure =
+    λ both. absurd (false≢true (sure both.0 both.1))
 
 module _ {X : Type 0} (C : X → X → Type 0) (xs ys : List X) (i : ℕ)
     (clones : AllZip C (take i xs) ys) where

@@ -3,6 +3,7 @@ pub mod BuildLemmas
 pub mod CloneLemmas
 pub mod SlotsLemmas
 pub mod ClosureLemmas
+pub mod ConvertedLemmas
 pub mod CountLemmas
 pub mod DistinctLemmas
 pub mod EntryLemmas

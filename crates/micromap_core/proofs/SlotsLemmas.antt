@@ -2,10 +2,12 @@
 -- the end are for `using` at the calls of both.
 use Rattle.std.proofs.Common.{◌≡◌, ℕ, ◌<◌, List, [], ◌∷◌, ◌++◌, length, get_or, set, take, map, Option, Some, None}
 use Rattle.std.proofs.Common.{is_some, slice_get, ap, sym, ◌∙◌, zero, suc, slice_set, refl, arith, remove, swap, zip}
-use Rattle.std.proofs.Common.{option_map}
+use Rattle.std.proofs.Common.{option_map, ◌≤◌, append-nil, append_assoc, length-append, subst}
+use Rattle.std.specs.List.{AllZip}
 use Rattle.std.proofs.lemmas.Bool.{false≢true}
 use Rattle.std.proofs.lemmas.Option.{slice_get-get_or}
-use Rattle.std.proofs.lemmas.List.{get_or-map, map-set, map-append, take-map}
+use Rattle.std.proofs.lemmas.List.{get_or-map, length-map, map-set, map-append, take-map}
+use Rattle.std.proofs.lemmas.Slice.Zip.{all_zipped_more, AllZip-long}
 use Rattle.std.proofs.lemmas.List.Edits.{length-swap}
 use Rattle.micromap_core.proofs.Lists.{map-remove, map-swap}
 use Rattle.micromap_walk.specs.Filled.{items_of, AreFilled}
@@ -48,6 +50,61 @@ module _ {X : Type 0} (slots : List (Option X)) (filled : AreFilled slots) where
   push_filled x = ap (λ s. s ++ Some x ∷ []) filled
       ∙ sym (map-append Some (items_of slots) (x ∷ []))
 
+-- the items that are converted so far, what they are converted into, and the slots that are left of all
+pub record Converted {T U : Type 0} (R : T → U → Type 0) (slots : List (Option U))
+    (left whole : List (Option T)) : Type 0 where
+  pub done : List T
+  pub made : List U
+  pub filled : slots ≡ map Some made
+  pub parts : map Some done ++ left ≡ whole
+  pub given : AllZip R done made
+
+module _ {T U : Type 0} (R : T → U → Type 0) where
+  pub converted_none : (whole : List (Option T)) → Converted R [] whole whole
+  converted_none whole = record { done = []; made = []; filled = refl; parts = refl; given = tt }
+
+  -- one more
+  pub converted_next : (slots : List (Option U)) (left rest whole : List (Option T))
+      (slot : Option T) (x : T) (y : U) → Converted R slots left whole → left ≡ slot ∷ rest
+      → slot ≡ Some x → R x y → Converted R (slots ++ Some y ∷ []) rest whole
+  converted_next slots left rest whole slot x y so_far next some gives = record {
+    done = so_far.done ++ x ∷ [];
+    made = so_far.made ++ y ∷ [];
+    filled = ap (λ l. l ++ Some y ∷ []) so_far.filled ∙ sym (map-append Some so_far.made (y ∷ []));
+    parts = ap (λ l. l ++ rest) (map-append Some so_far.done (x ∷ []))
+        ∙ append_assoc (map Some so_far.done) (Some x ∷ []) rest
+        ∙ ap (λ s. map Some so_far.done ++ s ∷ rest) (sym some)
+        ∙ ap (λ l. map Some so_far.done ++ l) (sym next) ∙ so_far.parts;
+    given = all_zipped_more R so_far.done so_far.made x y so_far.given gives;
+  }
+
+  -- there is room while one is left
+  pub converted_room : (slots : List (Option U)) (left rest whole : List (Option T))
+      (slot : Option T) (room : ℕ) → Converted R slots left whole → left ≡ slot ∷ rest
+      → length whole ≤ room → length slots < room
+  converted_room slots left rest whole slot room so_far next fits =
+      omega (
+        arith,
+        ap length so_far.filled,
+        length-map so_far.made Some,
+        AllZip-long R so_far.done so_far.made so_far.given,
+        length-map so_far.done Some,
+        length-append (map Some so_far.done) left,
+        ap length so_far.parts,
+        ap length next,
+        fits,
+      )
+
+  -- once none is left, all are converted
+  pub converted_all : (slots : List (Option U)) (left whole : List (Option T))
+      → Converted R slots left whole → left ≡ [] → AllZip R (items_of whole) (items_of slots)
+  converted_all slots left whole so_far none =
+      let all : map Some so_far.done ≡ whole = sym (append-nil (map Some so_far.done))
+      ∙ ap (λ l. map Some so_far.done ++ l) (sym none) ∙ so_far.parts in
+      subst (λ l. AllZip R l (items_of slots)) (sym (items_of-map so_far.done) ∙ ap items_of all)
+      (subst (AllZip R so_far.done) (sym (items_of-map so_far.made) ∙ ap items_of (sym so_far.filled))
+      so_far.given)
+
 -- filled slots with equally many items are as many
 pub equal_slots : {X Y : Type 0} (xs : List (Option X)) (ys : List (Option Y)) → AreFilled xs
     → AreFilled ys → length (items_of xs) ≡ length (items_of ys) → length xs ≡ length ys
@@ -76,7 +133,7 @@ module _ {K V : Type 0} where
   set_zip (a ∷ ks) (b ∷ vs) (suc i) k v same =
       ap (λ l. (a, b) ∷ l) (set_zip ks vs i k v (omega (arith, same)))
 
-  zip_columns : (pairs : List (K × V)) → zip (keys_of pairs) (values_of pairs) ≡ pairs
+  pub zip_columns : (pairs : List (K × V)) → zip (keys_of pairs) (values_of pairs) ≡ pairs
   zip_columns [] = refl
   zip_columns (p ∷ pairs) = ap (λ l. p ∷ l) (zip_columns pairs)
 

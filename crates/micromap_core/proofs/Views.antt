@@ -51,6 +51,17 @@ module _ {X Y : Type 0} (f : X → Y) where
     distinct-map [] distinct = tt
     distinct-map (x ∷ xs) distinct = (apart-map x xs distinct.0, distinct-map xs distinct.1)
 
+    apart-from_map : (x : X) (xs : List X) → AllByRecursion (λ y. eq (f x) y ≡ false) (map f xs)
+        → AllByRecursion (λ y. on f eq x y ≡ false) xs
+    apart-from_map x [] apart = tt
+    apart-from_map x (y ∷ xs) apart = (apart.0, apart-from_map x xs apart.1)
+
+    pub distinct-from_map : (xs : List X) → IsDistinct eq (map f xs) → IsDistinct (on f eq) xs
+    unfolding IsDistinct
+    distinct-from_map [] distinct = tt
+    distinct-from_map (x ∷ xs) distinct =
+        (apart-from_map x xs distinct.0, distinct-from_map xs distinct.1)
+
     within-map : (a b : List X)
         → list_all (λ x. list_any (eq x) (map f b))
         (map f a) ≡ list_all (λ x. list_any (on f eq x) b) a

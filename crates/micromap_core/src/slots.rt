@@ -150,6 +150,7 @@ impl<T: Drop, const N: usize> Slots<T, N> {
     pub(crate) fn converted<U: From<T> + Drop>(self) -> Slots<U, N>
         ensures { AllZip U.from_gives self result }
     {
+        let _len = self.len();
         let mut filled = self.into_array_vec();
         let mut slots = ArrayVec::new();
         for slot in filled.drain(..) {

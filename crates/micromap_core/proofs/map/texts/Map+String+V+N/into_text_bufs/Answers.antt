@@ -1,0 +1,15 @@
+use Rattle.std.proofs.Common.{◌∙◌, ap, subst, string_bytes, bytes_eq}
+use Rattle.micromap_core.specs.Pairs.{IsUnique}
+use Rattle.micromap_core.specs.Texts.{key_texts}
+use Rattle.micromap_core.proofs.ConvertedLemmas.{into_texts}
+use Rattle.micromap_core.proofs.laws.TextViews.{unique_texts}
+use Rattle.micromap_core.proofs.map.texts.Map+String+V+N.into_text_bufs.Goals as goal
+
+pub invariant_of-map : goal.invariant_of-map
+invariant_of-map g c = rw (into_texts string_bytes _ _ c.converted_keys.ensures.keys c.converted_keys.ensures.values)
+    (unique_texts string_bytes (λ v. v) _ (rw c.self.view_is c.len-content.ensures.content.unique))
+
+pub returns-clause-answer : goal.returns-clause-answer
+returns-clause-answer g c =
+    into_texts string_bytes _ _ c.converted_keys.ensures.keys c.converted_keys.ensures.values
+    ∙ ap key_texts c.self.view_is
