@@ -95,7 +95,17 @@ impl<K: Eq + Drop, V: Drop, const N: usize> Map<K, V, N> {
         ensures pairs { self.new ≡ put_if_fits K.eq N self.old key value }
         ensures content { AreContents K.eq N self.old self.new }
     {
-        self.checked_insert(key, value).is_some()
+        match self.index_of(&key) {
+            Some(index) => {
+                self.replace_value_at(index, value);
+                true
+            }
+            None if self.has_room() => {
+                self.push_pair(key, value);
+                true
+            }
+            None => false,
+        }
     }
 
     /// Inserts the pair if its key is new and there is room. Returns `Err(Occupied((key, value)))` if an equal key is
@@ -107,8 +117,10 @@ impl<K: Eq + Drop, V: Drop, const N: usize> Map<K, V, N> {
     /// ```
     /// let mut map: Map<u64, &str, 1> = Map::new();
     /// assert_eq!(rt; map.try_insert(1, "foo"), Ok(()));
-    /// assert_eq!(rt; map.try_insert(1, "bar"), Err(InsertError::Occupied((1, "bar"))));
-    /// assert_eq!(rt; map.try_insert(2, "baz"), Err(InsertError::Full((2, "baz"))));
+    /// let stored = map.try_insert(1, "bar");
+    /// assert_eq!(rt; stored, Err(InsertError::Occupied((1, "bar"))));
+    /// let refused = map.try_insert(2, "baz");
+    /// assert_eq!(rt; refused, Err(InsertError::Full((2, "baz"))));
     /// assert_eq!(rt; map.get(&1), Some(&"foo"));
     /// ```
     #[inline]

@@ -79,7 +79,13 @@ fn an_error_of_an_insertion_can_be_read(rt: HostRuntime) {
     assert!(rt; debugs(rt.alloc(), &stored, "Occupied((1, 10))"));
     assert!(rt; stored != InsertError::Full((1, 10)));
     let full = InsertError::Full(5);
-    assert!(rt; displays(rt.alloc(), &full, "the key is new, and there is no room for it"));
+    assert!(rt;
+        displays(
+            rt.alloc(),
+            &full,
+            "the key is new, and there is no room for it"
+        )
+    );
     assert!(rt; debugs(rt.alloc(), &full, "Full(5)"));
 }
 

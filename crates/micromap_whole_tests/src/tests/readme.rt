@@ -106,8 +106,10 @@ fn items_are_counted(rt: HostRuntime) {
 fn a_new_pair_or_item_is_inserted_or_comes_back(rt: HostRuntime) {
     let mut map: Map<u64, &str, 1> = Map::new();
     assert_eq!(rt; map.try_insert(1, "foo"), Ok(()));
-    assert_eq!(rt; map.try_insert(1, "bar"), Err(InsertError::Occupied((1, "bar"))));
-    assert_eq!(rt; map.try_insert(2, "baz"), Err(InsertError::Full((2, "baz"))));
+    let stored = map.try_insert(1, "bar");
+    assert_eq!(rt; stored, Err(InsertError::Occupied((1, "bar"))));
+    let refused = map.try_insert(2, "baz");
+    assert_eq!(rt; refused, Err(InsertError::Full((2, "baz"))));
     assert_eq!(rt; map.get(&1), Some(&"foo"));
     let mut seen: Set<u8, 1> = Set::new();
     assert_eq!(rt; seen.try_insert(1), Ok(()));
