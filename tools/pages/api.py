@@ -20,12 +20,14 @@ OF_EACH = {
     "update": "update_all update_disjoint",
     "iterate": "iter keys values into_keys into_values drain IntoIterator",
     "compare": "eq_with differs_at is_subset is_superset is_disjoint PartialEq",
-    "build and convert": "try_from_iter from_all from_fitting counts_of From into_capacity copied clone Clone Display",
+    "build and convert": "try_from_iter from_all from_fitting counts_of From into_capacity copied clone Clone into_text_bufs into_strings "
+    "Display",
     "operations": "difference intersection union symmetric_difference difference_ref bitand sub",
 }
 OTHERS = {
     "Entries": "Map::entry, Entry, OccupiedEntry, VacantEntry",
     "Probes": "Probe, Text",
+    "Owned texts": "TextBuf",
     "Streams": "Map::write_entries, Map::read_entries, Set::write_entries, Set::read_entries, EntrySink, EntrySource, "
     "VecSink, SliceSource",
     "JSON": "map_from_json, map_to_json, set_from_json, set_to_json, JsonFault",

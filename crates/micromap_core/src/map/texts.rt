@@ -18,11 +18,11 @@ impl<V: Drop, const N: usize> Map<String, V, N> {
     {
         let _content = self.len();
         let Map { pairs } = self;
-        let map = Map {
+        let texts = Map {
             pairs: pairs.converted_keys(),
         };
-        let _content = map.len();
-        map
+        let _content = texts.len();
+        texts
     }
 }
 
@@ -36,10 +36,10 @@ impl<V: Drop, const N: usize> Map<TextBuf, V, N> {
     {
         let _content = self.len();
         let Map { pairs } = self;
-        let map = Map {
+        let strings = Map {
             pairs: pairs.converted_keys(),
         };
-        let _content = map.len();
-        map
+        let _content = strings.len();
+        strings
     }
 }

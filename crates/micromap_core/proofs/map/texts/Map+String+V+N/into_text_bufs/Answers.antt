@@ -5,8 +5,8 @@ use Rattle.micromap_core.proofs.ConvertedLemmas.{into_texts}
 use Rattle.micromap_core.proofs.laws.TextViews.{unique_texts}
 use Rattle.micromap_core.proofs.map.texts.Map+String+V+N.into_text_bufs.Goals as goal
 
-pub invariant_of-map : goal.invariant_of-map
-invariant_of-map g c = rw (into_texts string_bytes _ _ c.converted_keys.ensures.keys c.converted_keys.ensures.values)
+pub invariant_of-texts : goal.invariant_of-texts
+invariant_of-texts g c = rw (into_texts string_bytes _ _ c.converted_keys.ensures.keys c.converted_keys.ensures.values)
     (unique_texts string_bytes (λ v. v) _ (rw c.self.view_is c.len-content.ensures.content.unique))
 
 pub returns-clause-answer : goal.returns-clause-answer

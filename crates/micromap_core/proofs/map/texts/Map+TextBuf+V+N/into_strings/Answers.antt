@@ -3,8 +3,8 @@ use Rattle.micromap_core.specs.Pairs.{IsUnique}
 use Rattle.micromap_core.proofs.ConvertedLemmas.{from_texts, unique_from_texts}
 use Rattle.micromap_core.proofs.map.texts.Map+TextBuf+V+N.into_strings.Goals as goal
 
-pub invariant_of-map : goal.invariant_of-map
-invariant_of-map g c = unique_from_texts string_bytes _
+pub invariant_of-strings : goal.invariant_of-strings
+invariant_of-strings g c = unique_from_texts string_bytes _
     (rw (from_texts string_bytes _ _ c.converted_keys.ensures.keys c.converted_keys.ensures.values, c.self.view_is)
     c.len-content.ensures.content.unique)
 
