@@ -24,7 +24,8 @@ SCANS = {
     "Display for Map, Set::new, Default for Set, Set::len, Set::is_empty, Set::capacity, Set::clear, Set::iter, Set::drain, "
     "IntoIterator for Set, Clone for Set, Display for Set, VecSink::new, VecSink::entries, VecSink::into_entries, "
     "SliceSource::over, SliceSource::left, map_to_json, set_to_json, JsonFault::code, Steps::new, Steps::count, Iter::over, "
-    "Keys::over, Values::over, IntoIter::over, IntoKeys::over, IntoValues::over",
+    "Keys::over, Values::over, IntoIter::over, IntoKeys::over, IntoValues::over, TextBuf::new, TextBuf::as_str, "
+    "TextBuf::into_string, TextBuf::len, TextBuf::is_empty, TextBuf::is",
 }
 SAID = {call: scans for scans, calls in SCANS.items() for call in calls.split(", ")}
 SCAN = r"\b(?:one|a) scan\b|ompares (?:no|any two|nothing|none)\b|\bcosts (?:what|one)\b"

@@ -7,11 +7,13 @@ AllZip R xs ys | the lists have the same length, and `R` holds of the elements a
 array values | the JSON array of these values
 at_most n | `n`, as the bound of a number of items
 Bor T | a `&T`, and `it.now` is what it points to
+bytes_eq s t | `==` of the bytes of two texts
 CallableOnEachPair T Q f pairs | `Q` holds at each pair, of the closure as calls `T` on the pairs before it leave `f`
 CalledAt F.FnMut f x r f' | a call of `f` at a reference to `x` can return `r`, and leave the closure as `f'`
 ClonesAreEqual eq C | each clone is equal to its original
 codes "text" | the bytes of this ASCII text
 compact_text value | the JSON text of the value, with no space, as bytes
+debug_str s | the bytes that `{:?}` prints of a text
 decimal n | the decimal digits of the number, as bytes
 deref r | what the reference points to
 deref_pair p | what the two references of the pair point to
@@ -46,6 +48,8 @@ map f xs | the list of `f` of each element
 MatchResult r P Q | `P` holds of the value of an `Ok`, or `Q` of the error
 ModifiesValue F.FnOnce f old new | a call of `f` can leave the value `new` for `old`, or both are `None`
 MutBor T | a `&mut T`, and `it.now` is what it points to
+nat_cmp m n | the order of two numbers
+nat_list_cmp_total | that the order of texts is total
 nat_lt m n | whether `m` is less than `n`
 object members | the JSON object of these members
 on f R | the relation of `x` and `y` that is `R (f x) (f y)`
@@ -65,11 +69,14 @@ set_key test pairs k | the pairs with `k` as the first key that passes the test
 set_value test pairs v | the pairs with the value `v` at the first key that passes the test
 ShowsInOrder shows | the calls of `next` return the items left, as `shows` reads what they return, in their order
 slice_get xs i | the element at the index `i`, if any
+slice_cmp cmp xs ys | the order of two lists by their first different elements, or by their lengths
 string_bytes s | the bytes of the text
 string_eq s t | `==` of `String`: the texts have the same bytes
+styled_text spec s | the bytes of the text as a hole such as `{:>8}` prints it
 swap_key test xs x | the list with `x` in the place of the first element that passes the test
 take n xs | the first `n` elements of the list, or all if there are fewer
 TakesFirst shows s r t | `r` shows the first of the items `s`, and `t` are the others; it is `None` if there are none
+texts_ties | that two texts have the same place in the order exactly if they are equal
 unwrap_or o d | the value, or `d` if there is none
 UnwrapsOrElse o P r | `r` is the value, or one of which `P` holds if there is none
 UpTo c n | the number of items has the bound `c`, which is at most `n`
