@@ -1,0 +1,2 @@
+pub mod Permissions
+pub mod Totals

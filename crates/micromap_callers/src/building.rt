@@ -1,0 +1,194 @@
+//! Building from a list.
+#![tactic(auto, using(micromap::proofs::Rules::caller))]
+
+ghost use Rattle.std.specs.Prelude.{◌≡◌, ◌↔◌, ◌<◌, ◌≤◌, ◌++◌, ◌/◌, [], List, ℕ, IfErr, IfOk, IfSome, IsErr, IsFalse, IsNone, OnOk, fold, length, map, nat_eq, reverse};
+ghost use Rattle.std.specs.Bool.{OnTrue};
+ghost use Rattle.std.specs.List.{zip};
+ghost use Rattle.std.specs.Map.{keys_of};
+ghost use Rattle.std.specs.Option.{option_or};
+ghost use Rattle.std.specs.Set.{distinct_count};
+ghost use Rattle.micromap.specs.Build.{MisfitIn, build, build_or_refuse, put_all, put_pair_if_fits};
+ghost use Rattle.micromap.specs.Extend.{distinct, distinct_or_refuse};
+ghost use Rattle.micromap.specs.Memory.{MapFits};
+ghost use Rattle.micromap.specs.Pairs.{at, put_if_fits};
+
+use micromap::{Map, Overfull, Set};
+
+/// Makes a map of a list of pairs, or an error.
+/// Of equal keys the last one's value stands. Two lists go the same way, by `a.iter().chain(b.iter()).copied()`, and
+/// are `a.now ++ b.now` then. A `Vec` by value goes by `into_iter()`, and is `list.items`. A set of items goes by
+/// `Set::try_from_iter`, and is `distinct nat_eq list.now`.
+#[tactic(auto, using(micromap::proofs::Rules::caller, micromap::proofs::Rules::lists))]
+pub fn map_of_list<const N: usize>(list: &[(u8, u8)]) -> Result<Map<u8, u8, N>, Overfull>
+    ensures { IfOk result (λ m. m ≡ build nat_eq list.now) }
+{
+    Ok(Map::try_from_iter(list.iter().copied())?)
+}
+
+// What `whole_or_none` returns, in the word of `from_all`. The law of that word serves a caller.
+#[tactic(auto, unfolding(micromap_core::specs::Build::build_or_refuse))]
+fn whole<const N: usize>(list: &[(u8, u8)]) -> Option<Map<u8, u8, N>>
+    ensures { result ≡ build_or_refuse nat_eq N list.now }
+{
+    Map::from_all(list.iter().map(|p| *p))
+}
+
+/// Makes a map of pairs, or `None` if they have too many keys.
+/// `None` is exact: the list has more than `N` different keys then. What a function makes of each item goes the same
+/// way, by another `map`, and the list is `map (λ x. (x, x / 2)) list.now` for `|x| (*x, *x / 2)`.
+#[tactic(auto, using(micromap::proofs::Rules::caller, micromap::proofs::Rules::lists))]
+pub fn whole_or_none<const N: usize>(list: &[(u8, u8)]) -> Option<Map<u8, u8, N>>
+    ensures made { IfSome result (λ m. m ≡ build nat_eq list.now) }
+    ensures refused { IsNone result ↔ (N < distinct_count nat_eq (keys_of list.now)) }
+{
+    whole(list)
+}
+
+// What `distinct_halves` returns, in the word of `from_all`.
+#[tactic(auto, unfolding(micromap::specs::Extend::distinct_or_refuse))]
+fn all_halves<const N: usize>(list: &[u8]) -> Option<Set<u8, N>>
+    ensures { result ≡ distinct_or_refuse nat_eq N (map (λ x. x / 2) list.now) }
+{
+    Set::from_all(list.iter().map(|x| *x / 2))
+}
+
+/// Makes a set of what a function makes of each item, or `None`.
+/// `None` is exact: there are more than `N` different results then. The items themselves go the same way, by `|x| *x`.
+#[tactic(auto, using(micromap::proofs::Rules::caller, micromap::proofs::Rules::lists))]
+pub fn distinct_halves<const N: usize>(list: &[u8]) -> Option<Set<u8, N>>
+    ensures built { IfSome result (λ s. s ≡ distinct nat_eq (map (λ x. x / 2) list.now)) }
+    ensures refused { IsNone result ↔ (N < distinct_count nat_eq (map (λ x. x / 2) list.now)) }
+{
+    all_halves(list)
+}
+
+/// Makes a map of what a function makes, or says which failed.
+/// The error has the index of the first item that had no room. A list of pairs by `copied()` goes the same way, with
+/// `YieldsList-from_copied` in the place of `YieldsList-from_map`, and a set by `items_refused_of`.
+#[tactic(auto)]
+pub fn map_of_mapped<const N: usize>(list: &[u8]) -> Result<Map<u8, u8, N>, Overfull>
+    ensures built { IfOk result (λ m. m ≡ build nat_eq (map (λ x. (x, x / 2)) list.now)) }
+    ensures misfit { IfErr result (λ e. MisfitIn nat_eq N [] (map (λ x. (x, x / 2)) list.now) e.at) }
+    ensures refused { IsErr result ↔ (N < distinct_count nat_eq (keys_of (map (λ x. (x, x / 2)) list.now))) }
+{
+    Map::try_from_iter(list.iter().map(|x| (*x, *x / 2)))
+}
+
+/// Makes a map of what a function makes of each item that fits.
+/// A set of items goes the same way, by `Set::from_fitting` and `put_item_if_fits`.
+#[tactic(auto)]
+pub fn first_halves<const N: usize>(list: &[u8]) -> Map<u8, u8, N>
+    ensures { result ≡ fold (put_pair_if_fits nat_eq N) [] (map (λ x. (x, x / 2)) list.now) }
+{
+    Map::from_fitting(list.iter().map(|x| (*x, *x / 2)))
+}
+
+/// Makes a map of a list of keys and a list of values.
+/// It has each key with the value at the same index, as far as both lists go. What doesn't fit is left out. Each item
+/// with its index goes the same way, by `enumerate()` and `enumerate_from 0 list.now`.
+#[tactic(auto)]
+pub fn zipped(keys: &[u8], values: &[u8]) -> Map<u8, u8, 16>
+    ensures { result ≡ fold (λ (m : List (ℕ × ℕ)) (p : ℕ × ℕ). put_if_fits nat_eq 16 m p.0 p.1) [] (zip keys.now values.now) }
+{
+    keys.iter()
+        .zip(values.iter())
+        .fold(Map::new(), |mut m, (k, v)| {
+            m.checked_insert(*k, *v);
+            m
+        })
+}
+
+/// Puts pairs into a map, up to the first that doesn't fit.
+/// A `Vec` by value goes the same way, by `into_iter()`, and items that pass by `filter`. A set takes items, and is
+/// `put_all_items nat_eq set.old list.now`.
+pub fn put_list<const N: usize>(
+    pairs: &mut Map<u8, u8, N>,
+    list: &[(u8, u8)],
+) -> Result<(), Overfull>
+    ensures { OnOk result (pairs.new ≡ put_all nat_eq pairs.old list.now) }
+{
+    pairs.try_extend(list.iter().copied())
+}
+
+/// Puts pairs into a map, and knows when it is refused.
+/// All pairs would be more than `N` then. A list of items goes the same way into a set, by `refused_is_many` of
+/// `ItemCounts`.
+pub fn put_pairs<const N: usize>(map: &mut Map<u8, u8, N>, pairs: &[(u8, u8)]) -> Result<(), Overfull>
+    ensures put { OnOk result (map.new ≡ put_all nat_eq map.old pairs.now) }
+    ensures refused { IfErr result (λ _. N < length (put_all nat_eq map.old pairs.now)) }
+{
+    map.try_extend(pairs.iter().copied())
+}
+
+/// Puts pairs into a map in a loop, until one doesn't fit.
+/// They would be more than `N` if it returns `false`. The keys are of any type. Items go the same way into a set, by
+/// `put_all_items`.
+#[tactic(auto, using(micromap::proofs::Rules::lists))]
+pub fn put_each<K: Eq + Copy + Drop, const N: usize>(map: &mut Map<K, u8, N>, items: &[(K, u8)]) -> bool
+    ensures put { OnTrue result (map.new ≡ put_all K.eq map.old items.now) }
+    ensures refused { IsFalse result → N < length (put_all K.eq map.old items.now) }
+{
+    let _content = map.len();
+    for item in items {
+        if !map.fits(&item.0) {
+            return false;
+        }
+        map.insert(item.0, item.1);
+    }
+    true
+}
+
+/// Puts pairs into a map, and knows what a key finds then.
+/// Of the pairs with the key the last one stands, and else what the map had. Of `None` the contract says nothing.
+pub fn put_each_then_read<K: Eq + Copy + Drop, const N: usize>(
+    map: &mut Map<K, u8, N>,
+    items: &[(K, u8)],
+    key: &K,
+) -> Option<Option<u8>>
+    ensures { IfSome result (λ found. found ≡ option_or (at K.eq (reverse items.now) key.now) (at K.eq map.old key.now)) }
+{
+    let _content = map.len();
+    if !put_each(map, items) {
+        return None;
+    }
+    Some(map.get(key).copied())
+}
+
+// What `put_list_whole` makes of a set, in the word of `from_all`.
+#[tactic(auto, unfolding(micromap::specs::Extend::distinct_or_refuse))]
+fn with_list<const N: usize>(set: &Set<u8, N>, list: &[u8]) -> Option<Set<u8, N>>
+    ensures { result ≡ distinct_or_refuse nat_eq N (set.now ++ list.now) }
+{
+    Set::from_all(set.iter().chain(list.iter()).map(|x| *x))
+}
+
+/// Puts all items of a list into a set, or none.
+/// It returns `false` exactly if there would be more than `N`.
+#[tactic(auto, using(micromap::proofs::Rules::caller, micromap::proofs::Rules::lists))]
+pub fn put_list_whole<const N: usize>(set: &mut Set<u8, N>, list: &[u8]) -> bool
+    ensures put { OnTrue result (set.new ≡ distinct nat_eq (set.old ++ list.now)) }
+    ensures unchanged { IsFalse result → set.new ≡ set.old }
+    ensures refused { IsFalse result ↔ (N < distinct_count nat_eq (set.old ++ list.now)) }
+{
+    match with_list(set, list) {
+        Some(all) => {
+            *set = all;
+            true
+        }
+        None => false,
+    }
+}
+
+/// Counts the different keys of a list, in a map of its own.
+/// The contract says only that they are at most `N`. Keys and values are of any types that fit in memory. For numbers
+/// `requires { N ≤ 1000 }` serves, and for a set `SetFits`.
+pub fn count_keys<K: Eq + Copy, V: Copy, const N: usize>(pairs: &[(K, V)]) -> Option<usize>
+    requires { MapFits K.row V.row N.row K.eq }
+    ensures { IfSome result (λ count. count ≤ N) }
+{
+    let mut seen: Map<K, V, N> = Map::new();
+    for (key, value) in pairs {
+        seen.checked_insert(*key, *value)?;
+    }
+    Some(seen.len())
+}

@@ -1,0 +1,210 @@
+//! Finding and listing what is stored.
+#![tactic(auto, using(micromap::proofs::Rules::caller))]
+
+ghost use Rattle.std.specs.Prelude.{◌&&◌, ◌-◌, ◌<◌, ◌==◌, ◌↔◌, ◌≡◌, ◌≤◌, IfOk, IfSome, IsFalse, IsNone, IsTrue, List, None, Option, Some, filter, fold, if◌then◌else◌, is_none, length, map, max, nat_eq, nat_lt, position, slice_get, ℕ, []};
+ghost use Rattle.std.specs.List.{All, Contains, find, range_with_len, reduce};
+ghost use Rattle.std.specs.Map.{keys_of, values_of};
+ghost use Rattle.std.specs.Map.Iter.{deref_pair};
+ghost use Rattle.std.specs.Option.{option_and_then, option_copied, option_map, option_or};
+ghost use Rattle.std.specs.Set.{is_member};
+ghost use Rattle.micromap.specs.Operations.{difference, union};
+ghost use Rattle.micromap.specs.Pairs.{at};
+
+use micromap::{Map, Set};
+use std::alloc::{AllocError, Global};
+
+/// Finds the greatest value.
+/// It returns `None` if the map is empty. The least goes the same way by `min()`, a key by `iter().map(|(k, _)| *k)`,
+/// and what passes a test by `filter` before `map`. By `copied()` in the place of `map` the search doesn't find it.
+pub fn greatest<const N: usize>(pairs: &Map<u8, u32, N>) -> Option<u32>
+    ensures { result ≡ reduce max (values_of pairs.now) }
+{
+    pairs.values().map(|v| *v).max()
+}
+
+/// Finds a key with the least value, and that value.
+/// It returns `None` if the map is empty. A key with the greatest value goes the same way by `max_by_key`, and so does
+/// the largest set that is a value, by `pair.1.len()`, if the capacities are numbers or constants.
+pub fn cheapest<const N: usize>(prices: &Map<u8, u32, N>) -> Option<(u8, u32)>
+    ensures none { IsNone result ↔ (prices.now ≡ []) }
+    ensures found { IfSome result (Contains prices.now) }
+    ensures least { IfSome result (λ least. All (λ other. least.1 ≤ other.1) prices.now) }
+{
+    let (key, price) = prices.iter().min_by_key(|pair| *pair.1)?;
+    Some((*key, *price))
+}
+
+/// Finds the greatest member of an operation on two sets, or 0.
+#[tactic(auto)]
+pub fn greatest_alone(a: &Set<u8, 16>, b: &Set<u8, 16>) -> u8
+    ensures { result ≡ fold max 0 (difference nat_eq a.now b.now) }
+{
+    a.difference(b)
+        .fold(0, |most, x| if most < *x { *x } else { most })
+}
+
+/// Finds the first key that passes a test.
+/// It returns `None` if none does.
+pub fn first_key_above<const N: usize>(pairs: &Map<u8, u32, N>, limit: u8) -> Option<&u8>
+    ensures { option_copied result ≡ find (nat_lt limit) (keys_of pairs.now) }
+{
+    pairs.keys().find(|k| **k > limit)
+}
+
+/// Finds the first pair whose value passes a test.
+/// It returns `None` if none does. The pair's key alone goes the same way.
+#[tactic(auto)]
+pub fn first_pair_above<const N: usize>(pairs: &Map<u8, u32, N>, limit: u32) -> Option<(u8, u32)>
+    ensures { result ≡ fold
+        (λ (found : Option (ℕ × ℕ)) (p : ℕ × ℕ). if is_none found && nat_lt limit p.1 then Some p else found) None pairs.now }
+{
+    pairs.iter().fold(None, |found: Option<(u8, u32)>, (k, v)| {
+        if found.is_none() && *v > limit {
+            Some((*k, *v))
+        } else {
+            found
+        }
+    })
+}
+
+/// Finds the first pair that passes a test, by reference.
+/// It returns `None` if none does. A `find` over pairs needs an answer, which is one law.
+#[tactic(auto)]
+pub fn pair_above<const N: usize>(pairs: &Map<u8, u32, N>, limit: u32) -> Option<(&u8, &u32)>
+    ensures { option_map deref_pair result ≡ find (λ p. nat_lt limit p.1) pairs.now }
+{
+    pairs.iter().find(|(_, v)| **v > limit)
+}
+
+/// Finds the first key whose set has a certain member.
+/// It returns `None` if no set has it. Any other test of a pair goes the same way, as that its value is a certain one
+/// of an enum.
+pub fn group_of<const N: usize, const M: usize>(
+    groups: &Map<u8, Set<u8, M>, N>,
+    member: u8,
+) -> Option<u8>
+    ensures { result ≡ option_map (λ p. p.0) (find (λ p. is_member nat_eq p.1 member) groups.now) }
+{
+    for (group, members) in groups {
+        if members.contains(&member) {
+            return Some(*group);
+        }
+    }
+    None
+}
+
+/// Finds a pair that passes a test, which `get` finds too.
+/// Of `None` the contract says nothing. Keys of any type go the same way, by `K.eq` in the contract and
+/// `g.K.PartialEq.eq` in the invariant. A key alone is known to be stored by `has nat_eq` in both.
+pub fn pair_over<const N: usize>(map: &Map<u8, u8, N>, limit: u8) -> Option<(u8, u8)>
+    ensures found { IfSome result (λ p. at nat_eq map.now p.0 ≡ Some p.1) }
+    ensures over { IfSome result (λ p. limit < p.1) }
+{
+    for (key, value) in map {
+        if *value > limit {
+            return Some((*key, *value));
+        }
+    }
+    None
+}
+
+/// Finds an item that passes a test, which is a member.
+/// Of `None` the contract says nothing. The items have any type. Those of a known one go the same way, by its equality
+/// in the place of `T.eq` and of `g.T.PartialEq.eq`.
+pub fn other_than<'a, T: Eq, const N: usize>(set: &'a Set<T, N>, item: &T) -> Option<&'a T>
+    ensures stored { IfSome result (λ x. IsTrue (is_member T.eq set.now x.now)) }
+    ensures other { IfSome result (λ x. IsFalse (T.eq x.now item.now)) }
+{
+    for stored in set {
+        if stored != item {
+            return Some(stored);
+        }
+    }
+    None
+}
+
+/// Finds the index of a value.
+/// It returns `None` if no value is `x`. The first pair that passes a test goes the same way, by `iter().position(|(_,
+/// v)| ..)`.
+pub fn position_of<const N: usize>(pairs: &Map<u8, u32, N>, x: u32) -> Option<usize>
+    ensures { result ≡ position (λ v. v == x) (values_of pairs.now) }
+{
+    pairs.values().position(|v| *v == x)
+}
+
+/// Finds the pair at an index.
+/// It returns `None` if there are not so many pairs.
+pub fn pair_at<const N: usize>(pairs: &Map<u8, u32, N>, index: usize) -> Option<(&u8, &u32)>
+    ensures { option_map deref_pair result ≡ slice_get pairs.now index }
+{
+    pairs.iter().nth(index)
+}
+
+/// Finds the first key and the last value.
+/// The items at both ends of a set go the same way, by `set.first().copied()` and `set.last().copied()`.
+pub fn oldest_and_newest<const N: usize>(readings: &Map<u8, u16, N>) -> (Option<u8>, Option<u16>)
+    ensures oldest { result.0 ≡ option_map (λ p. p.0) (slice_get readings.now 0) }
+    ensures newest { result.1 ≡ option_map (λ p. p.1) (slice_get readings.now (length readings.now - 1)) }
+{
+    let oldest = readings.first().map(|(key, _)| *key);
+    let newest = readings.last().map(|(_, value)| *value);
+    (oldest, newest)
+}
+
+/// Finds a key's value in the first of several maps with it.
+/// It returns `None` if no map has the key.
+#[tactic(auto)]
+pub fn first_value(layers: &[Map<u8, u32, 16>], key: u8) -> Option<u32>
+    ensures { result ≡ fold (λ (found : Option ℕ) (m : List (ℕ × ℕ)). option_or found (at nat_eq m key)) None layers.now }
+{
+    layers.iter().fold(
+        None,
+        |found: Option<u32>, layer| found.or(layer.get(&key).copied()),
+    )
+}
+
+/// Finds where a number of steps from key to value leads.
+/// It returns `None` if a step is missing.
+#[tactic(auto)]
+pub fn follow(next: &Map<u8, u8, 16>, start: u8, steps: u8) -> Option<u8>
+    ensures { result ≡ fold (λ (place : Option ℕ) (_ : ℕ). option_and_then (at nat_eq next.now) place) (Some start) (range_with_len 0 steps) }
+{
+    (0..steps).fold(
+        Some(start),
+        |place: Option<u8>, _| next.get(&place?).copied(),
+    )
+}
+
+/// Lists the keys whose value passes a test in a `Vec`.
+/// All keys go the same way by `keys().copied()`, and a set's items by `set.iter().copied()`.
+pub fn list_of_keys_above<const N: usize>(
+    alloc: Global,
+    pairs: &Map<u8, u32, N>,
+) -> Result<Vec<u8>, AllocError>
+    ensures { IfOk result (λ v. v.items ≡ map (λ p. p.0) (filter (λ p. nat_lt 9 p.1) pairs.now)) }
+{
+    pairs
+        .iter()
+        .filter(|(_, v)| **v > 9)
+        .map(|(k, _)| *k)
+        .collect(alloc)
+}
+
+/// Lists the pairs of a map by value in a `Vec`.
+pub fn list_of_pairs(alloc: Global, pairs: Map<u8, u32, 16>) -> Result<Vec<(u8, u32)>, AllocError>
+    ensures { IfOk result (λ v. v.items ≡ pairs) }
+{
+    pairs.into_iter().collect(alloc)
+}
+
+/// Lists the members of an operation on two sets in a `Vec`.
+/// The other operations go the same way.
+pub fn list_of_union<const N: usize, const M: usize>(
+    alloc: Global,
+    a: &Set<u8, N>,
+    b: &Set<u8, M>,
+) -> Result<Vec<u8>, AllocError>
+    ensures { IfOk result (λ v. v.items ≡ union nat_eq a.now b.now) }
+{
+    a.union(b).copied().collect(alloc)
+}

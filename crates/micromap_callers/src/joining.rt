@@ -1,0 +1,228 @@
+//! Changing one by another.
+#![tactic(auto, using(micromap::proofs::Rules::caller))]
+
+ghost use Rattle.std.specs.Prelude.{◌≡◌, ◌↔◌, ◌<◌, ◌||◌, [], List, ℕ, IfSome, IsFalse, IsNone, IsTrue, OnOk, filter, fold, length, nat_eq, not};
+ghost use Rattle.std.specs.Bool.{OnTrue};
+ghost use Rattle.std.specs.Set.{is_member};
+ghost use Rattle.micromap.specs.Build.{put_all};
+ghost use Rattle.micromap.specs.Extend.{put_all_items};
+ghost use Rattle.micromap.specs.Items.{put_item_if_fits, take_item};
+ghost use Rattle.micromap.specs.Operations.{difference, union};
+ghost use Rattle.micromap.specs.Pairs.{fits, put_if_fits};
+ghost use Rattle.micromap.specs.Same.{Same};
+
+use micromap::{Map, Overfull, Set};
+
+/// Puts a map over another, all or nothing.
+/// It returns whether it did. There is no room for all if it didn't. A set goes the same way into a set, by
+/// `put_all_items`, and two of them by `set.try_extend_from(one)?` before the second.
+pub fn reprice<const N: usize, const M: usize>(
+    prices: &mut Map<u8, u32, N>,
+    new: &Map<u8, u32, M>,
+) -> bool
+    ensures all { OnTrue result (prices.new ≡ put_all nat_eq prices.old new.now) }
+    ensures none { IsFalse result → prices.new ≡ prices.old }
+    ensures refused { IsFalse result → N < length (put_all nat_eq prices.old new.now) }
+{
+    prices.try_extend_from(new).is_ok()
+}
+
+/// Puts a map into another, up to the first pair that doesn't fit.
+/// From a map of a known capacity `other.copied().into_iter()` needs no answer, under the line of this file.
+#[tactic(auto)]
+pub fn put_copies<const N: usize, const M: usize>(
+    pairs: &mut Map<u8, u8, N>,
+    other: &Map<u8, u8, M>,
+) -> Result<(), Overfull>
+    ensures { OnOk result (pairs.new ≡ put_all nat_eq pairs.old other.now) }
+{
+    pairs.try_extend(other.iter().map(|(k, v)| (*k, *v)))
+}
+
+// Puts all pairs of another map if it returns `true`. If it returns `false`, they would be more than `N`.
+#[tactic(auto, using(micromap::proofs::Rules::loops))]
+fn add_all<const N: usize, const M: usize>(
+    map: &mut Map<u8, u8, N>,
+    other: &Map<u8, u8, M>,
+) -> bool
+    ensures put { OnTrue result (map.new ≡ put_all nat_eq map.old other.now) }
+    ensures refused { IsFalse result → N < length (put_all nat_eq map.old other.now) }
+{
+    for (key, value) in other {
+        if !map.fits(key) {
+            return false;
+        }
+        map.insert(*key, *value);
+    }
+    true
+}
+
+/// Puts a map into a copy of another.
+/// `None` is exact: they don't all fit then. The second one's values stand. Each pair is put in a loop.
+pub fn merged<const N: usize, const M: usize>(
+    first: &Map<u8, u8, N>,
+    second: &Map<u8, u8, M>,
+) -> Option<Map<u8, u8, N>>
+    ensures made { IfSome result (λ m. m ≡ put_all nat_eq first.now second.now) }
+    ensures refused { IsNone result ↔ (N < length (put_all nat_eq first.now second.now)) }
+{
+    let mut merged = first.copied();
+    if !add_all(&mut merged, second) {
+        return None;
+    }
+    let _content = merged.len();
+    Some(merged)
+}
+
+/// Puts a map into another by value, as far as it fits.
+/// Keys and values are of any type. For numbers and known capacities the closure needs no clause: `|mut m, (k, v)|`.
+#[tactic(auto)]
+pub fn merged_any<K: Eq + Copy, V: Copy, const N: usize, const M: usize>(
+    mine: Map<K, V, N>,
+    other: &Map<K, V, M>,
+) -> Map<K, V, N>
+    ensures { result ≡ fold (λ m p. put_if_fits K.eq N m p.0 p.1) mine other.now }
+{
+    other.iter().fold(
+        mine,
+        |mut m: Map<K, V, N>, p: (&K, &V)| -> Map<K, V, N>
+            ensures { result ≡ put_if_fits K.eq N m p.entry.0.now p.entry.1.now }
+        {
+            m.checked_insert(*p.0, *p.1);
+            m
+        },
+    )
+}
+
+/// Moves the pairs of a map into another.
+/// The first pair that doesn't fit and those after it are dropped.
+pub fn put_drained<const N: usize, const M: usize>(
+    pairs: &mut Map<u8, u8, N>,
+    other: &mut Map<u8, u8, M>,
+) -> Result<(), Overfull>
+    ensures { OnOk result (pairs.new ≡ put_all nat_eq pairs.old other.old) }
+{
+    pairs.try_extend(other.drain())
+}
+
+/// Puts the items of a set into another.
+/// The keys of a map go the same way, by `keys().copied()` and `keys_of`.
+pub fn put_items<const N: usize, const M: usize>(
+    set: &mut Set<u8, N>,
+    other: &Set<u8, M>,
+) -> Result<(), Overfull>
+    ensures { OnOk result (set.new ≡ put_all_items nat_eq set.old other.now) }
+{
+    set.try_extend(other.iter().copied())
+}
+
+// Adds the items of another set. If it returns `true`, the set is the union. If it returns `false`, the union has more
+// than `N` items.
+#[tactic(auto, using(micromap::proofs::Rules::loops))]
+fn add_all_items<const N: usize, const M: usize>(
+    set: &mut Set<u8, N>,
+    other: &Set<u8, M>,
+) -> bool
+    ensures union { OnTrue result (set.new ≡ union nat_eq other.now set.old) }
+    ensures refused { IsFalse result → N < length (union nat_eq other.now set.old) }
+{
+    for item in other {
+        if !set.fits(item) {
+            return false;
+        }
+        set.insert(*item);
+    }
+    true
+}
+
+/// Puts the items of a set into another, and knows each member.
+/// It returns `false` exactly if the union has more than `N` items.
+pub fn include<const N: usize, const M: usize>(
+    permissions: &mut Set<u8, N>,
+    others: &Set<u8, M>,
+) -> bool
+    ensures members { IsTrue result → (x : _) → is_member nat_eq permissions.new x ≡ (is_member nat_eq others.now x || is_member nat_eq permissions.old x) }
+    ensures refused { IsFalse result ↔ (N < length (union nat_eq others.now permissions.old)) }
+{
+    let whole = add_all_items(permissions, others);
+    let _content = permissions.len();
+    whole
+}
+
+/// Moves the items of a set into another, as far as they fit.
+/// It is a work list: the items are taken one after the other until none is left.
+#[tactic(auto, using(micromap::proofs::Rules::loops))]
+pub fn pour<const N: usize, const M: usize>(from: &mut Set<u8, N>, into: &mut Set<u8, M>)
+    ensures emptied { from.new ≡ [] }
+    ensures poured { into.new ≡ fold (put_item_if_fits nat_eq M) into.old from.old }
+{
+    while let Some(item) = from.pop_first() {
+        into.checked_insert(item);
+    }
+}
+
+/// Drops the pairs whose key is in a set.
+/// To keep them, leave out the `!`, and the `not`. For a set of any capacity the closure says its answer, as in
+/// `keep_listed`.
+pub fn exclude<const N: usize>(pairs: &mut Map<u8, u32, N>, set: &Set<u8, 8>)
+    ensures { pairs.new ≡ filter (λ p. not (is_member nat_eq set.now p.0)) pairs.old }
+{
+    pairs.retain(|key, _| !set.contains(key));
+}
+
+/// Keeps the pairs whose value is in a set of any capacity.
+/// The values are of any type with an `==`, as an enum with a derived one.
+pub fn keep_listed<V: Eq + Drop, const N: usize, const M: usize>(
+    holders: &mut Map<u8, V, N>,
+    listed: &Set<V, M>,
+)
+    ensures { holders.new ≡ filter (λ p. is_member V.eq listed.now p.1) holders.old }
+{
+    holders.retain(
+        |_: &u8, held: &mut V| -> bool
+            ensures answer { result ≡ is_member V.eq listed.entry.now held.old }
+            ensures same { held.new ≡ held.old }
+        { listed.contains(held) },
+    );
+}
+
+/// Takes the items of a list out of a set by value.
+#[tactic(auto)]
+pub fn left_over(set: Set<u8, 16>, list: &[u8]) -> Set<u8, 16>
+    ensures { result ≡ fold (λ (s : List ℕ) (v : ℕ). take_item nat_eq s v) set list.now }
+{
+    list.iter().fold(set, |mut s, v| {
+        s.remove(v);
+        s
+    })
+}
+
+/// Takes the items of a list out of a set in place.
+/// Another set's items go the same way, by `for item in other`. Its invariant has `l.item-iterator` in the place of
+/// what is left of the list.
+#[tactic(auto, using(micromap::proofs::Rules::loops))]
+pub fn remove_listed<const N: usize>(set: &mut Set<u8, N>, list: &[u8])
+    ensures { set.new ≡ difference nat_eq set.old list.now }
+{
+    for item in list {
+        set.remove(item);
+    }
+}
+
+/// Puts a pair into two maps that are the same, and stay so.
+/// The pair fits both. What is removed from both leaves them the same too.
+#[tactic(auto, using(micromap::proofs::Rules::caller, micromap::proofs::Rules::comparison))]
+pub fn put_both<const N: usize, const M: usize>(
+    list: &mut Map<u8, u8, N>,
+    replica: &mut Map<u8, u8, M>,
+    key: u8,
+    value: u8,
+)
+    requires same { Same nat_eq nat_eq list.old replica.old }
+    requires fits { IsTrue (fits nat_eq N list.old key) }
+    requires fits_replica { IsTrue (fits nat_eq M replica.old key) }
+    ensures { Same nat_eq nat_eq list.new replica.new }
+{
+    list.insert(key, value);
+    replica.insert(key, value);
+}

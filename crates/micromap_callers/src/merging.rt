@@ -1,0 +1,228 @@
+//! Counts, totals and groups.
+#![tactic(auto, using(micromap::proofs::Rules::lists))]
+
+ghost use Rattle.std.specs.Prelude.{◌≡◌, ◌↔◌, ◌+◌, ◌-◌, ◌^◌, ◌<◌, [], List, ℕ, IfErr, IfSome, IsFalse, IsNone, OnOk, Some, filter, fold, if◌then◌else◌, length, min, nat_eq, take, unwrap_or};
+ghost use Rattle.std.specs.Bool.{OnTrue};
+ghost use Rattle.std.specs.Iterator.{UpTo};
+ghost use Rattle.std.specs.Map.{keys_of, values_of};
+ghost use Rattle.std.specs.Set.{distinct_count};
+ghost use Rattle.std.specs.Vec.{vec_items};
+ghost use Rattle.micromap.specs.Build.{AllItems, ItemsUpTo, MergeStopsAt, counts, counts_or_refuse, merged, most_items};
+ghost use Rattle.micromap.specs.Extend.{put_all_items};
+ghost use Rattle.micromap.specs.Pairs.{at, fits, put};
+ghost use Rattle.micromap_callers.specs.Totals.{greater, is_summed, saturated_sum, sum, with_member};
+
+use micromap::{Map, Overfull, Set};
+
+// What `counts_or_none` returns, in the word of `counts_of`.
+#[tactic(auto, unfolding(micromap_core::specs::Build::counts_or_refuse))]
+fn all_counts<const N: usize>(list: &[u8]) -> Option<Map<u8, usize, N>>
+    ensures { result ≡ counts_or_refuse nat_eq N list.now }
+{
+    Map::counts_of(list.iter().map(|x| *x))
+}
+
+/// Counts how often each item of a list comes.
+/// `None` is exact: there are more than `N` different items then. What a function makes of those that pass goes the
+/// same way, by `filter` and another `map`.
+#[tactic(auto, using(micromap::proofs::Rules::caller, micromap::proofs::Rules::lists))]
+pub fn counts_or_none<const N: usize>(list: &[u8]) -> Option<Map<u8, usize, N>>
+    ensures counted { IfSome result (λ m. m ≡ counts nat_eq list.now) }
+    ensures refused { IsNone result ↔ (N < distinct_count nat_eq list.now) }
+{
+    all_counts(list)
+}
+
+/// Counts how often each item comes, up to the greatest number.
+/// An item that doesn't fit is left out.
+#[tactic(auto)]
+pub fn counted(votes: &[u8]) -> Map<u8, u32, 16>
+    ensures { result ≡ fold
+        (λ (m : List (ℕ × ℕ)) (v : ℕ). if fits nat_eq 16 m v then put nat_eq m v (min (unwrap_or (at nat_eq m v) 0 + 1) (2 ^ 32 - 1)) else m)
+        [] votes.now }
+{
+    votes.iter().fold(Map::new(), |mut m, v| {
+        if m.fits(v) {
+            let count = m.entry(*v).or_insert(0);
+            *count = count.saturating_add(1);
+        }
+        m
+    })
+}
+
+/// Adds each amount of a list to the total of its key.
+/// A total stays at the greatest number. New keys go last, in the order in which each first came. There would be more
+/// than `N` if it returns `false`.
+pub fn add_amounts<const N: usize>(totals: &mut Map<u8, u32, N>, amounts: &[(u8, u32)]) -> bool
+    ensures totals { OnTrue result (totals.new ≡ merged nat_eq saturated_sum totals.old amounts.now) }
+    ensures refused { IsFalse result → N < length (merged nat_eq saturated_sum totals.old amounts.now) }
+    ensures keys { OnTrue result (keys_of totals.new ≡ put_all_items nat_eq (keys_of totals.old) (keys_of amounts.now)) }
+{
+    let _content = totals.len();
+    for (number, amount) in amounts {
+        if !totals.fits(number) {
+            return false;
+        }
+        let total = totals.get(number).copied().unwrap_or(0);
+        totals.insert(*number, total.saturating_add(*amount));
+    }
+    true
+}
+
+/// Adds amounts, and knows the total of one key.
+/// It is the old one with the amounts of its key. Of `None` the contract says nothing.
+pub fn add_then_read<const N: usize>(
+    totals: &mut Map<u8, u32, N>,
+    amounts: &[(u8, u32)],
+    number: u8,
+) -> Option<Option<u32>>
+    ensures { IfSome result (λ total. total ≡ fold (λ total amount. Some (saturated_sum total amount)) (at nat_eq totals.old number) (values_of (filter (λ item. nat_eq item.0 number) amounts.now))) }
+{
+    if !add_amounts(totals, amounts) {
+        return None;
+    }
+    Some(totals.get(&number).copied())
+}
+
+/// Makes a map of the total of each key.
+/// `None` is exact: there are more than `N` different keys then. A total stays at the greatest number.
+pub fn totals_of<const N: usize>(amounts: &[(u8, u32)]) -> Option<Map<u8, u32, N>>
+    ensures totals { IfSome result (λ totals. totals ≡ merged nat_eq saturated_sum [] amounts.now) }
+    ensures refused { IsNone result ↔ (N < distinct_count nat_eq (keys_of amounts.now)) }
+{
+    let mut totals: Map<u8, u32, N> = Map::new();
+    for (number, amount) in amounts {
+        if !totals.fits(number) {
+            return None;
+        }
+        let total = totals.entry(*number).or_insert(0);
+        *total = total.saturating_add(*amount);
+    }
+    let _content = totals.len();
+    Some(totals)
+}
+
+/// Groups a list: makes a map of the members of each key.
+/// A group has the members for which its set has room. `None` is exact: there are more than `N` different keys then.
+pub fn groups_of<const N: usize, const M: usize>(list: &[(u8, u8)]) -> Option<Map<u8, Set<u8, M>, N>>
+    ensures groups { IfSome result (λ groups. groups ≡ merged nat_eq (with_member M) [] list.now) }
+    ensures refused { IsNone result ↔ (N < distinct_count nat_eq (keys_of list.now)) }
+{
+    let mut groups: Map<u8, Set<u8, M>, N> = Map::new();
+    for (group, member) in list {
+        if !groups.fits(group) {
+            return None;
+        }
+        groups
+            .entry(*group)
+            .or_insert(Set::new())
+            .checked_insert(*member);
+    }
+    let _content = groups.len();
+    Some(groups)
+}
+
+/// Keeps the greatest amount of each key.
+/// Of `false` the contract says nothing.
+pub fn keep_greatest<const N: usize>(greatest: &mut Map<u8, u32, N>, amounts: &[(u8, u32)]) -> bool
+    ensures { OnTrue result (greatest.new ≡ merged nat_eq greater greatest.old amounts.now) }
+{
+    for (number, amount) in amounts {
+        match greatest.get_mut(number) {
+            Some(stored) => *stored = *amount.max(stored),
+            None => {
+                if greatest.checked_insert(*number, *amount).is_none() {
+                    return false;
+                }
+            }
+        }
+    }
+    true
+}
+
+/// Adds amounts up to the first without room or whose total overflows.
+/// The error is the index of that one.
+#[tactic(auto, using(micromap::proofs::Rules::lists, std::proofs::lemmas::Grind::common_steps))]
+pub fn add_before<const N: usize>(
+    totals: &mut Map<u8, u32, N>,
+    amounts: &[(u8, u32)],
+) -> Result<(), usize>
+    ensures all { OnOk result (totals.new ≡ merged nat_eq sum totals.old amounts.now) }
+    ensures before { IfErr result (λ at. totals.new ≡ merged nat_eq sum totals.old (take at amounts.now)) }
+    ensures stops { IfErr result (MergeStopsAt nat_eq sum (is_summed N) totals.old amounts.now) }
+{
+    let mut index = 0;
+    for (number, amount) in amounts {
+        if !totals.fits(number) {
+            return Err(index);
+        }
+        let total = totals.get(number).copied().unwrap_or(0);
+        let Some(sum) = total.checked_add(*amount) else {
+            return Err(index);
+        };
+        totals.insert(*number, sum);
+        index += 1;
+    }
+    Ok(())
+}
+
+/// Adds the amounts of another map to the totals of a map.
+/// A total stays at the greatest number. Of `false` the contract says nothing.
+pub fn add_map<const N: usize, const M: usize>(
+    totals: &mut Map<u8, u32, N>,
+    amounts: &Map<u8, u32, M>,
+) -> bool
+    ensures { OnTrue result (totals.new ≡ merged nat_eq saturated_sum totals.old amounts.now) }
+{
+    for (number, amount) in amounts {
+        let total = totals.get(number).copied().unwrap_or(0);
+        if totals
+            .checked_insert(*number, total.saturating_add(*amount))
+            .is_none()
+        {
+            return false;
+        }
+    }
+    true
+}
+
+/// Adds the amounts of a `Vec` by value.
+/// A total stays at the greatest number. Of `false` the contract says nothing.
+pub fn add_vector<const N: usize>(totals: &mut Map<u8, u32, N>, amounts: Vec<(u8, u32)>) -> bool
+    ensures { OnTrue result (totals.new ≡ merged nat_eq saturated_sum totals.old (vec_items amounts)) }
+{
+    for (number, amount) in amounts {
+        let total = totals.get(&number).copied().unwrap_or(0);
+        if totals
+            .checked_insert(number, total.saturating_add(amount))
+            .is_none()
+        {
+            return false;
+        }
+    }
+    true
+}
+
+/// Adds the amounts of any iterator, up to the first without room.
+/// The error has the index of that one. A total stays at the greatest number.
+pub fn add_iterator<I: Iterator<Item = (u8, u32)>, const N: usize>(
+    totals: &mut Map<u8, u32, N>,
+    amounts: I,
+) -> Result<(), Overfull>
+    requires can { I.can_next amounts }
+    requires ends { UpTo (I.remaining amounts) most_items }
+    ensures all { OnOk result (AllItems I.next_gives amounts (λ xs. totals.new ≡ merged nat_eq saturated_sum totals.old xs)) }
+    ensures before { IfErr result (ItemsUpTo I.next_gives amounts (λ xs at. totals.new ≡ merged nat_eq saturated_sum totals.old (take at xs))) }
+    ensures stops { IfErr result (ItemsUpTo I.next_gives amounts (MergeStopsAt nat_eq saturated_sum (λ now item. fits nat_eq N now item.0) totals.old)) }
+{
+    let mut at = 0;
+    for (number, amount) in amounts {
+        if !totals.fits(&number) {
+            return Err(Overfull { at });
+        }
+        let total = totals.get(&number).copied().unwrap_or(0);
+        totals.insert(number, total.saturating_add(amount));
+        at += 1;
+    }
+    Ok(())
+}

@@ -1,0 +1,115 @@
+//! Sets as the values of a map.
+#![tactic(auto, using(micromap::proofs::Rules::caller))]
+
+ghost use Rattle.std.specs.Prelude.{◌≡◌, ◌&&◌, [], false, filter, fold, if◌then◌else◌, length, map, nat_eq, nat_le, nat_lt, not, unwrap_or};
+ghost use Rattle.std.specs.Option.{option_map_or};
+ghost use Rattle.micromap.specs.Extend.{put_all_items};
+ghost use Rattle.micromap.specs.Items.{item_fits, put_item_if_fits, take_item};
+ghost use Rattle.micromap.specs.Pairs.{at, has, put, take_out};
+
+use micromap::{Map, Set};
+
+/// Inserts an item into the set of a key, if it fits.
+/// It returns whether the key is stored and its set has room for the item.
+pub fn grant<const N: usize, const M: usize>(
+    groups: &mut Map<u8, Set<u8, M>, N>,
+    group: u8,
+    permission: u8,
+) -> bool
+    ensures answer { result ≡ option_map_or (λ s. item_fits nat_eq M s permission) (at nat_eq groups.old group) false }
+    ensures groups { groups.new ≡ option_map_or (λ s. put nat_eq groups.old group (put_item_if_fits nat_eq M s permission)) (at nat_eq groups.old group) groups.old }
+{
+    match groups.get_mut(&group) {
+        Some(permissions) => {
+            let fits = permissions.fits(&permission);
+            permissions.checked_insert(permission);
+            fits
+        }
+        None => false,
+    }
+}
+
+// Returns a set with those items of another that fit.
+#[tactic(auto)]
+fn with_items(items: &Set<u16, 8>, set: Set<u16, 8>) -> Set<u16, 8>
+    ensures { result ≡ fold (put_item_if_fits nat_eq 8) set items.now }
+{
+    items.iter().fold(set, |mut s, x| {
+        s.checked_insert(*x);
+        s
+    })
+}
+
+/// Inserts the items of a set into the set of a key.
+/// Those that don't fit are left out. It returns whether the key is stored.
+pub fn add_items(groups: &mut Map<u8, Set<u16, 8>, 16>, group: u8, items: &Set<u16, 8>) -> bool
+    ensures answer { result ≡ has nat_eq groups.old group }
+    ensures groups { groups.new ≡ option_map_or (λ s. put nat_eq groups.old group (fold (put_item_if_fits nat_eq 8) s items.now)) (at nat_eq groups.old group) groups.old }
+{
+    match groups.get_mut(&group) {
+        Some(set) => {
+            *set = with_items(items, set.copied());
+            true
+        }
+        None => false,
+    }
+}
+
+/// Moves the set of a key into that of another key.
+/// The first pair goes then. Nothing changes, and it returns `false`, if the two keys are equal, one is missing, or the
+/// items don't all fit.
+pub fn move_items(groups: &mut Map<u8, Set<u16, 8>, 16>, from: u8, into: u8) -> bool
+    ensures answer { result ≡ (not (nat_eq from into) && has nat_eq groups.old from && option_map_or (λ s. nat_le (length (put_all_items nat_eq s (unwrap_or (at nat_eq groups.old from) []))) 8) (at nat_eq groups.old into) false) }
+    ensures groups { groups.new ≡ (if result then take_out nat_eq (put nat_eq groups.old into (put_all_items nat_eq (unwrap_or (at nat_eq groups.old into) []) (unwrap_or (at nat_eq groups.old from) []))) from else groups.old) }
+{
+    if from == into {
+        return false;
+    }
+    let Some(moved) = groups.get(&from).map(|set| set.copied()) else {
+        return false;
+    };
+    let Some(set) = groups.get_mut(&into) else {
+        return false;
+    };
+    if set.try_extend_from(&moved).is_err() {
+        return false;
+    }
+    groups.remove(&from);
+    true
+}
+
+/// Takes a pair out, and its key out of each set.
+/// It returns whether the key was stored. If the capacity of the sets is a number or a constant, the closure needs no
+/// clause.
+pub fn take_built<const N: usize, const M: usize>(needs: &mut Map<u8, Set<u8, M>, N>, built: u8) -> bool
+    ensures answer { result ≡ has nat_eq needs.old built }
+    ensures needs { needs.new ≡ map (λ p. (p.0, take_item nat_eq p.1 built)) (take_out nat_eq needs.old built) }
+{
+    let was_there = needs.remove(&built).is_some();
+    needs.update_all(
+        |_: &u8, steps: &mut Set<u8, M>| -> ()
+            ensures { steps.new ≡ take_item nat_eq steps.old built }
+        {
+            steps.remove(&built);
+        },
+    );
+    was_there
+}
+
+// Keeps the permissions below a number.
+fn keep_below<const M: usize>(permissions: &mut Set<u8, M>, most: u8)
+    ensures { permissions.new ≡ filter (λ x. nat_lt x most) permissions.old }
+{
+    permissions.retain(|permission| *permission < most);
+}
+
+/// Keeps the items that pass in each set of a map.
+pub fn limit_all<const N: usize, const M: usize>(groups: &mut Map<u8, Set<u8, M>, N>, most: u8)
+    ensures { groups.new ≡ map (λ p. (p.0, filter (λ x. nat_lt x most) p.1)) groups.old }
+{
+    groups.update_all(
+        |_: &u8, permissions: &mut Set<u8, M>| -> ()
+            ensures { permissions.new ≡ filter (λ x. nat_lt x most) permissions.old }
+        { keep_below(permissions, most) },
+    );
+}

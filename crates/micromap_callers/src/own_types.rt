@@ -1,0 +1,68 @@
+//! Enums and structs with a derived `==` as values or keys.
+#![tactic(auto, using(micromap::proofs::Rules::caller))]
+
+ghost use Rattle.std.specs.Prelude.{◌≡◌, IfSome, Some, nat_eq};
+ghost use Rattle.std.specs.List.{list_any};
+ghost use Rattle.std.specs.Map.{values_of};
+ghost use Rattle.micromap.specs.Pairs.{at};
+ghost use Rattle.micromap_callers.specs.Permissions.{permission_eq};
+
+use micromap::Map;
+
+/// What a user may do.
+#[derive(Debug, Clone, Copy, PartialEq, Eq)]
+pub enum Permission {
+    /// To read.
+    Read,
+    /// To change what is there.
+    Write,
+}
+
+/// A square of a board.
+#[derive(Debug, Clone, Copy, PartialEq, Eq)]
+pub struct Square {
+    /// Its row.
+    pub row: u8,
+    /// Its column.
+    pub column: u8,
+}
+
+/// Returns whether a certain value of an enum is stored.
+/// The contract names the derived `==` by a word of one's own, `permission_eq`. A clause of a closure refuses
+/// `⟦<Permission as PartialEq>⟧.eq`.
+pub fn is_held<const N: usize>(holders: &Map<u8, Permission, N>, permission: Permission) -> bool
+    ensures { result ≡ list_any (λ held. permission_eq held permission) (values_of holders.now) }
+{
+    holders.values().any(|held| *held == permission)
+}
+
+/// Finds a key with a certain value of an enum.
+/// Then `get` finds this value at the key. Of `None` the contract says nothing. The laws of the derived `==` are in
+/// the line `tactic`.
+#[tactic(auto, using(micromap::proofs::Rules::caller, crate::proofs::PermissionLaws::lawful_permission))]
+pub fn user_with<const N: usize>(
+    holders: &Map<u8, Permission, N>,
+    permission: Permission,
+) -> Option<u8>
+    ensures { IfSome result (λ user. at nat_eq holders.now user ≡ Some permission) }
+{
+    for (user, held) in holders {
+        if *held == permission {
+            return Some(*user);
+        }
+    }
+    None
+}
+
+/// Finds a key that is a struct, by its value.
+/// Then `get` finds this value at the key. Of `None` the contract says nothing.
+pub fn square_of<const N: usize>(board: &Map<Square, char, N>, piece: char) -> Option<Square>
+    ensures { IfSome result (λ square. at ⟦<Square as PartialEq>⟧.eq board.now square ≡ Some piece) }
+{
+    for (square, stored) in board {
+        if *stored == piece {
+            return Some(*square);
+        }
+    }
+    None
+}
