@@ -11,7 +11,6 @@ pub use Rattle.micromap_core.specs.Closures
 pub use Rattle.micromap_core.specs.Entry
 pub use Rattle.micromap_core.specs.Equalities
 pub use Rattle.micromap_core.specs.Fair
-pub use Rattle.micromap_core.specs.Insert
 pub use Rattle.micromap_core.specs.Lends
 pub use Rattle.micromap_core.specs.Memory
 pub use Rattle.micromap_core.specs.Pairs

@@ -2,7 +2,6 @@ pub mod Build
 pub mod Entry
 pub mod Equalities
 pub mod Fair
-pub mod Insert
 pub mod Lends
 pub mod Memory
 pub mod Pairs

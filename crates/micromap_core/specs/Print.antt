@@ -1,6 +1,9 @@
--- The texts of a set, a map and a reading's fault. That of an item, a key, a value or a source's fault may be unknown.
+-- The texts of a set, a map, a reading's fault and an insertion's error. That of an item, a key, a value or a source's
+-- fault may be unknown.
 use Rattle.std.specs.Prelude.{ℕ, List, [], Option, Some, codes}
 use Rattle.std.specs.Fmt.{◌++?◌, debug_items}
+use Rattle.micromap_core.specs.declared.insert_error.InsertError.{InsertError}
+use Rattle.micromap_core.specs.declared.insert_error.InsertError.TheVariants.{Occupied, Full}
 use Rattle.micromap_core.specs.declared.stream.ReadFault.{ReadFault}
 use Rattle.micromap_core.specs.declared.stream.ReadFault.TheVariants.{Source, TooMany}
 
@@ -21,3 +24,8 @@ module _ {K V : Type 0} (key_text : K → Option (List ℕ)) (value_text : V →
 abbrev pub read_fault_text : {E : Type 0} → (E → Option (List ℕ)) → ReadFault E → Option (List ℕ)
 read_fault_text fault_text (Source fault) = Some (codes "the source failed: ") ++? fault_text fault
 read_fault_text fault_text TooMany = Some (codes "a pair has a new key, and there is no room for it")
+
+-- the text of an insertion's error, which doesn't have what was passed
+abbrev pub insert_error_text : {P : Type 0} → InsertError P → Option (List ℕ)
+insert_error_text (Occupied passed) = Some (codes "the key is stored already")
+insert_error_text (Full passed) = Some (codes "the key is new, and there is no room for it")

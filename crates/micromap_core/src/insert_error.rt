@@ -12,7 +12,7 @@ pub enum InsertError<P> {
 }
 
 impl<P> fmt::Display for InsertError<P> {
-    ghost use Rattle.micromap_core.specs.Insert.{insert_error_text};
+    ghost use Rattle.micromap_core.specs.Print.{insert_error_text};
 
     ghost output = { insert_error_text };
 

@@ -1,7 +1,7 @@
 //! Inserting an item.
 ghost use Rattle.std.specs.Prelude.{◌≡◌, length, nat_lt, Some, None, Ok, Err, IsTrue, not, if◌then◌else◌};
 ghost use Rattle.std.specs.Set.{is_member};
-ghost use Rattle.micromap.specs.Insert.{Occupied, Full};
+ghost use Rattle.micromap_core.specs.declared.insert_error.InsertError.TheVariants.{Occupied, Full};
 ghost use Rattle.micromap.specs.Items.{AreItems, put_item, put_item_if_fits, replace_item, find_item, item_fits};
 
 use super::{Set, item_of};

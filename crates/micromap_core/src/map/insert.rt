@@ -2,7 +2,7 @@
 #![tactic(auto, using(crate::proofs::Opened::opened_map))]
 
 ghost use Rattle.std.specs.Prelude.{◌≡◌, Some, None, Ok, Err, IsTrue, if◌then◌else◌};
-ghost use Rattle.micromap_core.specs.Insert.{Occupied, Full};
+ghost use Rattle.micromap_core.specs.declared.insert_error.InsertError.TheVariants.{Occupied, Full};
 ghost use Rattle.micromap_core.specs.Pairs.{AreContents, at, pair, fits, has, has_room, put, put_if_fits, put_key};
 
 use super::Map;
