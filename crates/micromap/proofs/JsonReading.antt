@@ -1,5 +1,5 @@
 -- A loop that reads the elements of an array, or the members of an object: one more of them, and the end of the loop.
-use Rattle.std.proofs.Common.{◌≡◌, ℕ, ◌<◌, ◌≤◌, Bool, true, false, ◌&&◌, List, [], ◌∷◌, length, Option, Some}
+use Rattle.std.proofs.Common.{◌≡◌, ℕ, ◌<◌, ◌≤◌, Bool, true, false, List, [], ◌∷◌, length, Option, Some}
 use Rattle.std.proofs.Common.{None, option_map, option_and_then, ok_or, if◌then◌else◌, Result, Ok, Err, String, string_bytes}
 use Rattle.std.proofs.Common.{bytes_eq, string_cmp, Global, ℤ, refl, ap, sym, subst, ◌∙◌, arith, string_eq}
 use Rattle.std.proofs.Common.{lt-ltb, le-ltb, ltb-false}
@@ -50,6 +50,17 @@ module _ {B : Type 0} {put : List B → B → List B} {N : ℕ} {fault : JsonFau
     pub not_read : next ≡ None → answer ≡ Err fault
     not_read is = sym has.is ∙ rw (first, is) refl
 
+    -- one more, after one that didn't fit
+    pub read_past : all_fit ≡ false → (y : Y) → next ≡ Some y
+        → ReadsOn put N fault now all_fit later answer
+    read_past over y is = record { is = rw over (by later (rw (first, is, over) at has.is)) }
+      where
+        by : (later : Option (List B))
+            → answer_of put N fault now false (option_map (λ more. part y ∷ more) later) ≡ answer
+            → answer_of put N fault now false later ≡ answer
+        by None has = has
+        by (Some more) has = has
+
     module _ (y : Y) (is : next ≡ Some y) (grows : (c : List B) (b : B) → length c ≤ length (put c b))
       where
         grown : (c more : List B) → length c ≤ length (fold put c more)
@@ -57,14 +68,14 @@ module _ {B : Type 0} {put : List B → B → List B} {N : ℕ} {fault : JsonFau
         grown c (b ∷ more) = omega (arith, grows c b, grown (put c b) more)
 
         -- one more, which is put or doesn't fit
-        read_one : {new : List B} (fit : Bool) → (fit ≡ true → new ≡ put now (part y))
+        read_one : {new : List B} (fit : Bool) → all_fit ≡ true → (fit ≡ true → new ≡ put now (part y))
             → (fit ≡ false → N < length (put now (part y)))
-            → ReadsOn put N fault new (all_fit && fit) later answer
-        read_one {new} fit stored misfit = record { is = by later (rw (first, is) at has.is) }
+            → ReadsOn put N fault new fit later answer
+        read_one {new} fit whole stored misfit = record { is = by later (rw (first, is, whole) at has.is) }
           where
             by : (later : Option (List B))
-                → answer_of put N fault now all_fit (option_map (λ more. part y ∷ more) later) ≡ answer
-                → answer_of put N fault new (all_fit && fit) later ≡ answer
+                → answer_of put N fault now true (option_map (λ more. part y ∷ more) later) ≡ answer
+                → answer_of put N fault new fit later ≡ answer
             by None has = has
             by (Some more) has =
                 let wider = put now (part y) in
@@ -82,13 +93,18 @@ module _ {N : ℕ} {fault : JsonFault} {answer : Result (List Bytes) JsonFault} 
     {d : Data} (items : List (String Global)) {all_fit : Bool}
     (has : ReadsOn (put_item bytes_eq) N fault (item_texts items) all_fit (all_texts rest) answer)
     (first : rest ≡ item d later) (x : String Global) (is : as_str d ≡ Some (string_bytes x)) where
-  pub text_put : {new : List (String Global)} {fit : Bool} → fit ≡ item_fits string_eq N items x
-      → new ≡ put_item_if_fits string_eq N items x
-      → ReadsOn (put_item bytes_eq) N fault (item_texts new) (all_fit && fit) (all_texts later) answer
-  text_put {fit = fit} tells made =
+  pub text_past : all_fit ≡ false
+      → ReadsOn (put_item bytes_eq) N fault (item_texts items) all_fit (all_texts later) answer
+  text_past over = read_past has (λ t. t) (all_texts later) (as_str d) (ap all_texts first) over
+      (string_bytes x) is
+
+  pub text_put : {new : List (String Global)} {fit : Bool} → all_fit ≡ true
+      → fit ≡ item_fits string_eq N items x → new ≡ put_item_if_fits string_eq N items x
+      → ReadsOn (put_item bytes_eq) N fault (item_texts new) fit (all_texts later) answer
+  text_put {fit = fit} whole tells made =
       let put = item_texts_put_item string_bytes items string_eq x (λ x y. refl) in
       read_one has (λ t. t) (all_texts later) (as_str d) (ap all_texts first) (string_bytes x) is
-      (λ texts t. grind (arith, length_put_item bytes_eq texts t)) fit
+      (λ texts t. grind (arith, length_put_item bytes_eq texts t)) fit whole
       (λ fits. grind (arith, tells, made, fits, put))
       (λ misfit. grind (
         arith,
@@ -104,15 +120,21 @@ module _ {N : ℕ} {fault : JsonFault} {answer : Result (List (Bytes × ℤ)) Js
     (has : ReadsOn (put_pair bytes_eq) N fault (key_texts pairs) all_fit
     (whole_members (members_view rest)) answer) (first : rest ≡ (k, value) ∷ later) (n : ℤ)
     (is : whole_number (view value) ≡ Some n) where
-  pub member_put : {new : Pairs} {fit : Bool} → fit ≡ fits string_eq N pairs k
-      → new ≡ put_if_fits string_eq N pairs k n
-      → ReadsOn (put_pair bytes_eq) N fault (key_texts new) (all_fit && fit)
+  pub member_past : all_fit ≡ false
+      → ReadsOn (put_pair bytes_eq) N fault (key_texts pairs) all_fit
       (whole_members (members_view later)) answer
-  member_put {fit = fit} tells made =
+  member_past over = read_past has (λ i. (string_bytes k, i)) (whole_members (members_view later))
+      (whole_number (view value)) (ap (λ es. whole_members (members_view es)) first) over n is
+
+  pub member_put : {new : Pairs} {fit : Bool} → all_fit ≡ true → fit ≡ fits string_eq N pairs k
+      → new ≡ put_if_fits string_eq N pairs k n
+      → ReadsOn (put_pair bytes_eq) N fault (key_texts new) fit
+      (whole_members (members_view later)) answer
+  member_put {fit = fit} whole tells made =
       let put_is = texts_put string_bytes (λ v. v) k string_eq pairs n (λ x y. refl) in
       read_one has (λ i. (string_bytes k, i)) (whole_members (members_view later))
       (whole_number (view value)) (ap (λ es. whole_members (members_view es)) first) n is
-      (λ ps p. grind (arith, length_put bytes_eq ps p.0 p.1)) fit
+      (λ ps p. grind (arith, length_put bytes_eq ps p.0 p.1)) fit whole
       (λ fits. grind (arith, tells, made, fits, put_is))
       (λ misfit. grind (
         arith,

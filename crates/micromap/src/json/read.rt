@@ -69,8 +69,8 @@ fn read(alloc: Global, text: &str) -> Result<Value, JsonFault>
     }
 }
 
-// Creates the map of these members. Each is inserted as it is looked at, if it fits. A value that is no whole number is
-// the error at once. That a member didn't fit is the error only after the last.
+// Creates the map of these members. Each is inserted as it is looked at, until one doesn't fit. A value that is no whole
+// number is the error at once. That a member didn't fit is the error only after the last.
 fn map_of_members<const N: usize>(
     members: serde_json::Map<String, Value>,
 ) -> Result<Map<String, i64, N>, JsonFault>
@@ -85,7 +85,7 @@ fn map_of_members<const N: usize>(
         let Some(whole) = whole_of(value) else {
             return Err(JsonFault::NotWhole);
         };
-        all_fit &= put(&mut map, name, whole);
+        all_fit = all_fit && put(&mut map, name, whole);
     }
     let _content = map.len();
     if all_fit {
@@ -110,8 +110,8 @@ fn put<const N: usize>(map: &mut Map<String, i64, N>, name: String, whole: i64) 
     map.checked_insert(name, whole).is_some()
 }
 
-// Creates the set of these elements. Each is inserted as it is looked at, if it fits. An element that is no text is the
-// error at once. That a text didn't fit is the error only after the last.
+// Creates the set of these elements. Each is inserted as it is looked at, until one doesn't fit. An element that is no
+// text is the error at once. That a text didn't fit is the error only after the last.
 fn set_of_elements<const N: usize>(elements: Vec<Value>) -> Result<Set<String, N>, JsonFault>
     ensures texts { IfOk result (λ set. texts_in N (items_view elements.items) ≡ Ok (item_texts set)) }
     ensures fault { IfErr result (λ fault. texts_in N (items_view elements.items) ≡ Err fault) }
@@ -124,7 +124,7 @@ fn set_of_elements<const N: usize>(elements: Vec<Value>) -> Result<Set<String, N
         let Some(text) = text_of(element) else {
             return Err(JsonFault::NotText);
         };
-        all_fit &= set.put(text);
+        all_fit = all_fit && set.put(text);
     }
     let _content = set.len();
     if all_fit {

@@ -2,7 +2,7 @@ use Rattle.std.proofs.Common.{sym, ap, string_bytes, arith, rules}
 use Rattle.serde_json.specs.View.{members_view}
 use Rattle.micromap_core.proofs.laws.TextViews.{length_texts, texts_empty}
 use Rattle.micromap.specs.Json.{whole_members}
-use Rattle.micromap.proofs.JsonReading.{member_put, members_built, not_read, read_beyond, read_whole}
+use Rattle.micromap.proofs.JsonReading.{member_past, member_put, members_built, not_read, read_beyond, read_whole}
 use Rattle.micromap.proofs.json.read.map_of_members.Goals as goal
 
 pub loop-name-init : goal.loop-name-init
@@ -16,22 +16,27 @@ returns-in_default-clause-answer g c =
     sym (not_read c.loop-name.invariant (λ i. (string_bytes c.in-Some.name, i)) _ _
     (ap (λ es. whole_members (members_view es)) c.in-Some.ensures.steps) (search rules))
 
+pub loop-name-preserved-then-all_fit : goal.loop-name-preserved-then-all_fit
+loop-name-preserved-then-all_fit g c =
+    member_put _ c.loop-name.invariant c.in-Some.ensures.steps c.in-Some-whole_of.whole
+    (search rules) c.if-all_fit.true c.put-all_fit.ensures.answer (search rules)
+
 pub loop-name-preserved : goal.loop-name-preserved
 loop-name-preserved g c =
-    member_put _ c.loop-name.invariant c.in-Some.ensures.steps c.in-Some-whole_of.whole
-    (search rules) c.put-all_fit.ensures.answer (search rules)
+    member_past _ c.loop-name.invariant c.in-Some.ensures.steps c.in-Some-whole_of.whole
+    (search rules) c.if-all_fit.false
 
-pub returns-then-all_fit-clause-answer : goal.returns-then-all_fit-clause-answer
-returns-then-all_fit-clause-answer g c =
+pub returns-then-all_fit-2-clause-answer : goal.returns-then-all_fit-2-clause-answer
+returns-then-all_fit-2-clause-answer g c =
     sym (read_whole c.loop-name.invariant
-    (ap (λ es. whole_members (members_view es)) c.in-None.ensures.steps.0) c.if-all_fit.true
+    (ap (λ es. whole_members (members_view es)) c.in-None.ensures.steps.0) c.if-all_fit-2.true
     (omega (
       arith,
       c.len-content.ensures.content.bounded,
       length_texts string_bytes (λ v. v) c.loop-name.map,
     )))
 
-pub returns-else-all_fit-clause-answer : goal.returns-else-all_fit-clause-answer
-returns-else-all_fit-clause-answer g c =
+pub returns-else-all_fit-2-clause-answer : goal.returns-else-all_fit-2-clause-answer
+returns-else-all_fit-2-clause-answer g c =
     sym (read_beyond c.loop-name.invariant
-    (ap (λ es. whole_members (members_view es)) c.in-None.ensures.steps.0) c.if-all_fit.false)
+    (ap (λ es. whole_members (members_view es)) c.in-None.ensures.steps.0) c.if-all_fit-2.false)

@@ -2,7 +2,7 @@ use Rattle.std.proofs.Common.{refl, sym, ap, ◌∙◌, string_bytes, arith, rul
 use Rattle.std.proofs.lemmas.List.{nil_from_length}
 use Rattle.serde_json.specs.View.{items_view}
 use Rattle.micromap.specs.Json.{all_texts}
-use Rattle.micromap.proofs.JsonReading.{not_read, read_beyond, read_whole, text_put}
+use Rattle.micromap.proofs.JsonReading.{not_read, read_beyond, read_whole, text_past, text_put}
 use Rattle.micromap.proofs.laws.SetTextViews.{item_texts_empty, length_item_texts}
 use Rattle.micromap.proofs.json.read.set_of_elements.Goals as goal
 
@@ -18,26 +18,32 @@ returns-in_default-clause-fault g c =
     not_read c.loop-element.invariant (λ t. t) _ _
     (ap (λ vs. all_texts (items_view vs)) c.in-Some.ensures.steps.0) (search rules)
 
+pub loop-element-preserved-then-all_fit : goal.loop-element-preserved-then-all_fit
+loop-element-preserved-then-all_fit g c =
+    text_put _ c.loop-element.invariant (ap items_view c.in-Some.ensures.steps.0)
+    c.in-Some-text_of.text (search rules) c.if-all_fit.true c.put-all_fit.ensures.answer
+    c.put-all_fit.ensures.items
+
 pub loop-element-preserved : goal.loop-element-preserved
 loop-element-preserved g c =
-    text_put _ c.loop-element.invariant (ap items_view c.in-Some.ensures.steps.0)
-    c.in-Some-text_of.text (search rules) c.put-all_fit.ensures.answer c.put-all_fit.ensures.items
+    text_past _ c.loop-element.invariant (ap items_view c.in-Some.ensures.steps.0)
+    c.in-Some-text_of.text (search rules) c.if-all_fit.false
 
-pub returns-then-all_fit-clause-texts : goal.returns-then-all_fit-clause-texts
-returns-then-all_fit-clause-texts g c =
+pub returns-then-all_fit-2-clause-texts : goal.returns-then-all_fit-2-clause-texts
+returns-then-all_fit-2-clause-texts g c =
     read_whole c.loop-element.invariant
     (ap (λ vs. all_texts (items_view vs))
     (nil_from_length c.loop-element.element-iterator.rest.items
-    (sym c.loop-element.element-iterator.rest.ok.0 ∙ c.in-None.ensures.steps.0))) c.if-all_fit.true
+    (sym c.loop-element.element-iterator.rest.ok.0 ∙ c.in-None.ensures.steps.0))) c.if-all_fit-2.true
     (omega (
       arith,
       c.len-content.ensures.content.bounded,
       length_item_texts string_bytes c.loop-element.set,
     ))
 
-pub returns-else-all_fit-clause-fault : goal.returns-else-all_fit-clause-fault
-returns-else-all_fit-clause-fault g c =
+pub returns-else-all_fit-2-clause-fault : goal.returns-else-all_fit-2-clause-fault
+returns-else-all_fit-2-clause-fault g c =
     read_beyond c.loop-element.invariant
     (ap (λ vs. all_texts (items_view vs))
     (nil_from_length c.loop-element.element-iterator.rest.items
-    (sym c.loop-element.element-iterator.rest.ok.0 ∙ c.in-None.ensures.steps.0))) c.if-all_fit.false
+    (sym c.loop-element.element-iterator.rest.ok.0 ∙ c.in-None.ensures.steps.0))) c.if-all_fit-2.false
