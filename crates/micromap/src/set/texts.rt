@@ -13,7 +13,7 @@ impl<const N: usize> Set<String, N> {
     ///
     /// Moves each item once. Compares no item, and takes no memory.
     pub fn into_text_bufs(self) -> Set<TextBuf, N>
-        ensures answer { result ≡ item_texts self }
+        ensures answer { result ≡ item_texts self.entry }
         ensures content { IsItems bytes_eq N result }
     {
         let Set { map } = self;
@@ -28,7 +28,7 @@ impl<const N: usize> Set<TextBuf, N> {
     ///
     /// Moves each item once. Compares no item, and takes no memory.
     pub fn into_strings(self) -> Set<String, N>
-        ensures answer { item_texts result ≡ self }
+        ensures answer { item_texts result ≡ self.entry }
         ensures content { IsItems string_eq N result }
     {
         let Set { map } = self;

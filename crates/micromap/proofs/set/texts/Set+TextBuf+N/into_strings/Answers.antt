@@ -1,0 +1,12 @@
+use Rattle.std.proofs.Common.{refl, ap, sym, ◌∙◌, string_bytes}
+use Rattle.std.specs.Map.{keys_of}
+use Rattle.micromap_core.proofs.laws.TextViews.{keys_texts}
+use Rattle.micromap.proofs.ItemLemmas.{content_items}
+use Rattle.micromap.proofs.set.texts.Set+TextBuf+N.into_strings.Goals as goal
+
+pub returns : goal.returns
+returns g c = record {
+  answer = sym (keys_texts string_bytes (λ v. v) c.into_strings.result)
+      ∙ ap keys_of c.into_strings.ensures.answer ∙ c.self.view_is;
+  content = content_items refl c.into_strings.ensures.content;
+}
