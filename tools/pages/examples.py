@@ -14,7 +14,7 @@ EXAMPLES = {
     "Map: build and convert": "micromap_callers/src/building.rt: pub fn map_of_list",
     "Set: make": "micromap_callers/src/copying.rt: pub fn gathered",
     "Set: look up": "micromap_callers/src/asking.rt: pub fn all_stored",
-    "Set: look up by probe": "micromap_callers/src/texts.rt: pub fn all_enabled",
+    "Set: look up by probe": "micromap_callers/src/texts.rt: pub fn has_all",
     "Set: remove": "micromap_uses/src/permissions.rt: pub fn revoke",
     "Set: iterate": "micromap_callers/src/counting.rt: pub fn count_known",
     "Set: compare": "micromap_uses/src/permissions.rt: pub fn may_the_same",

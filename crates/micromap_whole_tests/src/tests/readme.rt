@@ -1,5 +1,5 @@
 //! The code of the README, and the examples of doc comments.
-use micromap::{InsertError, Map, Overfull, Set, Text};
+use micromap::{InsertError, Map, Overfull, Set, Text, TextBuf};
 use std::alloc::AllocError;
 
 #[test]
@@ -43,8 +43,8 @@ fn entries_and_closures(rt: HostRuntime) {
 #[test]
 fn a_text_finds_its_key(rt: HostRuntime) -> Result<(), AllocError> {
     let alloc = rt.alloc();
-    let mut ages: Map<String, u8, 4> = Map::new();
-    ages.checked_insert(String::from_str(alloc, "Ada")?, 7);
+    let mut ages: Map<TextBuf, u8, 4> = Map::new();
+    ages.checked_insert(TextBuf::new(alloc, "Ada")?, 7);
     assert_eq!(rt; ages.get_by(&Text("Ada")), Some(&7));
     Ok(())
 }
