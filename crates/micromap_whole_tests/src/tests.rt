@@ -13,5 +13,6 @@ mod printing;
 mod readme;
 mod set;
 mod streams;
+mod texts;
 mod uses;
 mod writers;
