@@ -1,4 +1,3 @@
-pub mod ChainItems
 pub mod ChainLaws
 pub mod FoundLaws
 pub mod ItemCounts
@@ -15,7 +14,6 @@ pub use Rattle.micromap_core.proofs.laws.Laws
 pub use Rattle.micromap_core.proofs.laws.LoopLaws
 pub use Rattle.micromap_core.proofs.laws.MapLaws
 pub use Rattle.micromap_core.proofs.laws.MergeLaws
-pub use Rattle.micromap_core.proofs.laws.MisfitLemmas
 pub use Rattle.micromap_core.proofs.laws.ProbedLaws
 pub use Rattle.micromap_core.proofs.laws.SumLaws
 pub use Rattle.micromap_core.proofs.laws.TextLemmas

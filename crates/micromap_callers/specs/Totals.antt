@@ -1,7 +1,6 @@
 -- What the callers in `merging.rt` merge: amounts of numbers, and members of groups.
-use Rattle.std.specs.Prelude.{ℕ, ◌+◌, ◌-◌, ◌^◌, ◌&&◌, max, min, nat_eq, nat_lt, Bool, List, [], Option, unwrap_or}
+use Rattle.std.specs.Prelude.{ℕ, ◌+◌, ◌-◌, ◌^◌, max, min, nat_eq, List, [], Option, unwrap_or}
 use Rattle.micromap.specs.Items.{put_item_if_fits}
-use Rattle.micromap.specs.Pairs.{at, fits}
 
 -- a total with one amount more
 abbrev pub sum : Option ℕ → ℕ → ℕ
@@ -14,10 +13,6 @@ saturated_sum total amount = min (sum total amount) (2 ^ 32 - 1)
 -- the greater of the amount that is stored, if any, and another
 abbrev pub greater : Option ℕ → ℕ → ℕ
 greater stored amount = max (unwrap_or stored amount) amount
-
--- whether the number fits and its total has 32 bits
-abbrev pub is_summed : ℕ → List (ℕ × ℕ) → ℕ × ℕ → Bool
-is_summed N totals item = fits nat_eq N totals item.0 && nat_lt (sum (at nat_eq totals item.0) item.1) (2 ^ 32)
 
 -- the members of a group with one more, unless there are M others
 abbrev pub with_member : ℕ → Option (List ℕ) → ℕ → List ℕ

@@ -1,13 +1,13 @@
 //! Building from a list.
 #![tactic(auto, using(micromap::proofs::Rules::caller))]
 
-ghost use Rattle.std.specs.Prelude.{◌≡◌, ◌↔◌, ◌<◌, ◌≤◌, ◌++◌, ◌/◌, [], List, ℕ, IfErr, IfOk, IfSome, IsErr, IsFalse, IsNone, OnOk, fold, length, map, nat_eq, reverse};
+ghost use Rattle.std.specs.Prelude.{◌≡◌, ◌↔◌, ◌<◌, ◌≤◌, ◌++◌, ◌/◌, [], List, ℕ, IfOk, IfSome, IsFalse, IsNone, OnOk, fold, length, map, nat_eq, reverse};
 ghost use Rattle.std.specs.Bool.{OnTrue};
 ghost use Rattle.std.specs.List.{zip};
 ghost use Rattle.std.specs.Map.{keys_of};
 ghost use Rattle.std.specs.Option.{option_or};
 ghost use Rattle.std.specs.Set.{distinct_count};
-ghost use Rattle.micromap.specs.Build.{MisfitIn, build, build_or_refuse, put_all, put_pair_if_fits};
+ghost use Rattle.micromap.specs.Build.{build, build_or_refuse, put_all, put_pair_if_fits};
 ghost use Rattle.micromap.specs.Extend.{distinct, distinct_or_refuse};
 ghost use Rattle.micromap.specs.Memory.{MapFits};
 ghost use Rattle.micromap.specs.Pairs.{at, put_if_fits};
@@ -62,18 +62,6 @@ pub fn distinct_halves<const N: usize>(list: &[u8]) -> Option<Set<u8, N>>
     all_halves(list)
 }
 
-/// Makes a map of what a function makes, or says which failed.
-/// The error has the index of the first item that had no room. A list of pairs by `copied()` goes the same way, with
-/// `YieldsList-from_copied` in the place of `YieldsList-from_map`, and a set by `items_refused_of`.
-#[tactic(auto)]
-pub fn map_of_mapped<const N: usize>(list: &[u8]) -> Result<Map<u8, u8, N>, Overfull>
-    ensures built { IfOk result (λ m. m ≡ build nat_eq (map (λ x. (x, x / 2)) list.now)) }
-    ensures misfit { IfErr result (λ e. MisfitIn nat_eq N [] (map (λ x. (x, x / 2)) list.now) e.at) }
-    ensures refused { IsErr result ↔ (N < distinct_count nat_eq (keys_of (map (λ x. (x, x / 2)) list.now))) }
-{
-    Map::try_from_iter(list.iter().map(|x| (*x, *x / 2)))
-}
-
 /// Makes a map of what a function makes of each item that fits.
 /// A set of items goes the same way, by `Set::from_fitting` and `put_item_if_fits`.
 #[tactic(auto)]
@@ -108,16 +96,6 @@ pub fn put_list<const N: usize>(
     ensures { OnOk result (pairs.new ≡ put_all nat_eq pairs.old list.now) }
 {
     pairs.try_extend(list.iter().copied())
-}
-
-/// Puts pairs into a map, and knows when it is refused.
-/// All pairs would be more than `N` then. A list of items goes the same way into a set, by `refused_is_many` of
-/// `ItemCounts`.
-pub fn put_pairs<const N: usize>(map: &mut Map<u8, u8, N>, pairs: &[(u8, u8)]) -> Result<(), Overfull>
-    ensures put { OnOk result (map.new ≡ put_all nat_eq map.old pairs.now) }
-    ensures refused { IfErr result (λ _. N < length (put_all nat_eq map.old pairs.now)) }
-{
-    map.try_extend(pairs.iter().copied())
 }
 
 /// Puts pairs into a map in a loop, until one doesn't fit.

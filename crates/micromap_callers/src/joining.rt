@@ -27,18 +27,6 @@ pub fn reprice<const N: usize, const M: usize>(
     prices.try_extend_from(new).is_ok()
 }
 
-/// Puts a map into another, up to the first pair that doesn't fit.
-/// From a map of a known capacity `other.copied().into_iter()` needs no answer, under the line of this file.
-#[tactic(auto)]
-pub fn put_copies<const N: usize, const M: usize>(
-    pairs: &mut Map<u8, u8, N>,
-    other: &Map<u8, u8, M>,
-) -> Result<(), Overfull>
-    ensures { OnOk result (pairs.new ≡ put_all nat_eq pairs.old other.now) }
-{
-    pairs.try_extend(other.iter().map(|(k, v)| (*k, *v)))
-}
-
 // Puts all pairs of another map if it returns `true`. If it returns `false`, they would be more than `N`.
 #[tactic(auto, using(micromap::proofs::Rules::loops))]
 fn add_all<const N: usize, const M: usize>(

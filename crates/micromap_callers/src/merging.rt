@@ -1,18 +1,17 @@
 //! Counts, totals and groups.
 #![tactic(auto, using(micromap::proofs::Rules::lists))]
 
-ghost use Rattle.std.specs.Prelude.{◌≡◌, ◌↔◌, ◌+◌, ◌-◌, ◌^◌, ◌<◌, [], List, ℕ, IfErr, IfSome, IsFalse, IsNone, OnOk, Some, filter, fold, if◌then◌else◌, length, min, nat_eq, take, unwrap_or};
+ghost use Rattle.std.specs.Prelude.{◌≡◌, ◌↔◌, ◌+◌, ◌-◌, ◌^◌, ◌<◌, [], List, ℕ, IfSome, IsFalse, IsNone, Some, filter, fold, if◌then◌else◌, length, min, nat_eq, unwrap_or};
 ghost use Rattle.std.specs.Bool.{OnTrue};
-ghost use Rattle.std.specs.Iterator.{UpTo};
 ghost use Rattle.std.specs.Map.{keys_of, values_of};
 ghost use Rattle.std.specs.Set.{distinct_count};
 ghost use Rattle.std.specs.Vec.{vec_items};
-ghost use Rattle.micromap.specs.Build.{AllItems, ItemsUpTo, MergeStopsAt, counts, counts_or_refuse, merged, most_items};
+ghost use Rattle.micromap.specs.Build.{counts, counts_or_refuse, merged};
 ghost use Rattle.micromap.specs.Extend.{put_all_items};
 ghost use Rattle.micromap.specs.Pairs.{at, fits, put};
-ghost use Rattle.micromap_callers.specs.Totals.{greater, is_summed, saturated_sum, sum, with_member};
+ghost use Rattle.micromap_callers.specs.Totals.{greater, saturated_sum, with_member};
 
-use micromap::{Map, Overfull, Set};
+use micromap::{Map, Set};
 
 // What `counts_or_none` returns, in the word of `counts_of`.
 #[tactic(auto, unfolding(micromap_core::specs::Build::counts_or_refuse))]
@@ -140,32 +139,6 @@ pub fn keep_greatest<const N: usize>(greatest: &mut Map<u8, u32, N>, amounts: &[
     true
 }
 
-/// Adds amounts up to the first without room or whose total overflows.
-/// The error is the index of that one.
-#[tactic(auto, using(micromap::proofs::Rules::lists, std::proofs::lemmas::Grind::common_steps))]
-pub fn add_before<const N: usize>(
-    totals: &mut Map<u8, u32, N>,
-    amounts: &[(u8, u32)],
-) -> Result<(), usize>
-    ensures all { OnOk result (totals.new ≡ merged nat_eq sum totals.old amounts.now) }
-    ensures before { IfErr result (λ at. totals.new ≡ merged nat_eq sum totals.old (take at amounts.now)) }
-    ensures stops { IfErr result (MergeStopsAt nat_eq sum (is_summed N) totals.old amounts.now) }
-{
-    let mut index = 0;
-    for (number, amount) in amounts {
-        if !totals.fits(number) {
-            return Err(index);
-        }
-        let total = totals.get(number).copied().unwrap_or(0);
-        let Some(sum) = total.checked_add(*amount) else {
-            return Err(index);
-        };
-        totals.insert(*number, sum);
-        index += 1;
-    }
-    Ok(())
-}
-
 /// Adds the amounts of another map to the totals of a map.
 /// A total stays at the greatest number. Of `false` the contract says nothing.
 pub fn add_map<const N: usize, const M: usize>(
@@ -201,28 +174,4 @@ pub fn add_vector<const N: usize>(totals: &mut Map<u8, u32, N>, amounts: Vec<(u8
         }
     }
     true
-}
-
-/// Adds the amounts of any iterator, up to the first without room.
-/// The error has the index of that one. A total stays at the greatest number.
-pub fn add_iterator<I: Iterator<Item = (u8, u32)>, const N: usize>(
-    totals: &mut Map<u8, u32, N>,
-    amounts: I,
-) -> Result<(), Overfull>
-    requires can { I.can_next amounts }
-    requires ends { UpTo (I.remaining amounts) most_items }
-    ensures all { OnOk result (AllItems I.next_gives amounts (λ xs. totals.new ≡ merged nat_eq saturated_sum totals.old xs)) }
-    ensures before { IfErr result (ItemsUpTo I.next_gives amounts (λ xs at. totals.new ≡ merged nat_eq saturated_sum totals.old (take at xs))) }
-    ensures stops { IfErr result (ItemsUpTo I.next_gives amounts (MergeStopsAt nat_eq saturated_sum (λ now item. fits nat_eq N now item.0) totals.old)) }
-{
-    let mut at = 0;
-    for (number, amount) in amounts {
-        if !totals.fits(&number) {
-            return Err(Overfull { at });
-        }
-        let total = totals.get(&number).copied().unwrap_or(0);
-        totals.insert(number, total.saturating_add(amount));
-        at += 1;
-    }
-    Ok(())
 }

@@ -6,7 +6,6 @@ pub mod Laws
 pub mod LoopLaws
 pub mod MapLaws
 pub mod MergeLaws
-pub mod MisfitLemmas
 pub mod ProbedLaws
 pub mod SumLaws
 pub mod TextLemmas

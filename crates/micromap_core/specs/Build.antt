@@ -117,11 +117,3 @@ module _ {K V W : Type 0} (eq : K → K → Bool) (step : Option V → W → V) 
   -- the pairs once these items are merged one after the other: a stored key keeps its index, a new one goes last
   unfoldable pub merged : List (K × V) → List (K × W) → List (K × V)
   merged pairs items = fold merge_pair pairs items
-
-  -- whether each item passes the test of the pairs that it is merged into
-  unfoldable pub all_merge : (List (K × V) → K × W → Bool) → List (K × V) → List (K × W) → Bool
-  all_merge test pairs items = each_fits test merge_pair pairs items
-
-  -- `StopsAt` of a merge: the first of the items that doesn't pass stands at the position
-  abbrev pub MergeStopsAt : (List (K × V) → K × W → Bool) → List (K × V) → List (K × W) → ℕ → Type 0
-  MergeStopsAt test pairs items position = IsTrue (all_merge test pairs (take position items)) × IsTrue (not (all_merge test pairs (take (position + 1) items)))

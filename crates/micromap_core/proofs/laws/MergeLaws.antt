@@ -1,23 +1,20 @@
 -- For callers: what a map has into which a loop merges values (`merged`): after one item more, at each key, and how many
 -- keys there are. The ruleset is a part of `lists` of `Rules`.
-use Rattle.std.proofs.Common.{◌≡◌, ℕ, ◌+◌, ◌<◌, ◌≤◌, ◌&&◌, ◌||◌, Bool, true, false, List, [], ◌∷◌, ◌++◌, filter}
-use Rattle.std.proofs.Common.{length, map, get_or, take, Option, Some, None, IsTrue, refl, ap, sym, ◌∙◌}
+use Rattle.std.proofs.Common.{◌≡◌, ℕ, ◌+◌, ◌<◌, ◌≤◌, ◌||◌, Bool, true, false, List, [], ◌∷◌, ◌++◌, filter}
+use Rattle.std.proofs.Common.{length, map, get_or, take, Option, Some, refl, ap, sym, ◌∙◌}
 use Rattle.std.proofs.Common.{arith, unwrap_or, fold}
-use Rattle.std.specs.Iterator.{Yields}
-use Rattle.std.specs.Iterator.Runs.{SomeRun, WholeRun}
 use Rattle.std.specs.Map.{keys_of, values_of}
 use Rattle.std.specs.Set.{distinct_count}
-use Rattle.std.proofs.iter.runs.Made.{run_of_exit}
-use Rattle.std.proofs.lemmas.List.{map-append, nil_from_length, take_all, take_more}
+use Rattle.std.proofs.lemmas.List.{map-append, nil_from_length, take_all}
 use Rattle.std.proofs.lemmas.List.Folds.{fold-map}
 use Rattle.std.proofs.lemmas.List.Sums.{fold-append, fold_more, fold_push}
 use Rattle.std.proofs.lemmas.Map.Entries.{length-keys_of}
 use Rattle.std.proofs.lemmas.Map.Made.{is_some-lookup}
-use Rattle.micromap_core.specs.Build.{all_merge, count_one, counts, merge_pair, merged, MergeStopsAt}
+use Rattle.micromap_core.specs.Build.{count_one, counts, merge_pair, merged}
 use Rattle.micromap_core.specs.Equalities.{Lawful}
 use Rattle.micromap_core.specs.Pairs.{at, fits, has, IsUnique}
-use Rattle.micromap_core.proofs.BuildLemmas.{distinct-fold, each_fits-push, fold_beyond, fold_grows, length-fold, member-fold}
-use Rattle.micromap_core.proofs.BuildLemmas.{put_stops_at, puts_keyed, run_up_to, HasPut, IsKeyed}
+use Rattle.micromap_core.proofs.BuildLemmas.{distinct-fold, fold_beyond, fold_grows, length-fold, member-fold}
+use Rattle.micromap_core.proofs.BuildLemmas.{puts_keyed, IsKeyed}
 use Rattle.micromap_core.proofs.Lists.{all_read, taken_read}
 use Rattle.micromap_core.proofs.laws.Equalities.{of_lawful}
 use Rattle.micromap_core.proofs.laws.MapLaws.{at_alike, at_put, unique_empty}
@@ -132,69 +129,6 @@ module _ {K V W : Type 0} (eq : K → K → Bool) (step : Option V → W → V) 
     merged_push_map x = ap (merged eq step pairs) (map-append read items (x ∷ []))
         ∙ merged_push pairs (map read items) (read x)
 
-  -- whether each item passes a test when it is merged
-  module _ (test : List (K × V) → K × W → Bool) (pairs : List (K × V)) where
-    pub all_merge_none : all_merge eq step test pairs [] ≡ true
-    unfolding all_merge
-    all_merge_none = refl
-
-    pub all_merge_first : (item : K × W) (items : List (K × W))
-        → all_merge eq step test pairs (item ∷ items)
-        ≡ (test pairs item && all_merge eq step test (merge_pair eq step pairs item) items)
-    unfolding all_merge
-    all_merge_first item items = refl
-
-    pub all_merge_push : (items : List (K × W)) (item : K × W)
-        → all_merge eq step test pairs (items ++ item ∷ [])
-        ≡ (all_merge eq step test pairs items && test (merged eq step pairs items) item)
-    unfolding all_merge merged
-    all_merge_push items item = each_fits-push test (merge_pair eq step) pairs items item
-
-    all_merge_take : (items : List (K × W)) (i : ℕ) (d : K × W) → i < length items
-        → all_merge eq step test pairs (take (i + 1) items)
-        ≡ (all_merge eq step test pairs (take i items)
-        && test (merged eq step pairs (take i items)) (get_or items i d))
-    all_merge_take items i d within = ap (all_merge eq step test pairs) (take_more items i d within)
-        ∙ all_merge_push (take i items) (get_or items i d)
-
-  -- the items of an iterator: all, those before the one at which a loop stops, and that one. `start` is the iterator of the
-  -- loop, which is `it`, and t what is left of it
-  module _ {S : Type 0} (steps : S → Option (K × W) → S → Type 0) (it start t u : S)
-      (pairs now : List (K × V)) (items : List (K × W)) (begins : start ≡ it)
-      (gave : Yields steps start items t) where
-    pub merged_run : steps t None u → now ≡ merged eq step pairs items
-        → WholeRun steps it (λ p. now ≡ merged eq step pairs p.items)
-    merged_run ends made =
-        let run = run_of_exit steps start items t gave u ends in
-        (run.0, run.1 ∙ begins, run.2, made ∙ sym (ap (merged eq step pairs) run.3.0))
-
-    module _ (x : K × W) (position : ℕ) (turns : steps t (Some x) u)
-        (counted : position ≡ length items) where
-      pub merged_run_before : now ≡ merged eq step pairs items
-          → SomeRun steps it (λ p. (p.len ≡ position + 1)
-          × (now ≡ merged eq step pairs (take position p.items)))
-      merged_run_before made =
-          let run = run_up_to steps start u items x position counted (t, gave, turns) in
-          (run.0, run.1 ∙ begins, (run.2.0, made ∙ sym (ap (merged eq step pairs) run.2.1)))
-
-      pub merged_run_stops : (test : List (K × V) → K × W → Bool) → now ≡ merged eq step pairs items
-          → IsTrue (all_merge eq step test pairs items) → test now x ≡ false
-          → SomeRun steps it (λ p. (p.len ≡ position + 1)
-          × MergeStopsAt eq step test pairs p.items position)
-      unfolding all_merge merged
-      merged_run_stops test made passed fails =
-          let run = run_up_to steps start u items x position counted (t, gave, turns) in
-          let has : HasPut test (merge_pair eq step) pairs items position now =
-          record { fit = passed; made = made; position_is = counted } in (
-            run.0,
-            run.1 ∙ begins,
-            (
-              run.2.0,
-              put_stops_at test (merge_pair eq step) pairs items position now x has fails
-                  run.0.items run.2.1 run.2.2,
-            ),
-          )
-
   -- what a search needs, at once: of all items, and of the first so many, also where a function reads them
   pub each_merged : (pairs : List (K × V)) (items : List (K × W)) → Lawful eq
       → (merged eq step pairs items ≡ merged eq step pairs items)
@@ -263,41 +197,6 @@ module _ {K V W : Type 0} (eq : K → K → Bool) (step : Option V → W → V) 
             → length (made first) < length (made (map read items))) (all.3 laws unique),
       )
 
-  pub each_all_merge_take :
-      (test : List (K × V) → K × W → Bool) (pairs : List (K × V)) (items : List (K × W)) (i : ℕ)
-      → (all_merge eq step test pairs (take i items) ≡ all_merge eq step test pairs (take i items))
-      × (length items ≤ i → all_merge eq step test pairs (take i items)
-      ≡ all_merge eq step test pairs items)
-      × ((d : K × W) → i < length items
-      → all_merge eq step test pairs (take (i + 1) items)
-      ≡ (all_merge eq step test pairs (take i items)
-      && test (merged eq step pairs (take i items)) (get_or items i d)))
-  each_all_merge_take test pairs items i = (
-    refl,
-    λ over. ap (all_merge eq step test pairs) (take_all i items over),
-    all_merge_take test pairs items i,
-  )
-
-  pub each_all_merge_take_map :
-      {X : Type 0} (read : X → K × W) (test : List (K × V) → K × W → Bool) (pairs : List (K × V))
-      (items : List X) (i : ℕ)
-      → (all_merge eq step test pairs (map read (take i items))
-      ≡ all_merge eq step test pairs (map read (take i items)))
-      × (length items ≤ i → all_merge eq step test pairs (map read (take i items))
-      ≡ all_merge eq step test pairs (map read items))
-      × ((d : X) → i < length items
-      → all_merge eq step test pairs (map read (take (i + 1) items))
-      ≡ (all_merge eq step test pairs (map read (take i items))
-      && test (merged eq step pairs (map read (take i items))) (read (get_or items i d))))
-  each_all_merge_take_map read test pairs items i =
-      let passes = all_merge eq step test pairs in
-      let all = each_all_merge_take test pairs (map read items) i in (
-        refl,
-        all_read read items i (λ l. passes l ≡ passes (map read items)) all.1,
-        taken_read read items i (λ first more item. passes more
-            ≡ (passes first && test (merged eq step pairs first) item)) all.2,
-      )
-
 -- a counter
 module _ {K : Type 0} (eq : K → K → Bool) where
   pub merged_counts : {W : Type 0} (items : List (K × W))
@@ -311,14 +210,9 @@ pub ruleset merge_laws = (
   merged_append,
   merged_push,
   merged_push_map,
-  all_merge_none,
-  all_merge_first,
-  all_merge_push,
   each_merged,
   each_merged_end,
   each_merged_take,
   each_merged_take_map,
-  each_all_merge_take,
-  each_all_merge_take_map,
   unique_empty,
 )

@@ -1,24 +1,14 @@
-//! Maps and sets built from items, what is said of the first that doesn't fit, and a caller's proof over the items.
-ghost use Rattle.std.specs.Prelude.{◌≡◌, [], IfErr, IfOk, nat_eq};
-ghost use Rattle.std.specs.Vec.{vec_items};
-ghost use Rattle.micromap.specs.Build.{build, MisfitIn};
+//! Maps and sets built from items, and what is said of the first that doesn't fit.
+ghost use Rattle.std.specs.Prelude.{[]};
 
 use micromap::{InsertError, Map, Overfull, Set};
 use micromap_testing::{Counted, Counts, debugs, displays, holds};
 use std::alloc::AllocError;
 
-// The map of these items, or the place of the first that doesn't fit.
-fn of_items<const N: usize>(items: Vec<(u8, u8)>) -> Result<Map<u8, u8, N>, Overfull>
-    ensures built { IfOk result (λ map. map ≡ build nat_eq (vec_items items)) }
-    ensures misfit { IfErr result (λ e. MisfitIn nat_eq N [] (vec_items items) e.at) }
-{
-    Map::try_from_iter(items.into_iter())
-}
-
 #[test]
 fn a_vector_becomes_a_map(rt: HostRuntime) -> Result<(), AllocError> {
     let items = vec![in rt.alloc(); (1, 10), (2, 20), (1, 11)]?;
-    let map: Result<Map<u8, u8, 2>, Overfull> = of_items(items);
+    let map: Result<Map<u8, u8, 2>, Overfull> = Map::try_from_iter(items.into_iter());
     assert!(rt; map.is_ok_and(|map| map.into_iter().eq([(1, 11), (2, 20)])));
     Ok(())
 }

@@ -1,25 +1,14 @@
-//! A map that is given items, and a caller's proof over the items. A map and a set that are given another one whole.
-ghost use Rattle.std.specs.Prelude.{◌≡◌, IfErr, IfOk, nat_eq};
-ghost use Rattle.std.specs.Vec.{vec_items};
-ghost use Rattle.micromap.specs.Build.{put_all, PutsBefore};
+//! A map that is given items. A map and a set that are given another one whole.
 
 use micromap::{Map, Overfull, Set};
 use std::alloc::AllocError;
-
-// Inserts these items, or those before the first that doesn't fit, whose position is returned.
-fn put_items<const N: usize>(map: &mut Map<u8, u8, N>, items: Vec<(u8, u8)>) -> Result<(), Overfull>
-    ensures all { IfOk result (λ _. map.new ≡ put_all nat_eq map.old (vec_items items)) }
-    ensures before { IfErr result (λ e. PutsBefore nat_eq N map.old map.new (vec_items items) e.at) }
-{
-    map.try_extend(items.into_iter())
-}
 
 #[test]
 fn a_map_is_extended(rt: HostRuntime) -> Result<(), AllocError> {
     let mut map: Map<u8, u8, 3> = Map::new();
     map.checked_insert(1, 10);
     let items = vec![in rt.alloc(); (2, 20), (1, 11), (3, 30)]?;
-    assert!(rt; put_items(&mut map, items) == Ok(()));
+    assert!(rt; map.try_extend(items.into_iter()) == Ok(()));
     assert!(rt; map.drain().eq([(1, 11), (2, 20), (3, 30)]));
     assert!(rt; map.try_extend([].into_iter()) == Ok(()));
     assert!(rt; map.is_empty());

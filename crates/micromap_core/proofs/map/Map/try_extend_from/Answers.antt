@@ -1,10 +1,21 @@
-use Rattle.std.proofs.Common.{length, ap, refl, arith}
+use Rattle.std.proofs.Common.{ℕ, ◌<◌, Bool, List, length, ap, refl, subst, arith}
+use Rattle.std.proofs.lemmas.Map.Entries.{length-keys_of}
 use Rattle.std.proofs.lemmas.Bool.{false≢true}
-use Rattle.micromap_core.specs.Build.{pair_fits, put_pair}
-use Rattle.micromap_core.proofs.BuildLemmas.{fits_checked}
-use Rattle.micromap_core.proofs.laws.MisfitLemmas.{stopped_many}
+use Rattle.micromap_core.specs.Build.{pair_fits, put_all, put_pair, MisfitIn}
+use Rattle.micromap_core.specs.Pairs.{IsContent}
+use Rattle.micromap_core.proofs.BuildLemmas.{fits_checked, many_left, pairs_keyed}
+use Rattle.micromap_core.proofs.laws.Equalities.{of_lawful}
 use Rattle.micromap_core.proofs.PutLemmas.{put_counted, put_ends, put_goes_on, put_starts, put_stops}
 use Rattle.micromap_core.proofs.map.Map.try_extend_from.Goals as goal
+
+-- where one of the items doesn't fit, what would be put is more than there is room for
+stopped_many : {K V : Type 0} {eq : K → K → Bool} {N : ℕ} {pairs : List (K × V)}
+    → IsContent eq N pairs → (items : List (K × V)) (at : ℕ) → MisfitIn eq N pairs items at
+    → N < length (put_all eq pairs items)
+stopped_many {eq = eq} {N = N} {pairs = pairs} content items at stops =
+    subst (λ n. N < n) (length-keys_of (put_all eq pairs items))
+    (many_left (of_lawful eq content.lawful) (pairs_keyed eq N) pairs items (at + 1) content.unique
+    (omega (arith, length-keys_of pairs, content.bounded)) stops.1)
 
 pub loop-key-init : goal.loop-key-init
 loop-key-init g c =
