@@ -15,8 +15,8 @@ impl<K: Eq, V, const N: usize> Map<K, V, N> {
     /// Returns a reference to the value of the key that matches, or `None` if none does. Makes one scan.
     ///
     /// ```
-    /// let mut ages: Map<String, u8, 4> = Map::new();
-    /// ages.checked_insert(String::from_str(alloc, "Ada")?, 7);
+    /// let mut ages: Map<TextBuf, u8, 4> = Map::new();
+    /// ages.checked_insert(TextBuf::new(alloc, "Ada")?, 7);
     /// assert_eq!(rt; ages.get_by(&Text("Ada")), Some(&7));
     /// ```
     #[inline]
