@@ -117,7 +117,9 @@ def moved_names(sources):
     recorded = dict(reversed(line.split("\t")) for line in read(RECORD).splitlines())
     now = names(sources)
     calls = {it.removeprefix("call ") for it in recorded if it.startswith("call ") and it not in now}
+    lost = {it.removeprefix("ruleset ") for it in recorded if it.startswith("ruleset ") and it not in now}
     moved = [it for it in recorded if now.get(it) != recorded[it] and not is_clause_of(it, calls)]
+    moved = [it for it in moved if it.removeprefix("law of ruleset ").partition(": ")[0] not in lost]
     without = [it for it in moved if not has_row(it, rows) and not (it in now and has_family_row(it, rows))]
     print(f"{CHANGES}: of {len(recorded)} names that callers rest on, {len(moved)} are gone or say something else")
     said = {True: "says something else", False: "is gone"}

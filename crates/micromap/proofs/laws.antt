@@ -4,7 +4,6 @@ pub mod ItemCounts
 pub mod MergedKeys
 pub mod SetLaws
 pub mod SetLoopLaws
-pub mod SetTextLoops
 pub mod SetTextViews
 pub use Rattle.micromap_core.proofs.laws.ClosureLaws
 pub use Rattle.micromap_core.proofs.laws.ComparisonLaws
@@ -17,5 +16,4 @@ pub use Rattle.micromap_core.proofs.laws.MergeLaws
 pub use Rattle.micromap_core.proofs.laws.ProbedLaws
 pub use Rattle.micromap_core.proofs.laws.SumLaws
 pub use Rattle.micromap_core.proofs.laws.TextLemmas
-pub use Rattle.micromap_core.proofs.laws.TextLoops
 pub use Rattle.micromap_core.proofs.laws.TextViews

@@ -9,5 +9,4 @@ pub mod MergeLaws
 pub mod ProbedLaws
 pub mod SumLaws
 pub mod TextLemmas
-pub mod TextLoops
 pub mod TextViews

@@ -23,6 +23,7 @@ use Rattle.micromap_core.proofs.Views.{find-map, front-map, printed-map, remove_
 use Rattle.micromap.proofs.ItemLemmas.{any-find}
 use Rattle.micromap.proofs.OperationLaws.{same_members}
 use Rattle.micromap.proofs.laws.SetLaws.{length_put_item, put_item_back}
+use Rattle.micromap.specs.Extend.{put_all_items}
 use Rattle.micromap.specs.Items.{put_item, replace_item, find_item, take_item}
 use Rattle.micromap.specs.Operations.{difference, intersection, HaveEquals, IsDisjoint}
 
@@ -297,6 +298,27 @@ module _ (a b : List (Bor (List ℕ))) where
   pub str_disjoint : IsDisjoint bytes_eq (item_strs a) (item_strs b) → (x : Bor (List ℕ))
       → IsTrue (is_member str_eq a x) → IsFalse (is_member str_eq b x)
   str_disjoint = apart (λ s. s.now) a b
+
+-- the items once these are put
+module _ {T : Type 0} (see : T → List ℕ) where
+  module _ (eq : T → T → Bool) where
+    pub item_texts_put_all : (items xs : List T) → ComparesBy see eq
+        → items_by see (put_all_items eq items xs) ≡ put_all_items bytes_eq (items_by see items)
+        (items_by see xs)
+    unfolding items_by
+    item_texts_put_all items [] compares = refl
+    item_texts_put_all items (x ∷ xs) compares =
+        item_texts_put_all (put_item eq items x) xs compares
+        ∙ ap (λ l. put_all_items bytes_eq l (items_by see xs))
+        (item_texts_put_item see items eq x compares)
+
+  -- what is put of texts is put of their items, so that a search finds what a set extended by another has; it is named
+  -- beside the ruleset
+  pub extended_item_texts : (items xs : List T)
+      → put_all_items bytes_eq (items_by see items) (items_by see xs)
+      ≡ items_by see (put_all_items (on see bytes_eq) items xs)
+  extended_item_texts items xs =
+      sym (item_texts_put_all (on see bytes_eq) items xs (λ x y. refl))
 
 pub ruleset set_texts = (
   item_texts_empty,

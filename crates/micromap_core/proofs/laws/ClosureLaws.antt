@@ -1,4 +1,4 @@
--- For callers: what a closure that changes no capture leaves of a map, of a map with texts as keys, and of a list of items.
+-- For callers: what a closure that changes no capture leaves of a map, and of a list of items.
 -- The ruleset, which is `closures` of `Rules`, has them in a form in which a search finds them from a call's clause.
 use Rattle.std.proofs.Common.{◌≡◌, ℕ, Bool, Bor, MutBor, List, [], filter, length, map, ap, sym, ◌∙◌}
 use Rattle.std.specs.Fn.{Mut}
@@ -8,11 +8,8 @@ use Rattle.std.specs.Map.Calls.{RetainsPairs}
 use Rattle.std.proofs.lemmas.Fn.{filter_same}
 use Rattle.std.proofs.lemmas.List.{map-id}
 use Rattle.std.proofs.lemmas.Map.Made.{filter_same_pairs}
-use Rattle.std.proofs.lemmas.Simd.{map-map}
 use Rattle.micromap_core.specs.Closures.{CalledOnPair, CalledOnValue, UpdateAllTurn, UpdateDisjointTurn, updated_disjoint}
-use Rattle.micromap_core.specs.Texts.{texts_by}
 use Rattle.micromap_core.proofs.ClosureLemmas.{seen, updated_at_keys}
-use Rattle.micromap_core.proofs.laws.TextLoops.{texts_filter_by}
 
 -- `retain`
 module _ {F K V : Type 0} (T : F → K → V → Bool → V → F → Type 0) (f : F) (pairs new : List (K × V))
@@ -22,16 +19,6 @@ module _ {F K V : Type 0} (T : F → K → V → Bool → V → F → Type 0) (f
       → (b ≡ test (k, v)) × (w ≡ v) × (t ≡ f)) → new ≡ filter test pairs
   retained calls pure = filter_same_pairs T test f pure pairs new calls
 
-module _ {F K V : Type 0} (see : K → List ℕ) (T : F → K → V → Bool → V → F → Type 0) (f : F)
-    (pairs new : List (K × V)) (test : List ℕ × V → Bool) where
-  pub texts_retained : RetainsPairs T f pairs new
-      → ((k : K) (v : V) (b : Bool) (w : V) (t : F) → T f k v b w t
-      → (b ≡ test (see k, v)) × (w ≡ v) × (t ≡ f))
-      → texts_by see (λ v. v) new ≡ filter test (texts_by see (λ v. v) pairs)
-  texts_retained calls pure =
-      ap (texts_by see (λ v. v)) (retained T f pairs new (λ p. test (see p.0, p.1)) calls pure)
-      ∙ texts_filter_by see (λ k v. test (k, v)) pairs
-
 module _ {F X : Type 0} (R : F → X → Bool → F → Type 0) (f q : F) (bs : List Bool)
     (items new : List X) (test : X → Bool) where
   pub retained_items : length bs ≡ length items → ReturnsInTurn R f bs items q
@@ -39,24 +26,13 @@ module _ {F X : Type 0} (R : F → X → Bool → F → Type 0) (f q : F) (bs : 
       → ((x : X) (b : Bool) (t : F) → R f x b t → (b ≡ test x) × (t ≡ f)) → new ≡ filter test items
   retained_items long told kept pure = filter_same R test f pure items new (bs, q, long, told, kept)
 
--- `update_all`, of pairs as they are and as texts show them
+-- `update_all`
 module _ {F K V R : Type 0} (g : Mut F (Bor K × (MutBor V × Unit {0})) (R × (MutBor V × Unit {0})))
     (f last : F) (pairs new : List (K × V)) (h : K × V → K × V) where
   pub updated : FoldsTo (UpdateAllTurn g) (f, []) pairs (last, new)
       → ((k : K) (v : V) (r : R) (w : V) (t : F) → CalledOnPair g f k v r w t
       → ((k, w) ≡ h (k, v)) × (t ≡ f)) → new ≡ map h pairs
   updated turns pure = sym (map-id new) ∙ seen g f last pairs new (λ p. p) h turns pure
-
-module _ {F K V R : Type 0} (see : K → List ℕ)
-    (g : Mut F (Bor K × (MutBor V × Unit {0})) (R × (MutBor V × Unit {0}))) (f last : F)
-    (pairs new : List (K × V)) (h : List ℕ × V → List ℕ × V) where
-  pub texts_updated : FoldsTo (UpdateAllTurn g) (f, []) pairs (last, new)
-      → ((k : K) (v : V) (r : R) (w : V) (t : F) → CalledOnPair g f k v r w t
-      → ((see k, w) ≡ h (see k, v)) × (t ≡ f))
-      → texts_by see (λ v. v) new ≡ map h (texts_by see (λ v. v) pairs)
-  unfolding texts_by
-  texts_updated turns pure = seen g f last pairs new (λ p. (see p.0, p.1)) h turns pure
-      ∙ sym (map-map h (λ (p : K × V). (see p.0, p.1)) pairs)
 
 -- `update_disjoint`
 module _ {F K V R : Type 0} (eq : K → K → Bool)
@@ -67,5 +43,4 @@ module _ {F K V R : Type 0} (eq : K → K → Bool)
       → (w ≡ h i v) × (t ≡ f)) → new ≡ updated_disjoint eq h pairs keys
   updated_keys turns pure = updated_at_keys h (record { last = last; turns = turns }) pure
 
-pub ruleset closure_laws =
-    (retained, texts_retained, retained_items, updated, texts_updated, updated_keys)
+pub ruleset closure_laws = (retained, retained_items, updated, updated_keys)

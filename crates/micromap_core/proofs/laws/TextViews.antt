@@ -12,6 +12,7 @@ use Rattle.std.proofs.lemmas.List.{drop-map, length-map, map-append}
 use Rattle.std.proofs.lemmas.Simd.{map-map}
 use Rattle.std.proofs.lemmas.Slice.Eq.{bytes_eq-Decides}
 use Rattle.std.specs.Fmt.{◌++?◌}
+use Rattle.micromap_core.specs.Build.{put_all}
 use Rattle.micromap_core.specs.Pairs.{at, has, pair, put, take_out, IsUnique}
 use Rattle.micromap_core.specs.Print.{map_text, pair_text}
 use Rattle.micromap_core.specs.Probe.{is_str, is_text}
@@ -163,6 +164,25 @@ module _ {K V W : Type 0} (see : K → List ℕ) (read : V → W) where
     unfolding texts_by
     texts_clone copy clones =
         clones-map _ _ (λ p q alike i. (alike.0 i, alike.1 i)) pairs copy clones
+
+  -- the pairs once these are put
+  pub texts_put_all : (eq : K → K → Bool) (pairs items : List (K × V)) → ComparesBy see eq
+      → texts_by see read (put_all eq pairs items) ≡ put_all bytes_eq (texts_by see read pairs)
+      (texts_by see read items)
+  unfolding texts_by
+  texts_put_all eq pairs [] compares = refl
+  texts_put_all eq pairs (e ∷ items) compares =
+      texts_put_all eq (put eq pairs e.0 e.1) items compares
+      ∙ ap (λ l. put_all bytes_eq l (texts_by see read items))
+      (texts_put see read e.0 eq pairs e.1 compares)
+
+  -- and what is put of texts is put of their pairs, so that a search finds what a map extended by another has. A search
+  -- that has this law tries it at each two lists that are put, so it is named beside the ruleset
+  pub extended_texts : (pairs items : List (K × V))
+      → put_all bytes_eq (texts_by see read pairs) (texts_by see read items)
+      ≡ texts_by see read (put_all (on see bytes_eq) pairs items)
+  extended_texts pairs items =
+      sym (texts_put_all (on see bytes_eq) pairs items (λ x y. refl))
 
   -- no text at all
   pub texts_empty : texts_by see read [] ≡ []
