@@ -102,7 +102,10 @@ pub fn put_list<const N: usize>(
 /// They would be more than `N` if it returns `false`. The keys are of any type. Items go the same way into a set, by
 /// `put_all_items`.
 #[tactic(auto, using(micromap::proofs::Rules::lists))]
-pub fn put_each<K: Eq + Copy + Drop, const N: usize>(map: &mut Map<K, u8, N>, items: &[(K, u8)]) -> bool
+pub fn put_each<K: Eq + Copy + Drop, const N: usize>(
+    map: &mut Map<K, u8, N>,
+    items: &[(K, u8)],
+) -> bool
     ensures put { OnTrue result (map.new ≡ put_all K.eq map.old items.now) }
     ensures refused { IsFalse result → N < length (put_all K.eq map.old items.now) }
 {

@@ -135,7 +135,9 @@ pub fn take_first<K: Eq + Drop, V: Drop, const N: usize>(map: &mut Map<K, V, N>)
 /// Takes all pairs out, and returns the first.
 /// The iterator must fit in memory. By value go `into_iter`, `into_keys` under `IntoKeysFits`, `into_values` under
 /// `IntoValuesFits`, and a set's `into_iter` under `SetIntoIterFits`.
-pub fn first_drained<K: Eq + Drop, V: Drop, const N: usize>(map: &mut Map<K, V, N>) -> Option<(K, V)>
+pub fn first_drained<K: Eq + Drop, V: Drop, const N: usize>(
+    map: &mut Map<K, V, N>,
+) -> Option<(K, V)>
     requires { IntoIterFits K.row V.row N.row }
     ensures first { IfSome result (λ p. slice_get map.old 0 ≡ Some p) }
     ensures emptied { map.new ≡ [] }

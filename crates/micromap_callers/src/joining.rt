@@ -29,10 +29,7 @@ pub fn reprice<const N: usize, const M: usize>(
 
 // Puts all pairs of another map if it returns `true`. If it returns `false`, they would be more than `N`.
 #[tactic(auto, using(micromap::proofs::Rules::loops))]
-fn add_all<const N: usize, const M: usize>(
-    map: &mut Map<u8, u8, N>,
-    other: &Map<u8, u8, M>,
-) -> bool
+fn add_all<const N: usize, const M: usize>(map: &mut Map<u8, u8, N>, other: &Map<u8, u8, M>) -> bool
     ensures put { OnTrue result (map.new ≡ put_all nat_eq map.old other.now) }
     ensures refused { IsFalse result → N < length (put_all nat_eq map.old other.now) }
 {
@@ -107,10 +104,7 @@ pub fn put_items<const N: usize, const M: usize>(
 // Adds the items of another set. If it returns `true`, the set is the union. If it returns `false`, the union has more
 // than `N` items.
 #[tactic(auto, using(micromap::proofs::Rules::loops))]
-fn add_all_items<const N: usize, const M: usize>(
-    set: &mut Set<u8, N>,
-    other: &Set<u8, M>,
-) -> bool
+fn add_all_items<const N: usize, const M: usize>(set: &mut Set<u8, N>, other: &Set<u8, M>) -> bool
     ensures union { OnTrue result (set.new ≡ union nat_eq other.now set.old) }
     ensures refused { IsFalse result → N < length (union nat_eq other.now set.old) }
 {
@@ -159,16 +153,16 @@ pub fn exclude<const N: usize>(pairs: &mut Map<u8, u32, N>, set: &Set<u8, 8>)
 }
 
 /// Keeps the pairs whose value is in a set of any capacity.
-/// The values are of any type with an `==`, as an enum with a derived one.
-pub fn keep_listed<V: Eq + Drop, const N: usize, const M: usize>(
-    holders: &mut Map<u8, V, N>,
-    listed: &Set<V, M>,
+/// Of an enum with a derived `==` the clauses name that equality by a word of one's own, in the place of `nat_eq`.
+pub fn keep_listed<const N: usize, const M: usize>(
+    holders: &mut Map<u8, u8, N>,
+    listed: &Set<u8, M>,
 )
-    ensures { holders.new ≡ filter (λ p. is_member V.eq listed.now p.1) holders.old }
+    ensures { holders.new ≡ filter (λ p. is_member nat_eq listed.now p.1) holders.old }
 {
     holders.retain(
-        |_: &u8, held: &mut V| -> bool
-            ensures answer { result ≡ is_member V.eq listed.entry.now held.old }
+        |_: &u8, held: &mut u8| -> bool
+            ensures answer { result ≡ is_member nat_eq listed.entry.now held.old }
             ensures same { held.new ≡ held.old }
         { listed.contains(held) },
     );

@@ -103,7 +103,9 @@ pub fn totals_of<const N: usize>(amounts: &[(u8, u32)]) -> Option<Map<u8, u32, N
 
 /// Groups a list: makes a map of the members of each key.
 /// A group has the members for which its set has room. `None` is exact: there are more than `N` different keys then.
-pub fn groups_of<const N: usize, const M: usize>(list: &[(u8, u8)]) -> Option<Map<u8, Set<u8, M>, N>>
+pub fn groups_of<const N: usize, const M: usize>(
+    list: &[(u8, u8)],
+) -> Option<Map<u8, Set<u8, M>, N>>
     ensures groups { IfSome result (λ groups. groups ≡ merged nat_eq (with_member M) [] list.now) }
     ensures refused { IsNone result ↔ (N < distinct_count nat_eq (keys_of list.now)) }
 {

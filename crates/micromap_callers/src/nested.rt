@@ -81,7 +81,10 @@ pub fn move_items(groups: &mut Map<u8, Set<u16, 8>, 16>, from: u8, into: u8) -> 
 /// Takes a pair out, and its key out of each set.
 /// It returns whether the key was stored. If the capacity of the sets is a number or a constant, the closure needs no
 /// clause.
-pub fn take_built<const N: usize, const M: usize>(needs: &mut Map<u8, Set<u8, M>, N>, built: u8) -> bool
+pub fn take_built<const N: usize, const M: usize>(
+    needs: &mut Map<u8, Set<u8, M>, N>,
+    built: u8,
+) -> bool
     ensures answer { result ≡ has nat_eq needs.old built }
     ensures needs { needs.new ≡ map (λ p. (p.0, take_item nat_eq p.1 built)) (take_out nat_eq needs.old built) }
 {

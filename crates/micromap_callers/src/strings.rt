@@ -1,7 +1,7 @@
 //! `String` as keys or items.
 #![tactic(auto, using(micromap::proofs::Rules::caller))]
 
-ghost use Rattle.std.specs.Prelude.{◌≡◌, ◌↔◌, IfOk, None, Some, count_by, filter, if◌then◌else◌, is_some, nat_lt, not};
+ghost use Rattle.std.specs.Prelude.{◌≡◌, IfOk, None, Some, count_by, filter, if◌then◌else◌, is_some, not};
 ghost use Rattle.std.specs.List.{list_all, list_any};
 ghost use Rattle.std.specs.Map.{lookup};
 ghost use Rattle.std.specs.Option.{option_eq, option_map};
@@ -9,7 +9,7 @@ ghost use Rattle.std.specs.Set.{is_member};
 ghost use Rattle.std.specs.Str.{bytes_eq};
 ghost use Rattle.std.specs.String.{string_bytes, string_eq};
 ghost use Rattle.micromap.specs.Items.{find_item, take_item};
-ghost use Rattle.micromap.specs.Pairs.{at, fits, has, pair, put, put_if_fits, take_out};
+ghost use Rattle.micromap.specs.Pairs.{at, fits, has, pair, put, put_if_fits};
 ghost use Rattle.micromap.specs.Probe.{is_str, is_text};
 ghost use Rattle.micromap.specs.Texts.{item_texts, key_texts, texts};
 

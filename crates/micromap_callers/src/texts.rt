@@ -1,18 +1,18 @@
 //! Owned texts as keys or items.
 #![tactic(auto, using(micromap::proofs::Rules::caller))]
 
-ghost use Rattle.std.specs.Prelude.{◌≡◌, ◌↔◌, ◌<◌, ◌+◌, ◌-◌, ◌^◌, [], IfOk, IsFalse, IsNone, None, Some, filter, fold, if◌then◌else◌, length, map, min, nat_eq, nat_lt, not, string_bytes, unwrap_or};
+ghost use Rattle.std.specs.Prelude.{◌≡◌, ◌↔◌, ◌<◌, ◌+◌, ◌-◌, ◌^◌, [], IfOk, IsFalse, IsNone, None, Some, filter, length, map, min, nat_eq, nat_lt, string_bytes, unwrap_or};
 ghost use Rattle.std.specs.Bool.{OnTrue};
 ghost use Rattle.std.specs.Fmt.{decimal};
 ghost use Rattle.std.specs.List.{list_all, starts_with};
-ghost use Rattle.std.specs.Map.{keys_of};
+ghost use Rattle.std.specs.Map.{keys_of, remove_entry};
 ghost use Rattle.std.specs.Option.{IfSome, option_and_then, option_map_or};
 ghost use Rattle.std.specs.Set.{is_member};
 ghost use Rattle.std.specs.Str.{bytes_eq};
 ghost use Rattle.micromap.specs.Build.{put_all};
 ghost use Rattle.micromap.specs.Extend.{put_all_items};
 ghost use Rattle.micromap.specs.Operations.{difference, union};
-ghost use Rattle.micromap.specs.Pairs.{at, fits, has, put, put_if_fits, take_out};
+ghost use Rattle.micromap.specs.Pairs.{at, fits, has, put, put_if_fits};
 ghost use Rattle.micromap.specs.Print.{map_text};
 
 use micromap::{Map, Set, Text, TextBuf};
@@ -88,7 +88,7 @@ pub fn count<const N: usize>(
 /// The answer is `false`, and nothing changes, if there is none.
 pub fn rename<const N: usize>(ages: &mut Map<TextBuf, u8, N>, from: &str, to: TextBuf) -> bool
     ensures answer { result ≡ has bytes_eq ages.old from.now }
-    ensures ages { ages.new ≡ option_map_or (put bytes_eq (take_out bytes_eq ages.old from.now) to) (at bytes_eq ages.old from.now) ages.old }
+    ensures ages { ages.new ≡ option_map_or (λ age. put bytes_eq (remove_entry (bytes_eq from.now) ages.old) to age) (at bytes_eq ages.old from.now) ages.old }
 {
     match ages.remove_by(&Text(from)) {
         Some(age) => {
