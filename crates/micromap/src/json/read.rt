@@ -21,7 +21,8 @@ use std::alloc::Global;
 /// Creates a map of an object's members, or returns why there is none.
 ///
 /// The pairs have the order of `serde_json`'s own map, which keeps one member of a repeated name. Allocates memory for
-/// the values that are read, and never returns `Memory` for an empty text. Makes one scan for each member.
+/// the values that are read, and never returns `Memory` for an empty text. Makes one scan for each member, up to the first
+/// that doesn't fit.
 pub fn map_from_json<const N: usize>(
     alloc: Global,
     text: &str,
@@ -43,7 +44,7 @@ pub fn map_from_json<const N: usize>(
 /// Creates a set of an array's texts, or returns why there is none.
 ///
 /// Each distinct text is stored as it first came, in that order. Allocates memory for the values that are read, and
-/// never returns `Memory` for an empty text. Makes one scan for each text.
+/// never returns `Memory` for an empty text. Makes one scan for each text, up to the first that doesn't fit.
 pub fn set_from_json<const N: usize>(alloc: Global, text: &str) -> Result<Set<String, N>, JsonFault>
     ensures texts { IfOk result (λ set. texts_for N text.now ≡ Ok (item_texts set)) }
     ensures fault { IfErr result (IsFault (texts_for N text.now)) }

@@ -70,10 +70,20 @@ fn a_pair_with_a_stored_key_or_no_room_comes_back(rt: HostRuntime) {
     let mut map: Map<Marked, u8, 2> = Map::new();
     assert!(rt; map.try_insert(Marked::new(1, 'x'), 10).is_ok());
     let stored = map.try_insert(Marked::new(1, 'y'), 11);
-    assert!(rt; matches!(stored, Err(InsertError::Occupied((Marked { mark: 'y', .. }, 11)))));
+    assert!(rt;
+        matches!(
+            stored,
+            Err(InsertError::Occupied((Marked { mark: 'y', .. }, 11)))
+        )
+    );
     assert!(rt; map.try_insert(Marked::new(2, 'x'), 20).is_ok());
     let refused = map.try_insert(Marked::new(3, 'z'), 30);
-    assert!(rt; matches!(refused, Err(InsertError::Full((Marked { mark: 'z', .. }, 30)))));
+    assert!(rt;
+        matches!(
+            refused,
+            Err(InsertError::Full((Marked { mark: 'z', .. }, 30)))
+        )
+    );
     assert!(rt; gives(map.keys().map(|key| key.mark), &['x', 'x']));
     assert!(rt; gives(map.values(), &[&10, &20]));
 }
