@@ -174,7 +174,7 @@ module _ {K V W : Type 0} (see : K → List ℕ) (read : V → W) where
   texts_put_all eq pairs (e ∷ items) compares =
       texts_put_all eq (put eq pairs e.0 e.1) items compares
       ∙ ap (λ l. put_all bytes_eq l (texts_by see read items))
-      (texts_put see read e.0 eq pairs e.1 compares)
+      (texts_put e.0 eq pairs e.1 compares)
 
   -- and what is put of texts is put of their pairs, so that a search finds what a map extended by another has. A search
   -- that has this law tries it at each two lists that are put, so it is named beside the ruleset
