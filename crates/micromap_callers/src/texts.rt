@@ -227,7 +227,10 @@ pub fn merged<const N: usize, const M: usize>(
 }
 
 /// Prints a map whose keys are texts.
-pub fn shown<const N: usize>(alloc: Global, ages: &Map<TextBuf, u8, N>) -> Result<String, AllocError>
+pub fn shown<const N: usize>(
+    alloc: Global,
+    ages: &Map<TextBuf, u8, N>,
+) -> Result<String, AllocError>
     ensures { IfOk result (λ text. map_text (λ name. Some name) (λ age. Some (decimal age)) ages.now ≡ Some (string_bytes text)) }
 {
     format!(in alloc; "{ages}")

@@ -17,7 +17,9 @@ fn a_text_is_compared_and_ordered_by_its_bytes(rt: HostRuntime) -> Result<(), Al
 #[test]
 fn a_text_is_printed_as_a_string_is(rt: HostRuntime) -> Result<(), AllocError> {
     let text = TextBuf::new(rt.alloc(), "a\"b")?;
-    assert!(rt; format!(in rt.alloc(); "{text}|{text:>5}|{text:?}")?.as_str() == "a\"b|  a\"b|\"a\\\"b\"");
+    assert!(rt;
+        format!(in rt.alloc(); "{text}|{text:>5}|{text:?}")?.as_str() == "a\"b|  a\"b|\"a\\\"b\""
+    );
     Ok(())
 }
 
@@ -27,10 +29,18 @@ fn the_keys_of_a_map_are_converted_in_their_order(rt: HostRuntime) -> Result<(),
     ages.checked_insert(String::from_str(rt.alloc(), "Ada")?, 36);
     ages.checked_insert(String::from_str(rt.alloc(), "Alan")?, 41);
     let texts = ages.into_text_bufs();
-    assert!(rt; texts.first().is_some_and(|(name, age)| name.is("Ada") && *age == 36));
+    assert!(rt;
+        texts
+            .first()
+            .is_some_and(|(name, age)| name.is("Ada") && *age == 36)
+    );
     assert!(rt; texts.get_by(&Text("Alan")) == Some(&41));
     let strings = texts.into_strings();
-    assert!(rt; strings.last().is_some_and(|(name, age)| name.as_str() == "Alan" && *age == 41));
+    assert!(rt;
+        strings
+            .last()
+            .is_some_and(|(name, age)| name.as_str() == "Alan" && *age == 41)
+    );
     assert!(rt; strings.len() == 2);
     Ok(())
 }
@@ -55,7 +65,10 @@ fn a_map_of_sets_of_texts_is_cloned(rt: HostRuntime) -> Result<(), AllocError> {
     needs.checked_insert(TextBuf::new(rt.alloc(), "app")?, tools);
     let copy = needs.clone()?;
     needs.clear();
-    assert!(rt; copy.get_by(&Text("app")).is_some_and(|tools| tools.contains_by(&Text("linker"))));
+    assert!(rt;
+        copy.get_by(&Text("app"))
+            .is_some_and(|tools| tools.contains_by(&Text("linker")))
+    );
     Ok(())
 }
 

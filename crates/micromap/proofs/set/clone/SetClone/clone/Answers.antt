@@ -23,9 +23,12 @@ returns-in_err-map g c = record {
       (λ _ all.
       let pairs = c.self.inside.map in
       let every : All g.T.Clone.is_infallible (keys_of pairs) = rw c.self.view_is all.1 in
-      absurd (c.in_err-map.ensures.cases (all.0, λ i p within. (
-        subst g.T.Clone.is_infallible
-            (get_or-map (λ e. e.0) pairs i p p.0 within) (every i p.0 (rw length-map within)),
-        tt {0},
-      ))));
+      absurd (c.in_err-map.ensures.cases (
+        all.0,
+        λ i p within. (
+          subst g.T.Clone.is_infallible
+              (get_or-map (λ e. e.0) pairs i p p.0 within) (every i p.0 (rw length-map within)),
+          tt {0},
+        ),
+      )));
 }
