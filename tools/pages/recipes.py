@@ -18,7 +18,7 @@ your own types and tests in the place of its numbers. [CALLING](CALLING.md#when-
 - Write the line `tactic` as `#[..]` at your function, or as `#![..]` at the head of your file.
 - The imports are those of the words in the clauses. [CALLING](CALLING.md#callers) has those of types.
 - A block `antt` is a proof by hand: an [invariant](PROVING.md#an-invariant) of a loop, or *answers* to single goals. Its file has
-the path of its function: that of `total` of `src/walks.rt` is `proofs/walks/total/Invariants.antt`. `my_crate` stands for your crate.
+the path of its function: that of `total` of `src/walks.rt` is `proofs/walks/total/Invariants.antt`, and in `main.rt` or `lib.rt` `proofs/total/Invariants.antt`. `my_crate` stands for your crate.
 - Many a contract says only what an `Ok`, a `Some` or a `true` means, and nothing of what is left after a refusal.
 
 The files are in `crates/micromap_callers` of micromap's own repository. Its `micromap_uses` has whole examples, with definitions

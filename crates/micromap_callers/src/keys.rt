@@ -6,11 +6,12 @@ ghost use Rattle.std.specs.Map.{lookup};
 ghost use Rattle.std.specs.Ordering.{on};
 ghost use Rattle.std.specs.Cmp.Rules.{comparing};
 ghost use Rattle.std.proofs.Common.{rules};
-ghost use Rattle.std.proofs.lemmas.Cmp.{nat_eq_equiv};
+ghost use Rattle.std.specs.Str.{bytes_eq, str_to_ascii_lowercase};
+ghost use Rattle.std.proofs.lemmas.Cmp.{nat_eq_equiv, nat_list_eq_equiv};
 ghost use Rattle.micromap.specs.Pairs.{at, fits};
 ghost use Rattle.micromap.specs.Probe.{alike, equal};
 
-use micromap::{Map, Probe};
+use micromap::{Map, Probe, TextBuf};
 
 /// A guest. Two guests are equal by `==` if their numbers are, whatever their tables.
 #[derive(Debug, Clone, Copy)]
@@ -80,4 +81,40 @@ pub fn value_at<const N: usize>(map: &Map<Guest, u8, N>, number: u8) -> Option<u
     ensures { result ≡ lookup (λ k. number == k.number) map.now }
 {
     map.get_by(&Number(number)).copied()
+}
+
+/// Matches the key that is this text in small letters.
+#[derive(Clone, Copy)]
+pub struct AnyCase<'a>(pub &'a str);
+
+impl<'a> Probe<TextBuf> for AnyCase<'a> {
+    ghost matches = { λ p. bytes_eq (str_to_ascii_lowercase p.0.now) };
+
+    ghost equal_keys_match_alike = { λ p x y. alike nat_list_eq_equiv (str_to_ascii_lowercase p.0.now) x y };
+
+    ghost matching_keys_are_equal = { λ p x y. equal nat_list_eq_equiv (str_to_ascii_lowercase p.0.now) x y };
+
+    fn matches(&self, key: &TextBuf) -> bool {
+        is_folded(self.0.as_bytes(), key.as_str().as_bytes())
+    }
+}
+
+// Whether the second text is the first in small letters.
+fn is_folded(text: &[u8], folded: &[u8]) -> bool
+    ensures { result ≡ bytes_eq (str_to_ascii_lowercase text.now) folded.now }
+{
+    match (text, folded) {
+        ([], []) => true,
+        ([byte, text @ ..], [small, folded @ ..]) => {
+            byte.to_ascii_lowercase() == *small && is_folded(text, folded)
+        }
+        _ => false,
+    }
+}
+
+/// Finds a value by a text in any case, where keys are in small letters.
+pub fn age_of<const N: usize>(ages: &Map<TextBuf, u8, N>, name: &str) -> Option<u8>
+    ensures { result ≡ at bytes_eq ages.now (str_to_ascii_lowercase name.now) }
+{
+    ages.get_by(&AnyCase(name)).copied()
 }

@@ -19,7 +19,7 @@ use micromap::{Map, Set, Text, TextBuf};
 use std::alloc::{AllocError, Global};
 
 /// Reads the value at a text.
-pub fn age_of<const N: usize>(ages: &Map<TextBuf, u8, N>, name: &str) -> Option<u8>
+pub fn age_at<const N: usize>(ages: &Map<TextBuf, u8, N>, name: &str) -> Option<u8>
     ensures { result ≡ at bytes_eq ages.now name.now }
 {
     ages.get_by(&Text(name)).copied()
@@ -211,18 +211,19 @@ fn overlay<const N: usize, const M: usize>(
     Ok(true)
 }
 
-/// Copies settings with others put over them, or refuses exactly those that are too many.
+/// Copies settings with others put over them, or answers `None` if they don't all fit.
 pub fn merged<const N: usize, const M: usize>(
     settings: &Map<TextBuf, TextBuf, N>,
     other: &Map<TextBuf, TextBuf, M>,
 ) -> Result<Option<Map<TextBuf, TextBuf, N>>, AllocError>
     ensures merged { IfOk result (λ answer. IfSome answer (λ new. new ≡ put_all bytes_eq settings.now other.now)) }
-    ensures refused { IfOk result (λ answer. IsNone answer → N < length (put_all bytes_eq settings.now other.now)) }
+    ensures refused { IfOk result (λ answer. IsNone answer ↔ (N < length (put_all bytes_eq settings.now other.now))) }
 {
     let mut merged = settings.clone()?;
     if !overlay(&mut merged, other)? {
         return Ok(None);
     }
+    let _content = merged.len();
     Ok(Some(merged))
 }
 
