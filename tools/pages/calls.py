@@ -1,4 +1,4 @@
-"""The table of every call atop API.md: what it does, what it requires, and its scans of the stored keys."""
+"""The table of every call atop API.md: what it requires, and its scans of the stored keys."""
 import os
 import re
 
@@ -10,8 +10,8 @@ HEAD = """## Every call
 In brackets is what tests a precondition; [`CALLING.md`](CALLING.md#preconditions) says what a *sound* entry is, and \
 lists the calls by what they require. A *scan* compares the stored keys from the front, each at most once.
 
-| Call | What it does | Requires | Scans |
-|---|---|---|---|"""
+| Call | Requires | Scans |
+|---|---|---|"""
 # The scans of calls whose documentation doesn't say them.
 SCANS = {
     "one scan": "IndexMut for Map, Map::insert_unchecked, Set::insert_unchecked",
@@ -45,13 +45,6 @@ def sentences(text):
     """The sentences of a doc comment, but for its blocks."""
     plain = " ".join(re.sub(r"^```.*?^```$", "", text, flags=re.M | re.S).split())
     return re.split(r"(?<=\.) (?=[A-Z`])", plain) if plain else []
-
-
-def does(docs):
-    """The first sentence of each doc comment, and the next if it goes on with what is returned."""
-    for doc in filter(None, docs):
-        first, *rest = sentences(doc.split("\n\n")[0])
-        yield " ".join([first, *(it for it in rest[:1] if it.startswith("Returns "))])
 
 
 def scans(call, docs, of_type):
@@ -102,13 +95,13 @@ class Calls:
         cost = "" if is_type else scans(call, docs, of_type)
         if not cost and not is_type:
             self.api.wrong.append(f"tools/pages/calls.py: nothing says how many keys {call} compares")
-        return f"| [`{call}`](#{anchor(call)}) | {' '.join(does(docs))} | {'; '.join(self.requires(call))} | {cost} |"
+        return f"| [`{call}`](#{anchor(call)}) | {'; '.join(self.requires(call))} | {cost} |"
 
     def lines(self):
         """The lines of the table, by groups."""
         yield HEAD
         for title, calls in self.api.groups.items():
-            yield f"| **[{title}](#{anchor(title)})** | | | |"
+            yield f"| **[{title}](#{anchor(title)})** | | |"
             yield from map(self.row, calls)
         known = {anchor(it) for it in self.api.entries}
         self.api.wrong += [f"{GUIDE}: no call of {it}" for it in self.required if it not in known]

@@ -1,4 +1,4 @@
-"""The statements of the laws that sections of crates/micromap/PROVING.md name, as the proofs have them."""
+"""Whether the laws that sections of crates/micromap/PROVING.md name are there."""
 import glob
 import os
 import re
@@ -13,7 +13,7 @@ SECTIONS = {
 }
 EXPORTS = ("crates/micromap/proofs/Lib.antt", "crates/micromap/proofs/laws.antt")
 NAME = r"(?<!clause )(?<!\[)`([\w.'-]+)`"
-WIDTH = 110
+PROVING = "crates/micromap/PROVING.md"
 
 
 def files(crate):
@@ -46,25 +46,9 @@ def parts_of(statement):
     return parts
 
 
-def premises(statement):
-    """The parts of a statement between its arrows, without those that only name its arguments."""
-    *parts, last = parts_of(statement)
-    is_named = re.compile(r"(?:[({][\w' ]+ : .*[)}] ?)+")
-    return [*(it for it in parts if not is_named.fullmatch(it)), last]
-
-
-def shown(name, statement):
-    """A law in one line, or with what it concludes in a second one."""
-    *given, says = premises(statement)
-    line = " → ".join([*given, says])
-    if len(name) + len(line) < WIDTH or not given:
-        return f"{name} : {line}"
-    return f"{name} : {' → '.join(given)}\n    → {says}"
-
-
 def section_of(page, title):
-    """The text of a section, up to what is made there."""
-    found = re.search(rf"^## {title}\n(.*?)(?=^<!-- |^## |\Z)", page, re.M | re.S)
+    """The text of a section."""
+    found = re.search(rf"^## {title}\n(.*?)(?=^## |\Z)", page, re.M | re.S)
     return found[1] if found else ""
 
 
@@ -88,21 +72,14 @@ def wrong_of(section, known, title):
         module, dot, name = it.rpartition(".")
         is_law = name in standard or name in known and known[name][0].endswith(dot + module)
         if not is_law and not any(path.endswith(f"/{it}.antt") for path in files("micromap*")):
-            yield f"crates/micromap/PROVING.md: {title} names {it}, which is no law"
+            yield f"{PROVING}: {title} names {it}, which is no law"
 
 
-def statements(page, title, wrong):
-    """The laws of a section, but for what only the head of a table names, with their modules and statements. What is amiss is
-    added to `wrong`."""
-    section, known, homes = section_of(page, title), {}, {}
-    for crate in reversed(SECTIONS[title]):
-        known |= laws_of(crate)
-    wrong += wrong_of(section, known, title)
-    body = re.sub(r"^\|.*\|\n(?=\|---)", "", section, flags=re.M)
-    for name in dict.fromkeys(it.rpartition(".")[2] for it in re.findall(NAME, body)):
-        if name in known:
-            home, statement = known[name]
-            homes.setdefault(home, []).append(shown(name, statement))
-    yield "```text"
-    yield "\n\n".join("\n".join([f"-- {home}", *laws]) for home, laws in homes.items())
-    yield "```"
+def wrong_of_laws():
+    """What the sections of PROVING.md name that is no law."""
+    page = read(PROVING)
+    for title in SECTIONS:
+        known = {}
+        for crate in reversed(SECTIONS[title]):
+            known |= laws_of(crate)
+        yield from wrong_of(section_of(page, title), known, title)

@@ -11,13 +11,15 @@ FOLDERS = ("crates/micromap_core/proofs/laws", "crates/micromap/proofs/laws")
 WIDTH = 110
 COMMENT = r"(?:^ *--.*\n)+"
 MODULE = r"^ *module _ .*\n(?:^ +[({].*\n)*"
+SEARCHED = r"pub (each_[\w'-]+) :"  # a law that a search alone uses
 LAW = r"^ *pub [\w'≢-]+ :.*\n(?:^ +(?:[({→×↔≡∷+|&]|\().*\n)*"
 INTRO = """# The laws of micromap
 
 Each law below is promised to callers: it is proved, and it keeps its name and its statement. The line above a block is the
 module that has its laws. The rulesets of `micromap::proofs::Rules` have those that a search needs, so most callers name
 none; [PROVING](PROVING.md) says when one is named. A line `module _` has what the laws below it, further in, share. What
-stands in braces is found by the checker. [API](API.md) explains the words. `rt lemma NAME` prints a law too.
+stands in braces is found by the checker. [API](API.md) explains the words. `rt lemma NAME` prints a law too, and the
+statements of those that serve a search alone, which stand here by name.
 """
 
 
@@ -47,7 +49,7 @@ def broken(indent, text):
 
 def laws_in(text):
     """The statements of a file's public laws, with the arguments that they share and the comments before them."""
-    lines, comment = [], ""
+    lines, comment, searched = [], "", re.findall(rf"^ *{SEARCHED}", text, re.M)
     for block in re.findall(f"{COMMENT}|{MODULE}|{LAW}|^.+\n|^\n", text[re.match(COMMENT, text, re.M).end() :], re.M):
         first = block.lstrip(" ")
         indent, flat = block[: len(block) - len(first)], " ".join(block.split())
@@ -56,16 +58,18 @@ def laws_in(text):
         elif first.startswith("module _") and not indent and lines:
             lines += ["", *[comment] * bool(comment), broken(indent, flat)]
             comment = ""
+        elif re.match(SEARCHED, first):
+            comment = ""
         elif first.startswith(("module _", "pub ")) and not first.startswith(("pub ruleset", "pub record", "pub abbrev")):
             lines += [comment] * bool(comment) + [broken(indent, flat.removeprefix("pub "))]
             comment = ""
         elif block.strip():
             comment = ""
-    return "\n".join(lines)
+    return "\n".join([*lines, *["", "-- for a search alone", ", ".join(searched)] * bool(searched)])
 
 
 def shared_lines(text):
-    """The text without lines `module _` under which no law is left."""
+    """The text without lines `module _` under which no law is left, and without comments of none."""
     lines = text.split("\n")
     kept = []
     for number, line in enumerate(lines):
@@ -74,7 +78,8 @@ def shared_lines(text):
         if line.lstrip().startswith("module _") and len(later) - len(later.lstrip(" ")) <= depth:
             continue
         kept.append(line)
-    return "\n".join(kept)
+    without = re.sub(r"(?:^ *--(?! for a search alone).*\n)+(?=\n|-- for)", "", "\n".join(kept), flags=re.M)
+    return re.sub(r"\n{3,}", "\n\n", without)
 
 
 def section(path):

@@ -8,6 +8,9 @@ from pages.examples import tactic
 from pages.sources import anchor, doc_of, read
 
 RECIPES, CRATE, WHOLE = "crates/micromap/RECIPES.md", "micromap_callers", "micromap_uses"
+# The files, in the order of the page.
+FILES = """asking counting finding knowing building merging copying joining changing entries nested texts strs strings keys
+own_types""".split()
 WORDS = "Words and laws of their own"
 LISTED = "A file of `specs/` is listed in `specs/Lib.antt`, as `pub mod Totals`, and one of laws in `proofs/Lib.antt`."
 INTRO = """# Recipes
@@ -138,7 +141,8 @@ def section(recipe, known):
 
 def recipes(wrong):
     """The page. What is amiss is added to `wrong`."""
-    files = [f"crates/{CRATE}/src/{it}.rt" for it in re.findall(r"^pub mod (\w+);", read(f"crates/{CRATE}/src/lib.rt"), re.M)]
+    files = [f"crates/{CRATE}/src/{it}.rt" for it in FILES]
+    wrong += [f"{RECIPES}: FILES isn't what crates/{CRATE}/src has"] if {*files, f"crates/{CRATE}/src/lib.rt"} != {*glob.glob(f"crates/{CRATE}/src/*.rt")} else []
     found = {path: [*recipes_of(path, wrong)] for path in files}
     for it in sorted(glob.glob(f"crates/{CRATE}/proofs/*/**/*.antt", recursive=True)):
         text = "".join(read(path) for path in files if path.endswith(f"/{it.split('/')[3]}.rt"))
@@ -146,7 +150,7 @@ def recipes(wrong):
     known, rows, sections, words = [it for those in found.values() for it in those], [], [], set()
     for path, those in found.items():
         title, rest = title_of(path)
-        rows.append(f"| {linked(title)} | " + "; ".join(linked(it.heading).replace("|", "\\|") for it in those) + " |")
+        rows += [f"- {linked(title)}", *(f"  - {linked(it.heading)}" for it in those)]
         made = [section(it, known) for it in those]
         sections += [f"## {title}\n\nIn `{os.path.basename(path)}`. {rest}".strip(), *(text for text, _ in made)]
         words = words.union(*(files for _, files in made))
@@ -155,5 +159,4 @@ def recipes(wrong):
     uses = sorted(it for it in glob.glob(f"crates/{WHOLE}/src/*.rt") if not it.endswith("/lib.rt"))
     listed = "\n".join(f"- `{os.path.basename(it)}`: {title_of(it)[0]}" for it in uses)
     ends = [f"### {own_title(it)}\n\n{block('antt', read(it))}" for it in sorted(words, key=lambda it: ("/specs/" not in it, it))]
-    table = "| Subject | Recipes |\n|---|---|\n" + "\n".join(rows)
-    return "\n\n".join([INTRO.strip(), listed, table, *sections, *([f"## {WORDS}", LISTED, *ends] if ends else [])]) + "\n"
+    return "\n\n".join([INTRO.strip(), listed, "## Index", "\n".join(rows), *sections, *([f"## {WORDS}", LISTED, *ends] if ends else [])]) + "\n"
