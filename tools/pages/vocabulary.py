@@ -60,6 +60,13 @@ def names_above(lines, indent):
     return [name for depth, names in modules if depth < indent for name in names]
 
 
+def first_home(module, word):
+    """The module that a file of specs/ has a word from. Only in its own crate does it have the word itself."""
+    path = spec_of(module)
+    found = re.search(rf"^pub use Rattle\.([\w.]+)\.\{{[^}}]*\b{word}\b", read(path), re.M) if path else None
+    return found[1] if found else module
+
+
 class Definition:
     """A word as its file defines it: its own comment, how many arguments it has and their names, where it names them."""
 
@@ -115,7 +122,7 @@ class Vocabulary:
         for word, module in modules.items():
             path = spec_of(module)
             if word in PLAIN:
-                for home in sorted(self.homes[word] | {module}):  # variants of two types may have one name
+                for home in sorted({first_home(it, word) for it in self.homes[word] | {module}}):  # two types may have it
                     plain[home].append(word)
             elif path:
                 form, meaning = self.explained(path, word)
