@@ -1,4 +1,4 @@
-"""What is made of a recorded measurement: tables, parts of README.md and docs/MAINTAINING.md, and both charts."""
+"""What is made of a recorded measurement: tables, parts of README.md and docs/SPEED.md, and both charts."""
 import math
 import os
 import re
@@ -8,7 +8,7 @@ from pages.chart import Frame, chart, coarse, shown
 from pages.sources import read
 
 RECORD = "docs/speed.tsv"
-README, MAINTAINING = "README.md", "docs/MAINTAINING.md"
+README, SPEED = "README.md", "docs/SPEED.md"
 # What is compared with the Rust crate, in the order of the driver's ratios.
 RIVALS = ["this library", "the same layout in `unsafe` Rust", "`ArrayVec` by hand", "`IndexMap`", "`HashMap`", "`BTreeMap`"]
 # The charts: the file, the title, the rivals that have lines, the workloads on numbers that have panels or None for all
@@ -18,7 +18,7 @@ CHARTS = [
     ("docs/speed-six.svg", "Time relative to the Rust crate's: numbers as keys and values", [0, 2, 3], SIX, 3, 232),
     ("docs/speed.svg", "Time relative to the Rust crate's", [0, 1, 2, 3], None, 5, 172),
 ]
-# The README's table of what to take in place of this library: the rivals, the capacities and the workloads on numbers.
+# SPEED.md's table of what to take in place of this library: the rivals, the capacities and the workloads on numbers.
 CHOICES, CHOICE_CAPACITIES = range(3, 6), [2, 8, 32, 64]
 CHOICE_WORDS = {
     "get, hit": "a stored key is found",
@@ -30,8 +30,11 @@ CHOICE_WORDS = {
     "new and fill": "a new map is filled",
     "clone": "a map is cloned",
 }
+# The README's table has the times of one of these, at some capacities, in a row that begins with these words.
+FOUND, FOUND_CAPACITIES = "get, hit", [2, 8, 32]
+FOUND_WORDS = f"Finds one of {', '.join(map(str, FOUND_CAPACITIES[:-1]))} or {FOUND_CAPACITIES[-1]} numbers in"
 SQUARE = ["count by entries", "new and fill"]  # whose time grows with the square of the number of pairs
-NEW_MAPS = ["copied", "put one, hand on"]  # without which MAINTAINING.md says the means too
+NEW_MAPS = ["copied", "put one, hand on"]  # without which SPEED.md says the means too
 # The table of calls that build a map or a set: its capacities, and the ways that the calls are set beside.
 BUILD_CAPACITIES, LOOPS = [2, 8, 64], ["loop", "loop in place"]
 PART = r"(^<!-- made by tools/compare: ([^\n]*) -->\n).*?(^<!-- end -->$)"
@@ -101,6 +104,11 @@ def over(cells, rival, other):
     return [(first[0] / second[0], max(first[1], second[1])) for first, second in both]
 
 
+def brief(nanoseconds):
+    """A time to about two digits."""
+    return f"{nanoseconds:.{1 if nanoseconds < 9.95 else 0}f}"
+
+
 def row(words):
     return f"| {' | '.join(words)} |"
 
@@ -156,6 +164,17 @@ def choice_table(times):
         yield row([f"{words} (`{workload}`)", f"{own[first]:.1f} ns", more, *(coarse(ratios[rival][at]) for rival, at in columns)])
 
 
+def found_table(times, part):
+    """The README's table of what to take, with the rows that it has, its row of times, and what the mean of all workloads
+    over the Rust crate is."""
+    yield from (line for line in part.splitlines() if line.startswith("|") and not line.startswith(f"| {FOUND_WORDS}"))
+    cells = times["numbers", FOUND]
+    own = ([nanoseconds * ratios[rival][0] for nanoseconds, ratios in map(cells.get, FOUND_CAPACITIES)] for rival in [0, *CHOICES])
+    yield row([FOUND_WORDS, *(f"{', '.join(map(brief, it))} ns" for it in own)])
+    every = mean([one for it in times.values() for one in own_of(it)])[0]
+    yield f"\nIn the geometric mean of {len(times)} workloads, `micromap` takes {every:.2f} times the Rust crate's time."
+
+
 def alone_table(alone):
     """The nanoseconds of what is timed alone."""
     yield from heading("Nanoseconds", next(iter(alone.values())))
@@ -173,7 +192,7 @@ def build_table(builds):
     for call, cells in own.items():
         loops = [builds.get((call, way), {}) for way in LOOPS]
         ratios = [[(cells[at] / it[at], "") for at in it] for it in loops]
-        nanoseconds = (f"{cells[at]:.{1 if cells[at] < 9.95 else 0}f}" for at in BUILD_CAPACITIES)
+        nanoseconds = (brief(cells[at]) for at in BUILD_CAPACITIES)
         yield row([f"`{call}`", *nanoseconds, *(worst(it, both) if it else "" for it, both in zip(loops, ratios))])
 
 
@@ -237,12 +256,14 @@ def charts(source, times):
 
 def made(text):
     """The files that a record makes: the charts, and the pages with their parts."""
-    source, times, alone, builds, _ = parsed(text)
+    source, times, alone, builds, sizes = parsed(text)
     files = dict(charts(source, times))
     makers = {
+        "what it takes to find a key": lambda part: found_table(times, part),
         "times relative to Map's": lambda _: choice_table(times),
         "times relative to the Rust crate's": lambda _: speed_list(times),
         "what takes longer than the layout": lambda part: causes_table(times, part),
+        "sizes in bytes": lambda _: size_table(sizes),
         "what is timed alone": lambda _: alone_table(alone),
         "what replaces a loop": lambda _: build_table(builds),
     }
@@ -250,7 +271,7 @@ def made(text):
     def part_of(found):
         return "\n".join([found[1], *makers[found[2]](found[0]), "", found[3]])
 
-    return files | {path: re.sub(PART, part_of, read(path), flags=re.M | re.S) for path in (README, MAINTAINING)}
+    return files | {path: re.sub(PART, part_of, read(path), flags=re.M | re.S) for path in (README, SPEED)}
 
 
 def wrong_of_speed(notes):
