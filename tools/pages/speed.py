@@ -169,7 +169,8 @@ def found_table(times, part):
     over the Rust crate is."""
     yield from (line for line in part.splitlines() if line.startswith("|") and not line.startswith(f"| {FOUND_WORDS}"))
     cells = times["numbers", FOUND]
-    own = ([nanoseconds * ratios[rival][0] for nanoseconds, ratios in map(cells.get, FOUND_CAPACITIES)] for rival in [0, *CHOICES])
+    at_each = [cells[at] for at in FOUND_CAPACITIES]
+    own = ([nanoseconds * ratios[rival][0] for nanoseconds, ratios in at_each] for rival in [0, *CHOICES])
     yield row([FOUND_WORDS, *(f"{', '.join(map(brief, it))} ns" for it in own)])
     every = mean([one for it in times.values() for one in own_of(it)])[0]
     yield f"\nIn the geometric mean of {len(times)} workloads, `micromap` takes {every:.2f} times the Rust crate's time."
