@@ -25,17 +25,20 @@ Every clause is proved. Whether it says enough is tested by wrong bodies, which 
 
 TOTALS
 
-An *edit* puts a wrong body in the place of the right one. A row has the clauses that an edit is for, what is wrong in its body, and the goal at which \
-it was refused; the same body may break others. The gate tries those that are linked to `must-fail/`. `tools/claims` tries all, and records the goal with a \
-sum of the edit and of the contract and the body of its function. Some edits change lines of the proof too, so that \
-nothing but the clause refuses the body. Some bodies are those of an inner function on which the call rests: then the goal is that function's, of the same clause or of one \
-that the call's proof uses. \
-If the goal is marked as *only in a written proof*, the refusal shows no more than that this proof doesn't serve the wrong body.
+An *edit* puts a wrong body in the place of the right one. Its row has the call and the clauses that the edit is for, what is \
+wrong in the body, and the goal at which it was refused. The call is linked to its contract, and a call without a name behind \
+it has one clause. The same body may break other clauses too. The gate tries the edits that are linked to `must-fail/`, and \
+[`tools/claims`](MAINTAINING.md#edits) all.
 
-In a goal's name `returns` is what holds at the return, and `returns-clause-pairs` is the clause `pairs` of it. \
+- Some edits change lines of the proof too, so that nothing but the clause refuses the body.
+- Some bodies are those of an inner function on which the call rests. Then the goal is that function's. It is of the same \
+clause, or of one that the call's proof uses.
+- *Written proof* stands before a goal if only a proof that was written by hand refused the body. This shows no more than \
+that the proof doesn't serve the wrong body.
+
+Before a goal stands its file in `src/`, or the function of the written proof. `returns` is what holds at the return, and `returns-clause-pairs` is the clause `pairs` of it. \
 `insert-requires` is the precondition of a call of `insert`, `invariant_of-..` the invariant of a type, and `loop-..` \
-that of a loop. What follows, as `-in-Some` or `-then-len`, names the branch or the call before it. [`API.md`]\
-(../crates/micromap/API.md) has the same sections, and explains the words.
+that of a loop. What follows, as `-in-Some` or `-then-len`, names the branch or the call before it.
 """
 WITHOUT = "Clauses without an edit"
 WITHOUT_HEAD = """
@@ -43,8 +46,8 @@ These are proved as all others are. `rt plant` tries bodies of its own on a func
 and such that call the right one with an argument, the result or a field changed. A body is tried against all clauses of \
 the function at once. So what came of it stands here only of calls of which no clause of `ensures` has an edit.
 
-| Call | Clauses | Tried |
-|---|---|---|"""
+| Clauses | Planted bodies |
+|---|---|"""
 # Why nothing was tried of the other clauses without an edit, by a title that this page is read back by.
 SILENT = {
     NONE: "a planted body has no verdict if it doesn't compile, as one that drops a value of a type without `Drop`, if only a "
@@ -82,7 +85,7 @@ class Claims:
         self.edits = [edit_of(it, self.required | self.clauses, wrong) for it in paths]
         page, self.goals = read(CLAIMS) if os.path.exists(CLAIMS) else "", recorded()
         rest = page.partition(f"\n## {WITHOUT}\n")[2]
-        tried = re.findall(r"^\| \[`(.+?)`\].*\|.*\| (.+) \|$", rest, re.M)
+        tried = re.findall(r"^\| \[`(.+?)`\][^|]*\| (.+) \|$", rest, re.M)
         silent = re.findall(rf"^- \*\*{NONE}\*\*.*\. (.*)$", rest, re.M | re.I)
         tried += [(it, NONE) for it in re.findall(r"`(.+?)`", "".join(silent))]
         self.tried = {it: said for it, said in tried if said != UNKNOWN}
@@ -109,20 +112,18 @@ class Claims:
         place = f"../{API}#{anchor(heading)}" if heading else f"../{clause.item.path}" if clause else ""
         return f"[`{call}`]({place})"
 
-    def stated(self, name):
-        """A clause as its contract states it."""
-        required, clause = name not in self.clauses, self.clauses.get(name) or self.required.get(name)
-        label = "requires " * required + name[len(clause.call) + 2 :] if clause else ""
-        return f"`{f'{label} {{ {clause.text} }}'.lstrip()}`".replace("|", "\\|") if clause else ""
+    def clauses_of(self, call, names):
+        """A call as a link to its contract, with the names of some of its clauses, unless it has but one without a name."""
+        clause = self.clauses.get(names[0]) or self.required.get(names[0])
+        labels = [(it not in self.clauses, it[len(call) + 2 :]) for it in names]
+        shown = ", ".join(f"`{f'requires {label}' if required else label}`" for required, label in labels if label or required)
+        return self.linked(call, clause) + f" {shown}".rstrip()
 
     def row(self, edit):
-        cells = []
-        for call, names in edit.claims:
-            clause = self.clauses.get(names[0]) or self.required.get(names[0])
-            cells += [self.linked(call, clause), *map(self.stated, names)]
         wrong = f"[{edit.wrong[:1].upper()}{edit.wrong[1:]}](../{edit.path})"
-        goal = self.goals.get(edit.path, UNKNOWN).replace(" in the proof of ", ", *only in a written proof*, that of ")
-        return f"| {'<br>'.join(cells)} | {wrong} | {goal} |"
+        goal = re.sub(r"(`.*`) in (`.*`)$", r"\2 \1", self.goals.get(edit.path, UNKNOWN))
+        goal = re.sub(r"(`.*`) in the proof of (`.*`)$", r"*written proof* of \2: \1", goal)
+        return f"| {'<br>'.join(self.clauses_of(*it) for it in edit.claims)} | {wrong} | {goal} |"
 
     def text(self):
         sections = collections.defaultdict(list)
@@ -164,14 +165,13 @@ class Claims:
 
     def without(self):
         """The table of what was tried on calls without an edit, and the calls of which there is nothing to say."""
-        silent, library = collections.defaultdict(dict), self.library()
+        silent = collections.defaultdict(dict)
         for call, names in self.unnamed().items():
             verdict = self.verdict(call)
             if verdict in SILENT:
                 silent[verdict][call] = names
                 continue
-            shown = (f"`{it[len(call) + 2 :]}`" if it != call else "its only clause" for it in names)
-            yield f"| {self.linked(call, library[names[0]])} | {', '.join(shown)} | {verdict} |"
+            yield f"| {self.clauses_of(call, names)} | {verdict} |"
         yield ""
         yield "Of the other clauses no planted body says anything:"
         yield ""

@@ -105,10 +105,12 @@ def has_row(name, rows):
     return any(all(re.search(rf"`(?:[^`]*[ .])?{it}(?: [^`]*)?`", row) for it in parts) for row in rows)
 
 
-def has_family_row(name, rows):
-    """Whether the first column of a row says `each law of` the file that the name is of."""
-    law = re.fullmatch(r"law \w+\.(\w+)\..*", name)
-    return bool(law) and any(f"`{law[1]}`" in row.partition("each law of ")[2] for row in rows)
+def has_family_row(name, rows, now):
+    """Whether the first column of a row says `each law of` the file that the name is of. For a law that is gone this says
+    enough if its file is gone too."""
+    law = re.fullmatch(r"law (\w+)\.(\w+)\..*", name)
+    is_told = bool(law) and any(f"`{law[2]}`" in row.partition("each law of ")[2] for row in rows)
+    return is_told and (name in now or not any(it.startswith(f"law {law[1]}.{law[2]}.") for it in now))
 
 
 def moved_names(sources):
@@ -120,7 +122,7 @@ def moved_names(sources):
     lost = {it.removeprefix("ruleset ") for it in recorded if it.startswith("ruleset ") and it not in now}
     moved = [it for it in recorded if now.get(it) != recorded[it] and not is_clause_of(it, calls)]
     moved = [it for it in moved if it.removeprefix("law of ruleset ").partition(": ")[0] not in lost]
-    without = [it for it in moved if not has_row(it, rows) and not (it in now and has_family_row(it, rows))]
+    without = [it for it in moved if not has_row(it, rows) and not has_family_row(it, rows, now)]
     print(f"{CHANGES}: of {len(recorded)} names that callers rest on, {len(moved)} are gone or say something else")
     said = {True: "says something else", False: "is gone"}
     return [f"{CHANGES} has no row for the {it}, which {said[it in now]}" for it in without]
