@@ -30,7 +30,8 @@ wrong in the body, and the goal at which it was refused. The call is linked to i
 it has one clause. The same body may break other clauses too. The gate tries the edits that are linked to `must-fail/`, and \
 [`tools/claims`](MAINTAINING.md#edits) all.
 
-- Some edits change lines of the proof too, so that nothing but the clause refuses the body.
+- Some edits change lines of the proof too, and leave an answer to the search, so that an answer that no longer fits isn't what refuses the body. That the search proves the right body there isn't tried.
+- One goal of each edit is recorded. It may have others.
 - Some bodies are those of an inner function on which the call rests. Then the goal is that function's. It is of the same \
 clause, or of one that the call's proof uses.
 - *Written proof* stands before a goal if only a proof that was written by hand refused the body. This shows no more than \
@@ -40,6 +41,8 @@ Before a goal stands its file in `src/`, or the function of the written proof. `
 `insert-requires` is the precondition of a call of `insert`, `invariant_of-..` the invariant of a type, and `loop-..` \
 that of a loop. What follows, as `-in-Some` or `-then-len`, names the branch or the call before it.
 """
+# What the clauses are called that ghost members of traits stand in.
+GHOSTS = {"next_gives": "steps", "output": "writes", "into_iter_gives": "pairs"}
 WITHOUT = "Clauses without an edit"
 WITHOUT_HEAD = """
 These are proved as all others are. `rt plant` tries bodies of its own on a function: such that give up, as `None` does, \
@@ -70,6 +73,12 @@ def edit_of(path, known, wrong):
         claims.append((call, [f"{call}: {it}".removesuffix(": ") for it in names.split(", ")]))
     wrong += [f"{path}: no clause is {it}" for _, names in claims for it in names if it not in known]
     return Edit(path, said.get("wrong", ""), claims)
+
+
+def is_of(goal, name):
+    """Whether a goal may be of this clause: it names no other."""
+    named, label = re.search(r"-clause-(\w+)", goal), name.rpartition(": ")[2]
+    return not named or named[1] == GHOSTS.get(label, label)
 
 
 class Claims:
@@ -181,26 +190,28 @@ class Claims:
             yield from [f"- **{verdict[0].upper()}{verdict[1:]}**, {count} clauses: {why}. {calls}"] * bool(count)
 
     def counts(self):
-        """How many clauses have an edit that a goal refuses, how many have such as only a written proof refuses, how many have
-        refused planted bodies alone, how many have none of these, and all."""
+        """How many clauses have an edit that a goal refuses, for how many of these it is that of another clause, how many have
+        such as only a written proof refuses, how many have refused planted bodies alone, how many have none, and all."""
         unnamed, library = self.unnamed(), self.library()
         without = {call: len(names) for call, names in unnamed.items()}
         tried = sum(count for call, count in without.items() if self.verdict(call) not in SILENT)
-        strong = (it for it in self.edits if it.path in self.goals and kind_of(self.goals[it.path]) != PROOF)
+        strong = [it for it in self.edits if it.path in self.goals and kind_of(self.goals[it.path]) != PROOF]
         shown = {*library} & {name for edit in strong for _, names in edit.claims for name in names}
+        own = {name for edit in strong for _, names in edit.claims for name in names if is_of(self.goals[edit.path], name)}
         named = len(library) - sum(without.values())
-        return len(shown), named - len(shown), tried, sum(without.values()) - tried, len(library)
+        return len(shown), len(shown - own), named - len(shown), tried, sum(without.values()) - tried, len(library)
 
     def totals(self):
         """The table of these."""
-        names = ["with an edit that a goal of a contract, an invariant or a call's condition refuses", "with edits that only a written proof refuses"]
+        names = ["with an edit that a goal of a contract, an invariant or a call's condition refuses", "of these, such as were recorded at a goal of another clause of the call"]
+        names += ["with edits that only a written proof refuses"]
         names += [f"[without an edit](#{anchor(WITHOUT)}), but with planted bodies that were judged", "with none of these", "all"]
         yield "| The library's clauses | |\n|---|---|"
         yield from (f"| {what} | {count} |" for what, count in zip(names, self.counts()))
 
     def wrong_of_readme(self):
         """What is amiss in the README's sentence about these."""
-        shown, written, tried, untried, library = self.counts()
-        wanted = (f"Of the library's {library} clauses, {shown} have such a body that a goal refuses, and {written} more one that only a written proof refuses. "
-                  f"For {tried} more, bodies that a tool made were refused. For the other {untried}, no refusal is known to be theirs.")
+        shown, other, written, tried, untried, library = self.counts()
+        wanted = (f"Of the library's {library} clauses, {shown} have such a body that a goal refuses; for {other} of these the recorded goal is that of another clause of the call. {written} more have one that only a written proof refuses. "
+                  f"{tried} more belong to calls of which a body that a tool made was refused by all their clauses together. Of the other {untried} no refusal is known.")
         return [] if wanted in read("README.md") else [f"README.md doesn't say: {wanted}"]

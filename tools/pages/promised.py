@@ -12,14 +12,15 @@ WIDTH = 110
 COMMENT = r"(?:^ *--.*\n)+"
 MODULE = r"^ *module _ .*\n(?:^ +[({].*\n)*"
 SEARCHED = r"pub (each_[\w'-]+) :"  # a law that a search alone uses
-LAW = r"^ *pub [\w'≢-]+ :.*\n(?:^ +(?:[({→×↔≡∷+|&]|\().*\n)*"
+LAW = r"^(?P<within> *)pub [\w'≢-]+ :.*\n(?:^(?P=within) +\S.*\n)*"
 INTRO = """# The laws of micromap
 
-Each law below is promised to callers: it is proved, and it keeps its name and its statement. The line above a block is the
+Each law below is promised to callers: it is proved, and it keeps its name and its statement. The first line of a block is the
 module that has its laws. The rulesets of `micromap::proofs::Rules` have those that a search needs, so most callers name
 none; [PROVING](PROVING.md) says when one is named. A line `module _` has what the laws below it, further in, share. What
-stands in braces is found by the checker. [API](API.md) explains the words. `rt lemma NAME` prints a law too, and the
-statements of those that serve a search alone, which stand here by name.
+stands in braces is found by the checker. [API](API.md) explains the words of the calls. `rt lemma NAME` prints a law too, and
+the statements of those that serve a search alone, which stand here by name. Where a statement begins with `x ≡ x ×`, this part
+is there for the search, and what the law says stands behind it.
 """
 
 
@@ -50,7 +51,8 @@ def broken(indent, text):
 def laws_in(text):
     """The statements of a file's public laws, with the arguments that they share and the comments before them."""
     lines, comment, searched = [], "", re.findall(rf"^ *{SEARCHED}", text, re.M)
-    for block in re.findall(f"{COMMENT}|{MODULE}|{LAW}|^.+\n|^\n", text[re.match(COMMENT, text, re.M).end() :], re.M):
+    after = text[re.match(COMMENT, text, re.M).end() :]
+    for block in (it[0] for it in re.finditer(f"{COMMENT}|{MODULE}|{LAW}|^.+\n|^\n", after, re.M)):
         first = block.lstrip(" ")
         indent, flat = block[: len(block) - len(first)], " ".join(block.split())
         if first.startswith("--"):

@@ -31,7 +31,7 @@ CHOICE_WORDS = {
     "clone": "a map is cloned",
 }
 # The README's table has the times of one of these, at some capacities, in a row that begins with these words.
-FOUND, FOUND_CAPACITIES = "get, hit", [2, 8, 32]
+FOUND, FOUND_CAPACITIES = "get, hit", [2, 4, 8, 32]
 FOUND_WORDS = f"Finds one of {', '.join(map(str, FOUND_CAPACITIES[:-1]))} or {FOUND_CAPACITIES[-1]} numbers in"
 SQUARE = ["count by entries", "new and fill"]  # whose time grows with the square of the number of pairs
 NEW_MAPS = ["copied", "put one, hand on"]  # without which SPEED.md says the means too
@@ -173,7 +173,7 @@ def found_table(times, part):
     own = ([nanoseconds * ratios[rival][0] for nanoseconds, ratios in at_each] for rival in [0, *CHOICES])
     yield row([FOUND_WORDS, *(f"{', '.join(map(brief, it))} ns" for it in own)])
     every = mean([one for it in times.values() for one in own_of(it)])[0]
-    yield f"\nIn the geometric mean of {len(times)} workloads, `micromap` takes {every:.2f} times the Rust crate's time."
+    yield f"\nIn the geometric mean of {len(times)} workloads, this library takes {every:.2f} times the Rust crate's time."
 
 
 def alone_table(alone):
