@@ -61,4 +61,5 @@ def example(title, docs, wrong):
         wrong.append(f"tools/pages/examples.py: {title} has no example")
     if not found:
         return []
-    return ["", f"An example under `{tactic(path)}`, of `{path}`:", "", "```rust", found, "```"]
+    under = "" if re.search(r"^#\[tactic", found, re.M) else f" under `{tactic(path)}`"
+    return ["", f"An example{under}, of `{path}`:", "", "```rust", found, "```"]

@@ -22,6 +22,8 @@ your own types and tests in the place of its numbers. [CALLING](CALLING.md#when-
 - The imports are those of the words in the clauses. [CALLING](CALLING.md#callers) has those of types.
 - A block `antt` is a proof by hand: an [invariant](PROVING.md#an-invariant) of a loop, or *answers* to single goals. Its file has
 the path of its function: that of `total` of `src/walks.rt` is `proofs/walks/total/Invariants.antt`, and in `main.rt` or `lib.rt` `proofs/total/Invariants.antt`. `my_crate` stands for your crate.
+- The line of your crate in `crates.txt` is `name: micromap micromap_core`.
+- The folder of the proof of a recursive function begins with `+`, and its file says what falls at each call.
 - Many a contract says only what an `Ok`, a `Some` or a `true` means, and nothing of what is left after a refusal.
 
 The files are in `crates/micromap_callers` of micromap's own repository. Its `micromap_uses` has whole examples, with definitions
