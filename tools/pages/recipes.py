@@ -9,7 +9,7 @@ from pages.sources import anchor, doc_of, read
 
 RECIPES, CRATE, WHOLE = "crates/micromap/RECIPES.md", "micromap_callers", "micromap_uses"
 # The files, in the order of the page.
-FILES = """asking counting finding knowing building merging copying joining changing entries nested texts strs strings keys
+FILES = """asking counting finding knowing building merging copying joining changing entries nested texts strs strings json keys
 own_types""".split()
 WORDS = "Words and laws of their own"
 LISTED = "A file of `specs/` is listed in `specs/Lib.antt`, as `pub mod Totals`, and one of laws in `proofs/Lib.antt`."

@@ -9,6 +9,7 @@ pub mod counting;
 pub mod entries;
 pub mod finding;
 pub mod joining;
+pub mod json;
 pub mod keys;
 pub mod knowing;
 pub mod merging;

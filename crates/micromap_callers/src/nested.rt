@@ -1,7 +1,8 @@
 //! Sets as the values of a map.
 #![tactic(auto, using(micromap::proofs::Rules::caller))]
 
-ghost use Rattle.std.specs.Prelude.{◌≡◌, ◌&&◌, [], false, filter, fold, if◌then◌else◌, length, map, nat_eq, nat_le, nat_lt, not, unwrap_or};
+ghost use Rattle.std.specs.Prelude.{◌≡◌, ◌&&◌, [], List, ℕ, false, filter, fold, if◌then◌else◌, length, map, nat_eq, nat_le, nat_lt, not, unwrap_or};
+ghost use Rattle.std.specs.Map.{values_of};
 ghost use Rattle.std.specs.Option.{option_map_or};
 ghost use Rattle.micromap.specs.Extend.{put_all_items};
 ghost use Rattle.micromap.specs.Items.{item_fits, put_item_if_fits, take_item};
@@ -115,4 +116,19 @@ pub fn limit_all<const N: usize, const M: usize>(groups: &mut Map<u8, Set<u8, M>
             ensures { permissions.new ≡ filter (λ x. nat_lt x most) permissions.old }
         { keep_below(permissions, most) },
     );
+}
+
+/// Makes a set of the items of all sets of a map.
+/// What doesn't fit is left out.
+#[tactic(auto)]
+pub fn all_members(groups: &Map<u8, Set<u8, 8>, 8>) -> Set<u8, 16>
+    ensures { result ≡ fold (λ (all : List ℕ) (group : List ℕ).
+        fold (λ (all : List ℕ) (item : ℕ). put_item_if_fits nat_eq 16 all item) all group) [] (values_of groups.now) }
+{
+    groups.values().fold(Set::new(), |all: Set<u8, 16>, group| {
+        group.iter().fold(all, |mut all: Set<u8, 16>, item| {
+            all.checked_insert(*item);
+            all
+        })
+    })
 }

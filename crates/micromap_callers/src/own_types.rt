@@ -1,13 +1,16 @@
 //! Enums and structs with a derived `==` as values or keys.
 #![tactic(auto, using(micromap::proofs::Rules::caller))]
 
-ghost use Rattle.std.specs.Prelude.{◌≡◌, IfSome, Some, nat_eq};
+ghost use Rattle.std.specs.Prelude.{◌≡◌, ◌↔◌, IfSome, IsTrue, Some, nat_eq};
 ghost use Rattle.std.specs.List.{list_any};
-ghost use Rattle.std.specs.Map.{values_of};
+ghost use Rattle.std.specs.Map.{lookup, values_of};
 ghost use Rattle.micromap.specs.Pairs.{at};
+ghost use Rattle.micromap.specs.Probe.{is_str};
+ghost use Rattle.micromap.specs.Same.{Same};
+ghost use Rattle.micromap.specs.Texts.{str_eq};
 ghost use Rattle.micromap_callers.specs.Permissions.{permission_eq};
 
-use micromap::Map;
+use micromap::{Map, Text};
 
 /// What a user may do.
 #[derive(Debug, Clone, Copy, PartialEq, Eq)]
@@ -65,4 +68,21 @@ pub fn square_of<const N: usize>(board: &Map<Square, char, N>, piece: char) -> O
         }
     }
     None
+}
+
+/// Reads a struct at a `&str`.
+pub fn square_at(places: &Map<&str, Square, 16>, name: &str) -> Option<Square>
+    ensures { result ≡ lookup (is_str name.now) places.now }
+{
+    places.get_by(&Text(name)).copied()
+}
+
+/// Returns whether two maps from `&str` to a struct with a derived `==` are the same.
+pub fn are_same_places<'a, const N: usize, const M: usize>(
+    one: &Map<&'a str, Square, N>,
+    other: &Map<&'a str, Square, M>,
+) -> bool
+    ensures { IsTrue result ↔ Same str_eq ⟦<Square as PartialEq>⟧.eq one.now other.now }
+{
+    one.eq_with(other)
 }
