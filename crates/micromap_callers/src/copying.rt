@@ -120,8 +120,9 @@ pub fn changed<const N: usize, const M: usize>(
     kept
 }
 
-/// Copies a map whose values must be cloned.
-/// The copy is the very same list.
+/// Copies a map whose values are cloned, in a loop.
+/// The copy is the very same list. `plan.clone()` makes it in one call; the loop is the form to start from if a value
+/// changes on its way.
 #[tactic(auto, using(micromap::proofs::Rules::loops))]
 pub fn copied<const N: usize, const M: usize>(
     plan: &Map<u8, Set<u8, M>, N>,

@@ -59,7 +59,7 @@ pub fn merged<const N: usize, const M: usize>(
     Some(merged)
 }
 
-/// Puts a map into another by value, as far as it fits.
+/// Puts a map over one that is passed by value, as far as it fits.
 /// Keys and values are of any type. For numbers and known capacities the closure needs no clause: `|mut m, (k, v)|`.
 #[tactic(auto)]
 pub fn merged_any<K: Eq + Copy, V: Copy, const N: usize, const M: usize>(
@@ -132,7 +132,7 @@ pub fn include<const N: usize, const M: usize>(
 }
 
 /// Moves the items of a set into another, as far as they fit.
-/// It is a work list: the items are taken one after the other until none is left.
+/// It is a work list: the items are taken one after the other until none is left. What doesn't fit is dropped.
 #[tactic(auto, using(micromap::proofs::Rules::loops))]
 pub fn pour<const N: usize, const M: usize>(from: &mut Set<u8, N>, into: &mut Set<u8, M>)
     ensures emptied { from.new ≡ [] }

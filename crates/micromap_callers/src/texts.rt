@@ -124,6 +124,7 @@ pub fn above<const N: usize>(
 }
 
 /// Copies a map of sets of texts.
+/// A clone of a `TextBuf` is the same value, and so is that of a set of them. So the copy is the very same list.
 pub fn plan_of<const N: usize>(
     needs: &Map<TextBuf, Set<TextBuf, 4>, N>,
 ) -> Result<Map<TextBuf, Set<TextBuf, 4>, N>, AllocError>
