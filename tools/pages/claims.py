@@ -21,7 +21,7 @@ HEAD = """# Claims
 
 Made by `tools/documents` from the sources, from the edits and from what `tools/claims` recorded of them.
 
-Every clause is proved. Whether it says enough is tested by wrong bodies, which the prover must refuse:
+Every clause is proved. Whether a clause says enough is tried by wrong bodies, which the prover must refuse. Of many clauses no refusal is known:
 
 TOTALS
 
@@ -30,7 +30,7 @@ wrong in the body, and the goal at which it was refused. The call is linked to i
 it has one clause. The same body may break other clauses too. The gate tries the edits that are linked to `must-fail/`, and \
 [`tools/claims`](MAINTAINING.md#edits) all.
 
-- Some edits change lines of the proof too, and leave an answer to the search, so that an answer that no longer fits isn't what refuses the body. That the search proves the right body there isn't tried.
+- Some edits change lines of the proof too, and leave a goal to the search, so that an answer that no longer fits isn't what refuses the body. That the search proves the right body there isn't tried.
 - One goal of each edit is recorded. It may have others.
 - Some bodies are those of an inner function on which the call rests. Then the goal is that function's. It is of the same \
 clause, or of one that the call's proof uses.

@@ -17,8 +17,8 @@ INTRO = """# The laws of micromap
 
 Each law below is promised to callers: it is proved, and it keeps its name and its statement. The first line of a block is the
 module that has its laws. The rulesets of `micromap::proofs::Rules` have those that a search needs, so most callers name
-none; [PROVING](PROVING.md) says when one is named. A line `module _` has what the laws below it, further in, share. What
-stands in braces is found by the checker. [API](API.md) explains the words of the calls. `rt lemma NAME` prints a law too, and
+none; [PROVING](PROVING.md) says when one is named. A line `module _` has the arguments that come first in each law
+that is indented below it. The checker finds those in braces. [API](API.md) explains the words of the calls. `rt lemma NAME` prints a law too, and
 the statements of those that serve a search alone, which stand here by name. Where a statement begins with `x ≡ x ×`, this part
 is there for the search, and what the law says stands behind it.
 """

@@ -16,20 +16,34 @@ LISTED = "A file of `specs/` is listed in `specs/Lib.antt`, as `pub mod Totals`,
 INTRO = """# Recipes
 
 A recipe is a small function over a map or a set, with a contract. Each is proved as it stands here. Take its block, and put
-your own types and tests in the place of its numbers. [CALLING](CALLING.md#when-a-check-fails) has what to do when a check fails.
+your own types and tests in the place of its own. Another type of keys may need another equality in the clauses ([words](CALLING.md#words)). [CALLING](CALLING.md#when-a-check-fails) has what to do when a check fails.
 
 - Write the line `tactic` as `#[..]` at your function, or as `#![..]` at the head of your file.
 - The imports are those of the words in the clauses. [CALLING](CALLING.md#callers) has those of types.
 - A block `antt` is a proof by hand: an [invariant](PROVING.md#an-invariant) of a loop, or *answers* to single goals. Its file has
 the path of its function: that of `total` of `src/walks.rt` is `proofs/walks/total/Invariants.antt`, and in `main.rt` or `lib.rt` `proofs/total/Invariants.antt`. `my_crate` stands for your crate.
 - The line of your crate in `crates.txt` is `name: micromap micromap_core`.
-- The folder of the proof of a recursive function begins with `+`, and its file says what falls at each call.
-- Many a contract says only what an `Ok`, a `Some` or a `true` means, and nothing of what is left after a refusal.
+- The proof of a recursive function `f` is in the folder `+f`. It says what falls at each call.
+- Many contracts say only what an `Ok`, a `Some` or a `true` means. After a refusal nothing is known of the map.
 
 The files are in `crates/micromap_callers` of micromap's own repository. Its `micromap_uses` has whole examples, with definitions
 and laws of their own:
 
 """
+# What one may look for, and the headings that have it.
+WANTS = {
+    "merge or join two maps": ["Puts a map over another, all or nothing", "Makes a map of the pairs of two maps",
+        "Adds the amounts of another map to the totals of a map"],
+    "settings in layers": ["Finds a key's value in the first of several maps with it",
+        "Copies settings with others put over them, or answers `None` if they don't all fit"],
+    "the union of a map's sets": ["Makes a set of the items of all sets of a map"],
+    "remove while iterating": ["Keeps the pairs that pass"],
+    "what was visited, and a work list": ["Moves the items of a set into another, as far as they fit"],
+    "the newest `N` items": ["Inserts an item into a set, which loses its first if it's full"],
+    "invert a map": ["Makes a map with key and value exchanged"],
+    "group by a key": ["Groups a list: makes a map of the members of each key"],
+    "a copy with another capacity": ["Copies the pairs that pass into a map of another capacity"],
+}
 # An item at the margin, with the comments and the attributes above it.
 BLOCK = r"(?:.*[;}]$|(?s:.*?)^\}$)"
 ITEM = rf"^((?:(?://|#\[).*\n)*)((?:pub(?:\(\w+\))? )?(?:(?:(?:const )?fn|struct|enum|impl)\b{BLOCK}|(?:type|const)\b(?s:.*?);$))"
@@ -135,7 +149,7 @@ def section(recipe, known):
     line = f"Under `{tactic(recipe.path.removeprefix('crates/'))}`:" * inherits
     words = own([*imports(recipe), code, line, *map(read, proofs)])
     needs = [f"`{it.name}`: {linked(it.heading)}." for it in needed(recipe, known)]
-    needs += [f"Its own words: {', '.join(linked(own_title(it)) for it in sorted(words))}."] if words else []
+    needs += [f"Definitions and laws that it needs: {', '.join(linked(own_title(it)) for it in sorted(words))}."] if words else []
     source = block("rust", "\n".join([*imports(recipe), "", code]))
     quoted = [f"In {own_title(it)}:\n\n{block('antt', read(it))}" for it in proofs]
     return "\n\n".join(filter(None, [f"### {recipe.heading}", recipe.rest, " ".join(needs), line, source, *quoted])), words
@@ -161,4 +175,6 @@ def recipes(wrong):
     uses = sorted(it for it in glob.glob(f"crates/{WHOLE}/src/*.rt") if not it.endswith("/lib.rt"))
     listed = "\n".join(f"- `{os.path.basename(it)}`: {title_of(it)[0]}" for it in uses)
     ends = [f"### {own_title(it)}\n\n{block('antt', read(it))}" for it in sorted(words, key=lambda it: ("/specs/" not in it, it))]
-    return "\n\n".join([INTRO.strip(), listed, "## Index", "\n".join(rows), *sections, *([f"## {WORDS}", LISTED, *ends] if ends else [])]) + "\n"
+    wanted = "\n".join(["| Looked for | Recipe |", "|---|---|", *(f"| {it} | {', '.join(map(linked, WANTS[it]))} |" for it in WANTS)])
+    wrong += [f"{RECIPES}: no heading is {it}" for those in WANTS.values() for it in those if it not in {one.heading for one in known}]
+    return "\n\n".join([INTRO.strip(), listed, "## Index", wanted, "\n".join(rows), *sections, *([f"## {WORDS}", LISTED, *ends] if ends else [])]) + "\n"
