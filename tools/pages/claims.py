@@ -30,7 +30,8 @@ wrong in the body, and the goal at which it was refused. The call is linked to i
 it has one clause. The same body may break other clauses too. The gate tries the edits that are linked to `must-fail/`, and \
 [`tools/claims`](MAINTAINING.md#edits) all.
 
-- Some edits change lines of the proof too, and leave a goal to the search, so that an answer that no longer fits isn't what refuses the body. That the search proves the right body there isn't tried.
+- CHANGED of the EDITS edits change lines of the proof too, and are marked †. They leave a goal to the search, so that an answer \
+that no longer fits isn't what refuses the body. It isn't tried whether the search proves the right body there.
 - One goal of each edit is recorded. It may have others.
 - Some bodies are those of an inner function on which the call rests. Then the goal is that function's. It is of the same \
 clause, or of one that the call's proof uses.
@@ -132,14 +133,21 @@ class Claims:
         wrong = f"[{edit.wrong[:1].upper()}{edit.wrong[1:]}](../{edit.path})"
         goal = re.sub(r"(`.*`) in (`.*`)$", r"\2 \1", self.goals.get(edit.path, UNKNOWN))
         goal = re.sub(r"(`.*`) in the proof of (`.*`)$", r"*written proof* of \2: \1", goal)
-        return f"| {'<br>'.join(self.clauses_of(*it) for it in edit.claims)} | {wrong} | {goal} |"
+        mark = " †" * self.changes_proof(edit)
+        return f"| {'<br>'.join(self.clauses_of(*it) for it in edit.claims)} | {wrong}{mark} | {goal} |"
+
+    @staticmethod
+    def changes_proof(edit):
+        return re.search(r"^file: proofs/", read(edit.path), re.M) is not None
 
     def text(self):
         sections = collections.defaultdict(list)
         for edit in sorted(self.edits, key=lambda it: (self.section(it)[1], it.path)):
             sections[self.section(edit)[0]].append(edit)
         order = [*self.api.groups, *PROGRAMS.values(), *sections]
-        out = [HEAD.replace("TOTALS", "\n".join(self.totals()))]
+        changed = sum(map(self.changes_proof, self.edits))
+        head = HEAD.replace("CHANGED", str(changed)).replace("EDITS", str(len(self.edits)))
+        out = [head.replace("TOTALS", "\n".join(self.totals()))]
         for title in dict.fromkeys(it for it in order if it in sections):
             out.append(f"- [{title}](#{anchor(title)}): {len(sections[title])}")
         out.append(f"- [{WITHOUT}](#{anchor(WITHOUT)})")
@@ -186,8 +194,14 @@ class Claims:
         yield ""
         for verdict, why in SILENT.items():
             count = sum(map(len, silent[verdict].values()))
-            calls = ", ".join(f"`{it}`" for it in silent[verdict])
+            calls = ", ".join(f"`{it}`{self.labels(it, names)}" for it, names in silent[verdict].items())
             yield from [f"- **{verdict[0].upper()}{verdict[1:]}**, {count} clauses: {why}. {calls}"] * bool(count)
+
+    @staticmethod
+    def labels(call, names):
+        """The names of some of a call's clauses in parentheses, if they have names."""
+        labels = [it.removeprefix(f"{call}: ") for it in names if it != call]
+        return f" ({', '.join(labels)})" if labels else ""
 
     def counts(self):
         """How many clauses have an edit that a goal refuses, for how many of these it is that of another clause, how many have
@@ -203,9 +217,9 @@ class Claims:
 
     def totals(self):
         """The table of these."""
-        names = ["with an edit that a goal of a contract, an invariant or a call's condition refuses", "of these, such as were recorded at a goal of another clause of the call"]
+        names = ["with an edit that a goal of a contract, an invariant or a call's condition refuses", "of these, recorded only at a goal that names another clause"]
         names += ["with edits that only a written proof refuses"]
-        names += [f"[without an edit](#{anchor(WITHOUT)}), but with planted bodies that were judged", "with none of these", "all"]
+        names += [f"[without an edit](#{anchor(WITHOUT)}), but of a call of which a planted body was refused", "with none of these", "all"]
         yield "| The library's clauses | |\n|---|---|"
         yield from (f"| {what} | {count} |" for what, count in zip(names, self.counts()))
 
