@@ -120,7 +120,7 @@ pub fn put_each<K: Eq + Copy + Drop, const N: usize>(
 }
 
 /// Puts pairs into a map, and knows what a key finds then.
-/// Of the pairs with the key the last one stands, and else what the map had. Of `None` the contract says nothing.
+/// Of the pairs with the key the last one stands, and else what the map had. The contract says nothing of `None`.
 pub fn put_each_then_read<K: Eq + Copy + Drop, const N: usize>(
     map: &mut Map<K, u8, N>,
     items: &[(K, u8)],

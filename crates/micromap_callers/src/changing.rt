@@ -108,7 +108,7 @@ pub fn reserve<const N: usize>(seats: &mut Map<u8, u16, N>, seat: u8, guest: u16
 }
 
 /// Inserts an item into a set, which loses its first if it's full.
-/// An item that is there already takes nothing out. Of the result the contract says nothing.
+/// An item that is there already takes nothing out. The contract says nothing of the result.
 pub fn add_newest<T: Eq + Drop, const N: usize>(set: &mut Set<T, N>, item: T) -> Option<T>
     requires { 0 < N }
     ensures { set.new ≡ put_item T.eq (if item_fits T.eq N set.old item then set.old else drop 1 set.old) item }

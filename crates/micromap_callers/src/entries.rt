@@ -75,7 +75,7 @@ pub fn raise_then_read<const N: usize>(
 }
 
 /// Removes a pair by its entry, and knows that the others stay.
-/// They keep their order. Of the result the contract says nothing.
+/// They keep their order. The contract says nothing of the result.
 pub fn leave_out<const N: usize>(map: &mut Map<u8, u8, N>, number: u8) -> bool
     ensures { keys_of map.new ≡ filter (λ k. not (nat_eq number k)) (keys_of map.old) }
 {

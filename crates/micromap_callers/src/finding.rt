@@ -94,7 +94,7 @@ pub fn group_of<const N: usize, const M: usize>(
 }
 
 /// Finds a pair that passes a test, which `get` finds too.
-/// Of `None` the contract says nothing. Keys of any type go the same way, by `K.eq` in the contract and
+/// The contract says nothing of `None`. Keys of any type go the same way, by `K.eq` in the contract and
 /// `g.K.PartialEq.eq` in the invariant. A key alone is known to be stored by `has nat_eq` in both.
 pub fn pair_over<const N: usize>(map: &Map<u8, u8, N>, limit: u8) -> Option<(u8, u8)>
     ensures found { IfSome result (λ p. at nat_eq map.now p.0 ≡ Some p.1) }
@@ -109,7 +109,7 @@ pub fn pair_over<const N: usize>(map: &Map<u8, u8, N>, limit: u8) -> Option<(u8,
 }
 
 /// Finds an item that passes a test, which is a member.
-/// Of `None` the contract says nothing. The items have any type. Those of a known one go the same way, by its equality
+/// The contract says nothing of `None`. The items have any type. Those of a known one go the same way, by its equality
 /// in the place of `T.eq` and of `g.T.PartialEq.eq`.
 pub fn other_than<'a, T: Eq, const N: usize>(set: &'a Set<T, N>, item: &T) -> Option<&'a T>
     ensures stored { IfSome result (λ x. IsTrue (is_member T.eq set.now x.now)) }

@@ -53,8 +53,8 @@ impl Probe<Guest> for Number {
 }
 
 /// Puts a value at a key whose `==` reads one field.
-/// The type `Guest` of the file says its `==` and proves the laws of it. The contract is that another key finds the new
-/// value if the two are equal, and else what it had. A key type with a derived `==` needs no laws.
+/// The type `Guest` of the file says its `==` and proves the laws of it. The contract says what `b` finds then: the new
+/// value if it equals `a`, and else what it found before. A key type with a derived `==` needs no laws.
 pub fn put_guest(map: &mut Map<Guest, u8, 8>, a: Guest, b: &Guest) -> Option<u8>
     requires { IsTrue (fits (on (λ k. k.number) nat_eq) 8 map.old a) }
     ensures { result ≡ (if nat_eq a.number b.now.number then Some 1 else at (on (λ k. k.number) nat_eq) map.old b.now) }
@@ -64,8 +64,8 @@ pub fn put_guest(map: &mut Map<Guest, u8, 8>, a: Guest, b: &Guest) -> Option<u8>
 }
 
 /// Puts a value at a key of any type.
-/// Another key finds it if the two are equal, in either order, and else what it had. A set's items go the same way, by
-/// `item_fits` and `is_member`.
+/// The contract says what `b` finds then: the new value if it equals `a`, and else what it found before. `order` compares
+/// `b` with `a`, and `turned` compares `a` with `b`. A set's items go the same way, by `item_fits` and `is_member`.
 pub fn put_any<K: Eq + Drop>(map: &mut Map<K, u8, 8>, a: K, b: &K) -> Option<u8>
     requires { IsTrue (fits K.eq 8 map.old a) }
     ensures order { result ≡ (if K.eq b.now a then Some 1 else at K.eq map.old b.now) }

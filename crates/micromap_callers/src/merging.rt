@@ -69,7 +69,7 @@ pub fn add_amounts<const N: usize>(totals: &mut Map<u8, u32, N>, amounts: &[(u8,
 }
 
 /// Adds amounts, and knows the total of one key.
-/// It is the old one with the amounts of its key. Of `None` the contract says nothing.
+/// It is the old one with the amounts of its key. The contract says nothing of `None`.
 pub fn add_then_read<const N: usize>(
     totals: &mut Map<u8, u32, N>,
     amounts: &[(u8, u32)],
@@ -124,7 +124,7 @@ pub fn groups_of<const N: usize, const M: usize>(
 }
 
 /// Keeps the greatest amount of each key.
-/// Of `false` the contract says nothing.
+/// The contract says nothing of `false`.
 pub fn keep_greatest<const N: usize>(greatest: &mut Map<u8, u32, N>, amounts: &[(u8, u32)]) -> bool
     ensures { OnTrue result (greatest.new ≡ merged nat_eq greater greatest.old amounts.now) }
 {
@@ -142,7 +142,7 @@ pub fn keep_greatest<const N: usize>(greatest: &mut Map<u8, u32, N>, amounts: &[
 }
 
 /// Adds the amounts of another map to the totals of a map.
-/// A total stays at the greatest number. Of `false` the contract says nothing.
+/// A total stays at the greatest number. The contract says nothing of `false`.
 pub fn add_map<const N: usize, const M: usize>(
     totals: &mut Map<u8, u32, N>,
     amounts: &Map<u8, u32, M>,
@@ -162,7 +162,7 @@ pub fn add_map<const N: usize, const M: usize>(
 }
 
 /// Adds the amounts of a `Vec` by value.
-/// A total stays at the greatest number. Of `false` the contract says nothing.
+/// A total stays at the greatest number. The contract says nothing of `false`.
 pub fn add_vector<const N: usize>(totals: &mut Map<u8, u32, N>, amounts: Vec<(u8, u32)>) -> bool
     ensures { OnTrue result (totals.new ≡ merged nat_eq saturated_sum totals.old (vec_items amounts)) }
 {

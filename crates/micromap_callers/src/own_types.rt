@@ -40,7 +40,7 @@ pub fn is_held<const N: usize>(holders: &Map<u8, Permission, N>, permission: Per
 }
 
 /// Finds a key with a certain value of an enum.
-/// Then `get` finds this value at the key. Of `None` the contract says nothing. The laws of the derived `==` are in
+/// Then `get` finds this value at the key. The contract says nothing of `None`. The laws of the derived `==` are in
 /// the line `tactic`.
 #[tactic(auto, using(micromap::proofs::Rules::caller, crate::proofs::PermissionLaws::lawful_permission))]
 pub fn user_with<const N: usize>(
@@ -58,7 +58,7 @@ pub fn user_with<const N: usize>(
 }
 
 /// Finds a key that is a struct, by its value.
-/// Then `get` finds this value at the key. Of `None` the contract says nothing.
+/// Then `get` finds this value at the key. The contract says nothing of `None`.
 pub fn square_of<const N: usize>(board: &Map<Square, char, N>, piece: char) -> Option<Square>
     ensures { IfSome result (λ square. at ⟦<Square as PartialEq>⟧.eq board.now square ≡ Some piece) }
 {
