@@ -226,6 +226,6 @@ class Claims:
     def wrong_of_readme(self):
         """What is amiss in the README's sentence about these."""
         shown, other, written, tried, untried, library = self.counts()
-        wanted = (f"Of the library's {library} clauses, {shown} have such a body that a goal refuses; for {other} of these the recorded goal is that of another clause of the call. {written} more have one that only a written proof refuses. "
-                  f"{tried} more belong to calls of which a body that a tool made was refused by all their clauses together. Of the other {untried} no refusal is known.")
+        wanted = (f"Of the library's {library} clauses, {shown} have a wrong body of their own that is refused at a goal. For {other} of these the recorded goal names another clause of the call. {written} more have one that only a written proof refuses. "
+                  f"{tried} more belong to calls of which a tool's wrong body was refused by all their clauses together. Of the other {untried} no refusal is known.")
         return [] if wanted in read("README.md") else [f"README.md doesn't say: {wanted}"]
