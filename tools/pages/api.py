@@ -166,8 +166,11 @@ class Api:
     def text(self):
         ends = [*self.lent_table(), "", *Vocabulary([*self.texts()], self.wrong).tables()]
         titles = ["Every call", *self.groups, *re.findall(r"^## (.*)", "\n".join(ends), re.M)]
-        links = ", ".join(f"[{it}](#{anchor(it)})" for it in titles)
-        out = [HEAD, f"Sections: {links}.", "", *Calls(self).lines()]
+        lists = {"Map": [], "Set": [], "Others": []}
+        for it in titles:
+            owner, _, short = it.partition(": ")
+            lists[owner if short else "Others"].append(f"[{short or it}](#{anchor(it)})")
+        out = [HEAD, *(f"- {owner}: {', '.join(links)}" for owner, links in lists.items()), "", *Calls(self).lines()]
         for title, names in self.groups.items():
             paths = dict.fromkeys(it.path for name in names for _, _, it in self.entries[name])
             out += ["", f"## {title}", "", "Source: " + ", ".join(link(it, API) for it in paths)]

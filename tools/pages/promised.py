@@ -4,7 +4,7 @@ import os
 import re
 
 from pages.laws import parts_of
-from pages.sources import read
+from pages.sources import anchor, read
 
 LAWS = "crates/micromap/LAWS.md"
 FOLDERS = ("crates/micromap_core/proofs/laws", "crates/micromap/proofs/laws")
@@ -94,4 +94,6 @@ def section(path):
 def promised():
     """The page."""
     paths = [it for folder in FOLDERS for it in sorted(glob.glob(f"{folder}/*.antt"))]
-    return "\n\n".join([INTRO.strip(), *map(section, paths)]) + "\n"
+    titles = [re.match(r"## (.+)", it)[1] for it in map(section, paths)]
+    links = ", ".join(f"[{it}](#{anchor(it)})" for it in titles)
+    return "\n\n".join([INTRO.strip(), f"Sections: {links}.", *map(section, paths)]) + "\n"
