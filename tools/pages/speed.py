@@ -198,8 +198,11 @@ def build_table(builds):
 
 
 def speed_list(times):
-    """In which workloads on numbers this library is as fast as the Rust crate, faster and slower."""
-    means = {name: round(mean(ratios_of(cells, 0))[0], 2) for (subject, name), cells in times.items() if subject == "numbers"}
+    """In which workloads on numbers this library is as fast as the Rust crate, faster and slower, each with its least and its
+    greatest ratio."""
+    ratios = {name: ratios_of(cells, 0) for (subject, name), cells in times.items() if subject == "numbers"}
+    means = {name: round(mean(those)[0], 2) for name, those in ratios.items()}
+    ranges = {name: f"{min(those)[0]:.2f} to {max(those)[0]:.2f}" for name, those in ratios.items()}
     groups = {
         "As fast, to a twentieth": (0.95, 1.05),
         "Faster": (0, 0.94),
@@ -207,7 +210,7 @@ def speed_list(times):
         "More than twice the time": (2.01, math.inf),
     }
     for words, (low, high) in groups.items():
-        names = [f"`{name}`" for name, it in means.items() if low <= it <= high]
+        names = [f"`{name}` ({ranges[name]})" for name, it in means.items() if low <= it <= high]
         yield f"- {words}: {', '.join(names) or 'none'}."
 
 
@@ -233,7 +236,7 @@ def causes_table(times, part):
     slow = (name for name, it in cells.items() if mean(over_layout(it))[0] >= 1.105)
     causes |= {name: "not looked into" for name in slow if name not in causes}
     yield from ["| | Over the Rust crate | Over the layout | Cause |", "|---|---|---|---|"]
-    for name, cause in causes.items():
+    for name, cause in sorted(causes.items(), key=lambda it: -mean(over_layout(cells[it[0]]))[0]):
         yield row([name, *(worst(cells[name], of(cells[name])) for of in (own_of, over_layout)), cause])
     rest = [mean(over_layout(it))[0] for name, it in cells.items() if name not in causes]
     yield f"\nAll others take {min(rest):.2f} to {max(rest):.2f} of the layout's time."
