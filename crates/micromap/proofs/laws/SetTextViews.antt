@@ -312,8 +312,7 @@ module _ {T : Type 0} (see : T → List ℕ) where
         ∙ ap (λ l. put_all_items bytes_eq l (items_by see xs))
         (item_texts_put_item see items eq x compares)
 
-  -- what is put of texts is put of their items, so that a search finds what a set extended by another has; it is named
-  -- beside the ruleset
+  -- what is put of texts is put of their items, so that a search finds what a set extended by another has
   pub extended_item_texts : (items xs : List T)
       → put_all_items bytes_eq (items_by see items) (items_by see xs)
       ≡ items_by see (put_all_items (on see bytes_eq) items xs)

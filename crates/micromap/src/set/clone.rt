@@ -39,7 +39,7 @@ impl<T: Eq + Copy, const N: usize> Set<T, N> {
     }
 }
 
-/// A set has the trait too, so that a map of sets can be cloned. It asks for nothing, but compares each item with its
+/// A set has the trait too, so that a map of sets can be cloned. It requires nothing, but compares each item with its
 /// clone, and is `Err` if they differ. `set.clone()` is the call above.
 impl<T: Eq + Clone, const N: usize> Clone for Set<T, N> {
     ghost is_clone = { λ items new. (AreIdentical T.is_clone → new ≡ items) × AllZip T.is_clone items new × IsItems T.eq N new };

@@ -11,7 +11,7 @@ use Rattle.micromap_core.specs.Equalities.{IsProbe, Lawful, Probes}
 use Rattle.micromap_core.specs.Probe.{alike, equal, is_str, is_text}
 use Rattle.micromap_core.specs.Texts.{str_eq}
 
--- a lawful probe tests the keys as the one that it matches does
+-- if a key passes a test that has the two laws of a probe, then the test is equality with that key
 pub same_test : {K : Type 0} (eq : K → K → Bool) (test : K → Bool)
     (alike : (x y : K) → eq x y ≡ true → test x ≡ test y)
     (single : (x y : K) → test x ≡ true → test y ≡ true → eq x y ≡ true) (k : K) → test k ≡ true

@@ -1,5 +1,5 @@
--- For callers: what the lengths of two lists with unequal items, or with unequal keys, tell of the two. Sameness is an
--- equivalence. A map's or a set's `content` has the premises: `Lawful`, and the unequal items or keys.
+-- For callers: what the lengths of two lists tell of the two, if the items or the keys of each are unequal, and that
+-- sameness is an equivalence. A map's or a set's `content` has the premises: `Lawful`, and the unequal items or keys.
 use Rattle.std.proofs.Common.{◌≡◌, ◌<◌, ◌≤◌, ◌↔◌, Bool, true, false, not, ◌&&◌, ◌||◌, IsTrue, List, [], ◌∷◌, filter, length, ap, sym, ◌∙◌, inl, inr, arith}
 use Rattle.std.specs.Cmp.{IsEquivalence}
 use Rattle.std.specs.Cmp.Derive.{both_true}
@@ -65,8 +65,7 @@ module _ {K V : Type 0} (eq : K → K → Bool) (equality : Lawful eq) where
       (key.0, is_some-lookup (eq key.0) first ∙ key.1, is_some-lookup (eq key.0) second ∙ key.2)
 
   module _ (same : V → V → Bool) (values : Lawful same) where
-    -- reflexive and symmetric, and a third list is the same as the one exactly where it is the same as the other: of any
-    -- lists, also with repeated keys
+    -- sameness is reflexive, symmetric and transitive, also of lists with repeated keys
     pub sameness : Lawful (is_same eq same)
     sameness = lawful (is_same eq same)
         (is_same_equiv (of_lawful eq equality) (of_lawful same values))

@@ -1,5 +1,5 @@
--- For callers: the text of a set is known if the texts of its items are. The text of a map is known if the texts of its
--- keys and values are.
+-- For callers: what a set prints is known if it is known what each of its items prints. What a map prints is known if it
+-- is known what each of its keys and values prints.
 use Rattle.std.proofs.Common.{◌≡◌, ℕ, true, List, [], ◌∷◌, Option, Some, None, is_some, codes, refl}
 use Rattle.std.specs.Fmt.{◌++?◌, debug_items, comma_space}
 use Rattle.std.proofs.lemmas.Bool.{false≢true}

@@ -157,7 +157,7 @@ module _ {K V W : Type 0} (see : K → List ℕ) (read : V → W) where
     length_texts = length-map pairs _
 
     -- clones of pairs have the same texts: a `String`'s clone has its bytes, and so has a value's if `read` sees bytes. A
-    -- search that has this law tries it at each two lists of texts, so it is named beside the ruleset
+    -- search that has this law tries it at each two lists of texts, so the ruleset `comparison` alone has it
     pub texts_clone : (copy : List (K × V))
         → AllZip (λ (p q : K × V). (see q.0 ≡ see p.0) × (read q.1 ≡ read p.1)) pairs copy
         → texts_by see read copy ≡ texts_by see read pairs
@@ -176,8 +176,7 @@ module _ {K V W : Type 0} (see : K → List ℕ) (read : V → W) where
       ∙ ap (λ l. put_all bytes_eq l (texts_by see read items))
       (texts_put e.0 eq pairs e.1 compares)
 
-  -- and what is put of texts is put of their pairs, so that a search finds what a map extended by another has. A search
-  -- that has this law tries it at each two lists that are put, so it is named beside the ruleset
+  -- what is put of texts is put of their pairs, so that a search finds what a map extended by another has
   pub extended_texts : (pairs items : List (K × V))
       → put_all bytes_eq (texts_by see read pairs) (texts_by see read items)
       ≡ texts_by see read (put_all (on see bytes_eq) pairs items)

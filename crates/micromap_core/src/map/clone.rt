@@ -71,7 +71,7 @@ impl<K: Eq + Copy, V: Copy, const N: usize> Map<K, V, N> {
     }
 }
 
-/// A map has the trait too, so that a map of maps can be cloned. It asks for nothing, but compares each key with its clone,
+/// A map has the trait too, so that a map of maps can be cloned. It requires nothing, but compares each key with its clone,
 /// and is `Err` if they differ. `map.clone()` is the call above.
 impl<K: Eq + Clone, V: Clone, const N: usize> Clone for Map<K, V, N> {
     ghost is_clone = { λ pairs new. (AreIdentical K.is_clone → AreIdentical V.is_clone → new ≡ pairs) × AllZip (IsPairClone K.is_clone V.is_clone) pairs new × IsContent K.eq N new };

@@ -47,9 +47,9 @@ impl<K: Eq, V, const N: usize> Map<K, V, N> {
 
     /// Calls `update` on the value of each of `keys` that is stored, and returns which of them are stored.
     ///
-    /// No two of `keys` may be equal, stored or not, which `==` of them tests. `update` is called with a key's position
-    /// in `keys` and a mutable reference to its value, in the order of `keys`. No other value changes. Makes one scan
-    /// for each key.
+    /// Requires that `keys` are pairwise unequal, whether stored or not. `==` of them tests this. `update` is called
+    /// with a key's position in `keys` and a mutable reference to its value, in the order of `keys`. No other value
+    /// changes. Makes one scan for each key.
     ///
     /// ```
     /// let mut map: Map<u8, usize, 2> = Map::from([(1, 10), (2, 20)]);
