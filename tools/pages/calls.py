@@ -7,7 +7,7 @@ from pages.sources import TYPES, anchor, read
 GUIDE = "crates/micromap/CALLING.md"  # has the table of preconditions
 HEAD = """## Every call
 
-In brackets is what tests a precondition; [`CALLING.md`](CALLING.md#preconditions) says what a *sound* entry is, and \
+What tests a precondition stands in parentheses; [`CALLING.md`](CALLING.md#preconditions) says what a *sound* entry is, and \
 lists the calls by what they require. A *scan* compares the stored keys from the front, each at most once.
 
 | Call | Requires | Scans |
@@ -16,13 +16,15 @@ lists the calls by what they require. A *scan* compares the stored keys from the
 SCANS = {
     "one scan": "IndexMut for Map, Map::insert_unchecked, Set::insert_unchecked",
     "one comparison": "Steps::same",
+    "compares each key with its clone": "Clone for Map",
+    "compares each item with its clone": "Clone for Set",
     "as `get`": "Map::get_counted",
     "as `eq_with`": "Map::eq_with_counted, PartialEq for Map, PartialEq for Set",
     "as `is_subset`": "Set::is_superset",
     "none": "Map::new, Map::with_capacity, Default for Map, Map::len, Map::is_empty, Map::capacity, Map::clear, Map::iter, "
-    "Map::keys, Map::values, Map::into_keys, Map::into_values, Map::drain, IntoIterator for Map, Clone for Map, "
+    "Map::keys, Map::values, Map::into_keys, Map::into_values, Map::drain, IntoIterator for Map, "
     "Display for Map, Set::new, Default for Set, Set::len, Set::is_empty, Set::capacity, Set::clear, Set::iter, Set::drain, "
-    "IntoIterator for Set, Clone for Set, Display for Set, VecSink::new, VecSink::entries, VecSink::into_entries, "
+    "IntoIterator for Set, Display for Set, VecSink::new, VecSink::entries, VecSink::into_entries, "
     "SliceSource::over, SliceSource::left, map_to_json, set_to_json, JsonFault::code, Steps::new, Steps::count, Iter::over, "
     "Keys::over, Values::over, IntoIter::over, IntoKeys::over, IntoValues::over, TextBuf::new, TextBuf::as_str, "
     "TextBuf::into_string, TextBuf::len, TextBuf::is_empty, TextBuf::is",

@@ -21,34 +21,40 @@ HEAD = """# Claims
 
 Made by `tools/documents` from the sources, from the edits and from what `tools/claims` recorded of them.
 
-Every clause is proved. Whether a clause says enough is tried by wrong bodies, which the prover must refuse. Of many clauses no refusal is known:
+Every clause is proved. Whether a clause says enough is tried by wrong bodies, which the prover must refuse. Of many clauses no refusal is known. \
+Counted are the clauses of `ensures`, the ghost members of impls and the laws of traits. Two edits are for a precondition, which isn't counted:
 
 TOTALS
 
-An *edit* puts a wrong body in the place of the right one. Its row has the call and the clauses that the edit is for, what is \
+An *edit* changes the source to a wrong body. Those of `Probe` add a type with a wrong probe. A row has the call and the clauses that the edit is for, what is \
 wrong in the body, and the goal at which it was refused. The call is linked to its contract, and a call without a name behind \
 it has one clause. The same body may break other clauses too. The gate tries the edits that are linked to `must-fail/`, and \
 [`tools/claims`](MAINTAINING.md#edits) all.
 
-- CHANGED of the EDITS edits change lines of the proof too, and are marked †. They leave a goal to the search, so that an answer \
-that no longer fits isn't what refuses the body. It isn't tried whether the search proves the right body there.
+- CHANGED of the EDITS edits change lines of the proof too, and are marked †. Most take out an answer, so that the search tries the goal. \
+Some rewrite answers, or the loop's invariant, for the wrong body. So an answer that no longer fits isn't what refuses the body. \
+It isn't tried whether the search proves the right body there.
 - One goal of each edit is recorded. It may have others.
-- Some bodies are those of an inner function on which the call rests. Then the goal is that function's. It is of the same \
-clause, or of one that the call's proof uses.
+- Some bodies are those of an inner function on which the call rests. Then the recorded goal is one of that function's. It belongs to the same \
+clause, or to one that the call's proof uses. This doesn't show that the call's own clause says enough.
 - *Written proof* stands before a goal if only a proof that was written by hand refused the body. This shows no more than \
 that the proof doesn't serve the wrong body.
 
-Before a goal stands its file in `src/`, or the function of the written proof. `returns` is what holds at the return, and `returns-clause-pairs` is the clause `pairs` of it. \
+A goal has its file before it, in `src/` of the edit's crate, or the function of the written proof. `returns` is what holds at the return, and `returns-clause-pairs` is the clause `pairs` of it. \
 `insert-requires` is the precondition of a call of `insert`, `invariant_of-..` the invariant of a type, and `loop-..` \
-that of a loop. What follows, as `-in-Some` or `-then-len`, names the branch or the call before it.
+that of a loop, which ends in `-preserved` if it is the invariant after a turn. What follows names the branch or the call before it: `-in-Some` is an arm of a `match`, \
+`-then-len` and `-else-len` are the branches of a test by `len`, and `-in_err-len` is what `?` returns after `len`. \
+`-value` is a law, `-after-f` follows a call of `f`, and a number tells apart goals of one name. The check calls the clause of `next_gives` `steps`, and that of `output` `writes`.
 """
 # What the clauses are called that ghost members of traits stand in.
 GHOSTS = {"next_gives": "steps", "output": "writes", "into_iter_gives": "pairs"}
 WITHOUT = "Clauses without an edit"
 WITHOUT_HEAD = """
-These are proved as all others are. `rt plant` tries bodies of its own on a function: such that give up, as `None` does, \
-and such that call the right one with an argument, the result or a field changed. A body is tried against all clauses of \
-the function at once. So what came of it stands here only of calls of which no clause of `ensures` has an edit.
+These are proved as all others are. `rt plant` tries bodies of its own on a function. Some give up, as `None` does. Others call the \
+right body with an argument, the result or a field changed. A body is tried against all clauses of \
+the function at once. So what came of it stands here only of calls of which no clause of `ensures` has an edit. Of the others the second column says why none was tried, or none judged. Of a *shared* call the result is left out, even of a body that was let through:
+
+SILENT
 
 | Clauses | Planted bodies |
 |---|---|"""
@@ -56,8 +62,8 @@ the function at once. So what came of it stands here only of calls of which no c
 SILENT = {
     NONE: "a planted body has no verdict if it doesn't compile, as one that drops a value of a type without `Drop`, if only a "
     "precondition of a call in it isn't proved, or if the tactics can't prove even a body that calls the right one",
-    "another clause has an edit": "a planted body that is refused may be refused by that clause",
-    "the body is an implementation's": "the clause is a trait's, and each implementation has it",
+    "shared": "another clause of the call has an edit, and a planted body that is refused may be refused by that clause",
+    "a trait's": "each implementation has the clause, and its own body",
     "not recorded": "nothing was tried on the call since it got its clauses",
 }
 ROWS = "\n| Clauses | What is wrong in the body | Refused at |\n|---|---|---|"
@@ -96,9 +102,7 @@ class Claims:
         page, self.goals = read(CLAIMS) if os.path.exists(CLAIMS) else "", recorded()
         rest = page.partition(f"\n## {WITHOUT}\n")[2]
         tried = re.findall(r"^\| \[`(.+?)`\][^|]*\| (.+) \|$", rest, re.M)
-        silent = re.findall(rf"^- \*\*{NONE}\*\*.*\. (.*)$", rest, re.M | re.I)
-        tried += [(it, NONE) for it in re.findall(r"`(.+?)`", "".join(silent))]
-        self.tried = {it: said for it, said in tried if said != UNKNOWN}
+        self.tried = {it: said for it, said in tried if said not in (SHARED, OF_TRAIT, UNKNOWN)}
 
     def take_log(self, plants):
         """Takes what was tried from what `rt plant` printed."""
@@ -153,7 +157,7 @@ class Claims:
         out.append(f"- [{WITHOUT}](#{anchor(WITHOUT)})")
         for title in dict.fromkeys(it for it in order if it in sections):
             out += ["", f"## {title}", ROWS, *map(self.row, sections[title])]
-        return "\n".join([*out, "", f"## {WITHOUT}", WITHOUT_HEAD, *self.without()]) + "\n"
+        return "\n".join([*out, "", f"## {WITHOUT}", *self.without()]) + "\n"
 
     def named(self):
         """The clauses that an edit is for."""
@@ -181,51 +185,38 @@ class Claims:
         return OF_TRAIT if is_of_trait else self.tried.get(call, UNKNOWN)
 
     def without(self):
-        """The table of what was tried on calls without an edit, and the calls of which there is nothing to say."""
-        silent = collections.defaultdict(dict)
-        for call, names in self.unnamed().items():
-            verdict = self.verdict(call)
-            if verdict in SILENT:
-                silent[verdict][call] = names
-                continue
-            yield f"| {self.clauses_of(call, names)} | {verdict} |"
-        yield ""
-        yield "Of the other clauses no planted body says anything:"
-        yield ""
-        for verdict, why in SILENT.items():
-            count = sum(map(len, silent[verdict].values()))
-            calls = ", ".join(f"`{it}`{self.labels(it, names)}" for it, names in silent[verdict].items())
-            yield from [f"- **{verdict[0].upper()}{verdict[1:]}**, {count} clauses: {why}. {calls}"] * bool(count)
-
-    @staticmethod
-    def labels(call, names):
-        """The names of some of a call's clauses in parentheses, if they have names."""
-        labels = [it.removeprefix(f"{call}: ") for it in names if it != call]
-        return f" ({', '.join(labels)})" if labels else ""
+        """What the verdicts mean of calls without an edit, and the table of what was tried on each call."""
+        rows = {call: (names, self.verdict(call)) for call, names in self.unnamed().items()}
+        counts = {it: sum(len(names) for names, verdict in rows.values() if verdict == it) for it in SILENT}
+        silent = [f"- *{it}*, of {counts[it]} clause{'s' * (counts[it] != 1)}: {why}" for it, why in SILENT.items() if counts[it]]
+        head = WITHOUT_HEAD.replace("SILENT", "\n".join(silent))
+        return [head, *(f"| {self.clauses_of(call, names)} | {verdict} |" for call, (names, verdict) in rows.items())]
 
     def counts(self):
-        """How many clauses have an edit that a goal refuses, for how many of these it is that of another clause, how many have
-        such as only a written proof refuses, how many have refused planted bodies alone, how many have none, and all."""
+        """How many clauses have an edit that a goal refuses, for how many of these no such edit changes the source alone, for how
+        many the goal is that of another clause, how many have such as only a written proof refuses, how many have refused
+        planted bodies alone, how many have none, and all."""
         unnamed, library = self.unnamed(), self.library()
         without = {call: len(names) for call, names in unnamed.items()}
         tried = sum(count for call, count in without.items() if self.verdict(call) not in SILENT)
         strong = [it for it in self.edits if it.path in self.goals and kind_of(self.goals[it.path]) != PROOF]
         shown = {*library} & {name for edit in strong for _, names in edit.claims for name in names}
+        alone = {name for edit in strong if not self.changes_proof(edit) for _, names in edit.claims for name in names}
         own = {name for edit in strong for _, names in edit.claims for name in names if is_of(self.goals[edit.path], name)}
         named = len(library) - sum(without.values())
-        return len(shown), len(shown - own), named - len(shown), tried, sum(without.values()) - tried, len(library)
+        return len(shown), len(shown - alone), len(shown - own), named - len(shown), tried, sum(without.values()) - tried, len(library)
 
     def totals(self):
         """The table of these."""
-        names = ["with an edit that a goal of a contract, an invariant or a call's condition refuses", "of these, recorded only at a goal that names another clause"]
+        names = ["with an edit that a goal of a contract, an invariant or a call's condition refuses", "of these, only by edits that change the proof too", "of these, recorded only at a goal that names another clause"]
         names += ["with edits that only a written proof refuses"]
-        names += [f"[without an edit](#{anchor(WITHOUT)}), but of a call of which a planted body was refused", "with none of these", "all"]
+        names += [f"[without an edit](#{anchor(WITHOUT)}), but of a call of which `rt plant`, a tool of the kit, had a wrong body refused", "with none of these", "all"]
         yield "| The library's clauses | |\n|---|---|"
         yield from (f"| {what} | {count} |" for what, count in zip(names, self.counts()))
 
     def wrong_of_readme(self):
         """What is amiss in the README's sentence about these."""
-        shown, other, written, tried, untried, library = self.counts()
-        wanted = (f"Of the library's {library} clauses, {shown} have a wrong body of their own that is refused at a goal. For {other} of these the recorded goal names another clause of the call. {written} more have one that only a written proof refuses. "
-                  f"{tried} more belong to calls of which a tool's wrong body was refused by all their clauses together. Of the other {untried} no refusal is known.")
+        shown, changed, other, written, tried, untried, library = self.counts()
+        wanted = (f"For {shown} of the library's {library} clauses a wrong body was refused at a goal. For {changed} of these each such edit changes the proof too, and it isn't known whether the right body would be proved there. For {other} the recorded goal names another clause of the call. For {written} more only a written proof refused the body. "
+                  f"{tried} more belong to calls of which a tool's wrong body was refused, and it isn't known by which clause. Of the other {untried} no refusal is known.")
         return [] if wanted in read("README.md") else [f"README.md doesn't say: {wanted}"]

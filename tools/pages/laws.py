@@ -11,14 +11,14 @@ SECTIONS = {
     "The laws of a set": ("micromap", "micromap_core"),
     "The laws of comparison": ("micromap_core", "micromap"),
 }
-EXPORTS = ("crates/micromap/proofs/Lib.antt", "crates/micromap/proofs/laws.antt")
+EXPORTS = ("crates/micromap/proofs/Lib.antt", "crates/micromap/proofs/Laws.antt")
 NAME = r"(?<!clause )(?<!\[)`([\w.'-]+)`"
 PROVING = "crates/micromap/PROVING.md"
 
 
 def files(crate):
     """The files of a crate's proofs that aren't one function's, and of its laws for callers."""
-    return sorted(it for folder in ("", "laws/") for it in glob.glob(f"crates/{crate}/proofs/{folder}*.antt"))
+    return sorted(it for folder in ("", "Laws/") for it in glob.glob(f"crates/{crate}/proofs/{folder}*.antt"))
 
 
 def laws_of(crate):
@@ -26,8 +26,8 @@ def laws_of(crate):
     found, exported = {}, "".join(map(read, EXPORTS))
     for path in files(crate):
         module = os.path.basename(path).removesuffix(".antt")
-        is_ours = re.search(rf"^pub (?:mod |use Rattle\.\w+\.proofs\.(?:laws\.)?){module}$", exported, re.M)
-        within = "laws." if "/laws/" in path or is_ours and is_ours[0].startswith("pub use") else ""
+        is_ours = re.search(rf"^pub (?:mod |use Rattle\.\w+\.proofs\.(?:Laws\.)?){module}$", exported, re.M)
+        within = "Laws." if "/Laws/" in path or is_ours and is_ours[0].startswith("pub use") else ""
         home = f"Rattle.{'micromap' if is_ours else crate}.proofs.{within}{module}"
         for _, name, text in re.findall(r"^( *)pub ([\w'-]+) :(.*(?:\n\1 +\S.*)*)", read(path), re.M):
             found[name] = home, " ".join(text.split())

@@ -74,8 +74,8 @@ def names(sources):
     checksum of what it says."""
     found = [*calls_of(sources)]
     for folder in (f"crates/{crate}/{it}" for it in ("specs", "proofs") for crate in LIBRARY):
-        paths = sorted([*glob.glob(f"{folder}/*.antt"), *glob.glob(f"{folder}/laws/*.antt")], key=os.path.basename)
-        paths = [it for it in paths if os.path.basename(it) not in ("Lib.antt", "laws.antt")]
+        paths = sorted([*glob.glob(f"{folder}/*.antt"), *glob.glob(f"{folder}/Laws/*.antt")], key=os.path.basename)
+        paths = [it for it in paths if os.path.basename(it) not in ("Lib.antt", "Laws.antt")]
         found += [one for path in paths for one in names_of(path)]
     for required, kind in ((False, "clause"), (True, "precondition")):
         found += [(f"{kind} {it.name}", it.text) for it in sources.clauses(required) if is_public(it.item)]

@@ -7,7 +7,7 @@ from pages.laws import parts_of
 from pages.sources import anchor, read
 
 LAWS = "crates/micromap/LAWS.md"
-FOLDERS = ("crates/micromap_core/proofs/laws", "crates/micromap/proofs/laws")
+FOLDERS = ("crates/micromap_core/proofs/Laws", "crates/micromap/proofs/Laws")
 WIDTH = 110
 COMMENT = r"(?:^ *--.*\n)+"
 MODULE = r"^ *module _ .*\n(?:^ +[({].*\n)*"
@@ -18,7 +18,7 @@ INTRO = """# The laws of micromap
 Each law below is promised to callers: it is proved, and it keeps its name and its statement. The first line of a block is the
 module that has its laws. The rulesets of `micromap::proofs::Rules` have those that a search needs, so most callers name
 none; [PROVING](PROVING.md) says when one is named. A line `module _` has the arguments that come first in each law
-that is indented below it. The checker finds those in braces. [API](API.md) explains the words of the calls. `rt lemma NAME` prints a law too, and
+that is indented below it. The checker finds those in braces. The name of a law about a change has the reader first and then the change: `length_take_out` is the length after a removal. [API](API.md) explains the words of the calls, and `rt lemma WORD` prints the definition of any other. `rt lemma NAME` prints a law too, and
 the statements of those that serve a search alone, which stand here by name. Where a statement begins with `x ≡ x ×`, this part
 is there for the search, and what the law says stands behind it.
 """
@@ -87,7 +87,7 @@ def shared_lines(text):
 def section(path):
     """The section of a file."""
     text, module = read(path), os.path.basename(path).removesuffix(".antt")
-    block = f"-- Rattle.micromap.proofs.laws.{module}\n{shared_lines(laws_in(text))}"
+    block = f"-- Rattle.micromap.proofs.Laws.{module}\n{shared_lines(laws_in(text))}"
     return f"## {title_of(path)}\n\n{first_comment(text)}\n\n```text\n{block}\n```"
 
 

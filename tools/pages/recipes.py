@@ -20,7 +20,7 @@ your own types and tests in the place of its own. Another type of keys may need 
 
 - Write the line `tactic` as `#[..]` at your function, or as `#![..]` at the head of your file.
 - The imports are those of the words in the clauses. [CALLING](CALLING.md#callers) has those of types.
-- A block `antt` is a proof by hand: an [invariant](PROVING.md#an-invariant) of a loop, or *answers* to single goals. Its file has
+- A block `antt` is a file of definitions, of a loop's [invariant](PROVING.md#an-invariant), or of *answers*, which are proofs of single goals. It has
 the path of its function: that of `total` of `src/walks.rt` is `proofs/walks/total/Invariants.antt`, and in `main.rt` or `lib.rt` `proofs/total/Invariants.antt`. `my_crate` stands for your crate.
 - The line of your crate in `crates.txt` is `name: micromap micromap_core`.
 - The proof of a recursive function `f` is in the folder `+f`. It says what falls at each call.
@@ -35,10 +35,13 @@ WANTS = {
     "merge or join two maps": ["Puts a map over another, all or nothing", "Makes a map of the pairs of two maps",
         "Adds the amounts of another map to the totals of a map"],
     "settings in layers": ["Finds a key's value in the first of several maps with it",
-        "Copies settings with others put over them, or answers `None` if they don't all fit"],
+        "Copies settings with others put over them, or returns `None` if they don't all fit"],
+    "the words of a text": ["Makes a set of the words of a text, or an error if there are more than `N` different ones",
+        "Counts how often each word of a text comes, or returns `None` if there are more than `N` different ones"],
     "the union of a map's sets": ["Makes a set of the items of all sets of a map"],
     "remove while iterating": ["Keeps the pairs that pass"],
-    "what was visited, and a work list": ["Moves the items of a set into another, as far as they fit"],
+    "what was visited, and a work list": ["Moves the items of a set into another, as far as they fit",
+        "Puts an item on a path and takes it off again, which leaves the path as it was"],
     "the newest `N` items": ["Inserts an item into a set, which loses its first if it's full"],
     "invert a map": ["Makes a map with key and value exchanged"],
     "group by a key": ["Groups a list: makes a map of the members of each key"],
@@ -88,8 +91,8 @@ def recipes_of(path, wrong):
 def is_named(name, text):
     """Whether a text has a word, or each part of an operator."""
     parts = [it for it in name.split("◌") if it]
-    if parts == [name]:  # a word, or `[]`
-        return bool(re.search(rf"(?<![\w.']){re.escape(name)}(?![\w'.])", text))
+    if parts == [name] or all(map(str.isalpha, parts)):  # a word, or `[]`, or `if◌then◌else◌`
+        return all(re.search(rf"(?<![\w.']){re.escape(it)}(?![\w'.])", text) for it in parts)
     return all(f" {it} " in f" {text} " for it in parts)
 
 

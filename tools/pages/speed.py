@@ -33,7 +33,6 @@ CHOICE_WORDS = {
 # The README's table has the times of one of these, at some capacities, in a row that begins with these words.
 FOUND, FOUND_CAPACITIES = "get, hit", [2, 4, 8, 32]
 FOUND_WORDS = f"Finds one of {', '.join(map(str, FOUND_CAPACITIES[:-1]))} or {FOUND_CAPACITIES[-1]} numbers in"
-SQUARE = ["count by entries", "new and fill"]  # whose time grows with the square of the number of pairs
 NEW_MAPS = ["copied", "put one, hand on"]  # without which SPEED.md says the means too
 # The table of calls that build a map or a set: its capacities, and the ways that the calls are set beside.
 BUILD_CAPACITIES, LOOPS = [2, 8, 64], ["loop", "loop in place"]
@@ -150,18 +149,17 @@ def size_table(sizes):
 
 
 def choice_table(times):
-    """This library's times, and those of what a user might take in its place, relative to its own."""
+    """A table of this library's times, and one of those of what a user might take in its place, relative to its own."""
     columns = [(rival, at) for rival in CHOICES for at in CHOICE_CAPACITIES]
     heads = (f"{RIVALS[rival]} at {at}" if at == CHOICE_CAPACITIES[0] else at for rival, at in columns)
-    yield from heading("", ["`Map` at 2", "for each pair more", *heads])
+    own_lines, lines = [*heading("Nanoseconds of `Map`", CHOICE_CAPACITIES)], [*heading("Time over `Map`'s", heads)]
     for workload, words in CHOICE_WORDS.items():
         cells = times["numbers", workload]
         own = {at: nanoseconds * ratios[0][0] for at, (nanoseconds, ratios) in cells.items()}
-        first, last = min(own), max(own)
-        grows = (own[last] - own[first]) / (last - first)
         ratios = {rival: dict(zip(cells, over(cells, rival, 0))) for rival in CHOICES}
-        more = "" if workload in SQUARE else f"{grows:.2f} ns"
-        yield row([f"{words} (`{workload}`)", f"{own[first]:.1f} ns", more, *(coarse(ratios[rival][at]) for rival, at in columns)])
+        own_lines.append(row([f"{words} (`{workload}`)", *(f"{own[at]:.1f}" for at in CHOICE_CAPACITIES)]))
+        lines.append(row([f"`{workload}`", *(coarse(ratios[rival][at]) for rival, at in columns)]))
+    return [*own_lines, "", *lines]
 
 
 def found_table(times, part):

@@ -9,10 +9,11 @@ from pages.words import FORM_OF, FORMS, OWN, PLAIN
 GUIDES = ["crates/micromap/CALLING.md", "crates/micromap/PROVING.md"]  # the documents that name words for callers
 OWN_WORDS = """## Words
 
-Each word of contracts and of the documents for callers has its arguments, the module that it is imported from, as \
-`ghost use Rattle.micromap.specs.Pairs.{put};`, and its meaning. Signs: `≡` is equality, `→` "if, then" or a function, \
+Each word of the calls' contracts has its arguments, the module that it is imported from, as \
+`ghost use Rattle.micromap.specs.Pairs.{put};`, and its meaning here. `rt lemma WORD` prints the definition of any other, as of \
+`nat_eq` or `has_value`. Signs: `≡` is equality, `→` "if, then" or a function, \
 `↔` "exactly if", `×` "and", `λ x. ..` a function of `x`. `[]` is the empty list, `x ∷ xs` the list `xs` with `x` before \
-it, `++` joins two lists, `⊤` always holds, `ℕ` are the natural numbers.
+it, `++` joins two lists, `x == y` is whether two numbers are equal, `⊤` always holds, `ℕ` are the natural numbers.
 
 | Word | Module | Meaning |
 |---|---|---|"""

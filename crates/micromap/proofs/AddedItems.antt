@@ -16,7 +16,7 @@ use Rattle.micromap.specs.ItemEntries.{entries_of}
 use Rattle.micromap.specs.Items.{put_item, item_fits, IsItems}
 use Rattle.micromap.proofs.EntryItems.{keys_of-entries}
 use Rattle.micromap.proofs.ItemLemmas.{keys_put_all_items}
-use Rattle.micromap.proofs.laws.SetLaws.{put_item_new}
+use Rattle.micromap.proofs.Laws.SetLaws.{put_item_new}
 use Rattle.std.proofs.Math.Bool.{or-true}
 
 -- with room each item fits

@@ -14,7 +14,7 @@ use Rattle.micromap.specs.declared.json.JsonFault.TheVariants.{BadText, Memory}
 use Rattle.micromap_core.specs.Same.{Same, is_same}
 use Rattle.micromap_core.specs.SameLaws.{is_same_equiv}
 use Rattle.micromap_core.specs.Texts.{key_texts}
-use Rattle.micromap_core.proofs.laws.TextViews.{same_texts}
+use Rattle.micromap_core.proofs.Laws.TextLaws.{same_texts}
 
 pub bytes_equiv : IsEquivalence (is_same bytes_eq int_eq)
 bytes_equiv = is_same_equiv nat_list_eq_equiv int_eq_equiv

@@ -16,16 +16,16 @@ use Rattle.serde_json.specs.declared.value.Value.{Value}
 use Rattle.serde_json.proofs.Views.{Entry}
 use Rattle.micromap.specs.Items.{put_item, put_item_if_fits, item_fits}
 use Rattle.micromap.specs.Json.{Bytes, Pairs, all_texts, and_then, whole_number, whole_members, items_for}
-use Rattle.micromap.proofs.laws.SetLaws.{length_put_item, not_fits}
-use Rattle.micromap.proofs.laws.SetTextViews.{item_texts_put_item, length_item_texts, unique_item_texts}
+use Rattle.micromap.proofs.Laws.SetLaws.{length_put_item, not_fits}
+use Rattle.micromap.proofs.Laws.SetTextLaws.{item_texts_put_item, length_item_texts, unique_item_texts}
 use Rattle.micromap.specs.declared.json.JsonFault.{JsonFault}
 use Rattle.micromap.specs.declared.json.JsonFault.TheVariants.{NotWhole, TooMany}
 use Rattle.micromap_core.specs.Build.{build, put_pair}
 use Rattle.micromap_core.specs.Pairs.{fits, put, put_if_fits}
 use Rattle.micromap_core.specs.Texts.{item_texts, items_by, key_texts}
-use Rattle.micromap_core.proofs.laws.MapLaws.{length_put}
+use Rattle.micromap_core.proofs.Laws.MapLaws.{length_put}
 use Rattle.micromap_core.proofs.StreamLemmas.{built_in_turn}
-use Rattle.micromap_core.proofs.laws.TextViews.{length_texts, texts_put}
+use Rattle.micromap_core.proofs.Laws.TextLaws.{length_texts, texts_put}
 
 pub few : {X : Type 0} (N : ℕ) (xs : List X) → length xs ≤ N → items_for N xs ≡ Ok xs
 few N xs short = ap (λ b. if b then Err TooMany else Ok xs) (le-ltb N (length xs) short)

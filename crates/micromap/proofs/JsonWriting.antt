@@ -27,7 +27,7 @@ use Rattle.micromap_core.specs.Texts.{item_texts, items_by, key_texts, texts_by}
 use Rattle.micromap_core.proofs.DistinctLemmas.{new_behind}
 use Rattle.micromap.proofs.AddedItems.{added_all}
 use Rattle.micromap.proofs.JsonPairs.{bytes_equiv}
-use Rattle.micromap.proofs.laws.SetTextViews.{length_item_texts, unique_item_texts}
+use Rattle.micromap.proofs.Laws.SetTextLaws.{length_item_texts, unique_item_texts}
 use Rattle.micromap.proofs.JsonReading.{few}
 
 abbrev insert : List (Bytes × ℤ) → Bytes → ℤ → List (Bytes × ℤ)

@@ -1,4 +1,4 @@
-pub mod laws
+pub mod Laws
 pub mod AddedItems
 pub mod EntryItems
 pub mod ExtendLemmas

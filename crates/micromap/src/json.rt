@@ -50,6 +50,9 @@ impl JsonFault {
     }
 }
 
+/// It prints `the text is not JSON`, `the text is not an object`, `the text is not an array`, `a value is not a whole number
+/// of 64 bits`, `an element is not a text`, `there are more distinct texts than there is room for` or `a request for memory
+/// was refused`, in the order of the faults above.
 impl fmt::Display for JsonFault {
     ghost output = { λ fault. Some (message fault) };
 

@@ -18,7 +18,6 @@ use micromap::{Map, Overfull, Set};
 /// Of equal keys the last one's value stands. Two lists go the same way, by `a.iter().chain(b.iter()).copied()`, and
 /// are `a.now ++ b.now` then. A `Vec` by value goes by `into_iter()`, and is `list.items`. A set of items goes by
 /// `Set::try_from_iter`, and is `distinct nat_eq list.now`.
-#[tactic(auto, using(micromap::proofs::Rules::caller, micromap::proofs::Rules::lists))]
 pub fn map_of_list<const N: usize>(list: &[(u8, u8)]) -> Result<Map<u8, u8, N>, Overfull>
     ensures { IfOk result (λ m. m ≡ build nat_eq list.now) }
 {
@@ -34,9 +33,8 @@ fn whole<const N: usize>(list: &[(u8, u8)]) -> Option<Map<u8, u8, N>>
 }
 
 /// Makes a map of pairs, or `None` if they have too many keys.
-/// `None` is exact: the list has more than `N` different keys then. What a function makes of each item goes the same
-/// way, by another `map`, and the list is `map (λ x. (x, x / 2)) list.now` for `|x| (*x, *x / 2)`.
-#[tactic(auto, using(micromap::proofs::Rules::caller, micromap::proofs::Rules::lists))]
+/// It returns `None` exactly if the list has more than `N` different keys. What a function makes of each item goes the
+/// same way, by another `map`, and the list is `map (λ x. (x, x / 2)) list.now` for `|x| (*x, *x / 2)`.
 pub fn whole_or_none<const N: usize>(list: &[(u8, u8)]) -> Option<Map<u8, u8, N>>
     ensures made { IfSome result (λ m. m ≡ build nat_eq list.now) }
     ensures refused { IsNone result ↔ (N < distinct_count nat_eq (keys_of list.now)) }
@@ -53,8 +51,8 @@ fn all_halves<const N: usize>(list: &[u8]) -> Option<Set<u8, N>>
 }
 
 /// Makes a set of what a function makes of each item, or `None`.
-/// `None` is exact: there are more than `N` different results then. The items themselves go the same way, by `|x| *x`.
-#[tactic(auto, using(micromap::proofs::Rules::caller, micromap::proofs::Rules::lists))]
+/// It returns `None` exactly if there are more than `N` different results. The items themselves go the same way, by
+/// `|x| *x`.
 pub fn distinct_halves<const N: usize>(list: &[u8]) -> Option<Set<u8, N>>
     ensures built { IfSome result (λ s. s ≡ distinct nat_eq (map (λ x. x / 2) list.now)) }
     ensures refused { IsNone result ↔ (N < distinct_count nat_eq (map (λ x. x / 2) list.now)) }
@@ -99,9 +97,8 @@ pub fn put_list<const N: usize>(
 }
 
 /// Puts pairs into a map in a loop, until one doesn't fit.
-/// They would be more than `N` if it returns `false`. The keys are of any type. Items go the same way into a set, by
-/// `put_all_items`.
-#[tactic(auto, using(micromap::proofs::Rules::lists))]
+/// If it returns `false`, the map and the list have more than `N` different keys together. The keys are of any type
+/// that is `Copy`. Items go the same way into a set, by `put_all_items`.
 pub fn put_each<K: Eq + Copy + Drop, const N: usize>(
     map: &mut Map<K, u8, N>,
     items: &[(K, u8)],
@@ -145,7 +142,6 @@ fn with_list<const N: usize>(set: &Set<u8, N>, list: &[u8]) -> Option<Set<u8, N>
 
 /// Puts all items of a list into a set, or none.
 /// It returns `false` exactly if there would be more than `N`.
-#[tactic(auto, using(micromap::proofs::Rules::caller, micromap::proofs::Rules::lists))]
 pub fn put_list_whole<const N: usize>(set: &mut Set<u8, N>, list: &[u8]) -> bool
     ensures put { OnTrue result (set.new ≡ distinct nat_eq (set.old ++ list.now)) }
     ensures unchanged { IsFalse result → set.new ≡ set.old }
@@ -161,8 +157,8 @@ pub fn put_list_whole<const N: usize>(set: &mut Set<u8, N>, list: &[u8]) -> bool
 }
 
 /// Counts the different keys of a list, in a map of its own.
-/// The contract says only that they are at most `N`. Keys and values are of any types that fit in memory. For numbers
-/// `requires { N ≤ 1000 }` serves, and for a set `SetFits`.
+/// The contract says only that they are at most `N`. Keys and values are of any types that are `Copy` and fit in
+/// memory. For numbers `requires { N ≤ 1000 }` serves, and for a set `SetFits`.
 pub fn count_keys<K: Eq + Copy, V: Copy, const N: usize>(pairs: &[(K, V)]) -> Option<usize>
     requires { MapFits K.row V.row N.row K.eq }
     ensures { IfSome result (λ count. count ≤ N) }

@@ -1,10 +1,11 @@
 //! Changing one in place.
 #![tactic(auto, using(micromap::proofs::Rules::caller))]
 
-ghost use Rattle.std.specs.Prelude.{◌≡◌, ◌*◌, ◌+◌, ◌-◌, ◌<◌, ◌^◌, [], IfSome, IsFalse, IsTrue, None, Some, drop, false, filter, if◌then◌else◌, length, map, min, nat_eq, nat_lt, slice_get, sum, sum_by, true};
+ghost use Rattle.std.specs.Int.{saturate_signed, w64};
+ghost use Rattle.std.specs.Prelude.{◌≡◌, ◌&&◌, ◌*ℤ◌, ◌*◌, ◌+◌, ◌-◌, ◌<◌, ◌^◌, [], IfSome, IsFalse, IsTrue, None, Some, drop, false, filter, if◌then◌else◌, length, map, min, nat_eq, nat_lt, not, slice_get, sum, sum_by, true};
 ghost use Rattle.std.specs.List.{list_all};
 ghost use Rattle.std.specs.Map.{values_of};
-ghost use Rattle.std.specs.Set.{distinct_count};
+ghost use Rattle.std.specs.Set.{distinct_count, is_member};
 ghost use Rattle.micromap.specs.Closures.{updated_disjoint};
 ghost use Rattle.micromap.specs.Items.{item_fits, put_item};
 ghost use Rattle.micromap.specs.Memory.{IntoIterFits};
@@ -53,7 +54,7 @@ fn can_scale<const N: usize>(amounts: &Map<u8, u32, N>, factor: u32) -> bool
 }
 
 /// Changes all values, or none if one doesn't fit then.
-/// The least of a product that fits and of the greatest number is that product.
+/// If all products fit, `min` in the clause `scaled` changes nothing.
 pub fn scale<const N: usize>(amounts: &mut Map<u8, u32, N>, factor: u32) -> bool
     ensures answer { result ≡ list_all (λ v. nat_lt (v * factor) (2 ^ 32)) (values_of amounts.old) }
     ensures scaled { IsTrue result → amounts.new ≡ map (λ p. (p.0, min (p.1 * factor) (2 ^ 32 - 1))) amounts.old }
@@ -66,9 +67,33 @@ pub fn scale<const N: usize>(amounts: &mut Map<u8, u32, N>, factor: u32) -> bool
     true
 }
 
+/// Multiplies all values of a signed type, where a product that doesn't fit stays at the end of the range.
+/// The capacity is a number or a constant.
+#[tactic(auto, using(micromap::proofs::Rules::caller, micromap::proofs::Rules::signed))]
+pub fn scale_signed(amounts: &mut Map<u8, i64, 16>, factor: i64)
+    ensures { amounts.new ≡ map (λ p. (p.0, saturate_signed w64 (p.1 *ℤ factor))) amounts.old }
+{
+    amounts.update_all(|_, amount| *amount = amount.saturating_mul(factor));
+}
+
+/// Puts an item on a path and takes it off again, which leaves the path as it was.
+/// It returns whether the item is new and has room. In a search for cycles the recursive call stands between the two.
+/// Its contract has to say that it leaves the path as it was. In a map a new key goes the same way, by `insert` and
+/// `remove`.
+pub fn try_step<const N: usize>(path: &mut Set<u8, N>, item: u8) -> bool
+    ensures answer { result ≡ (not (is_member nat_eq path.old item) && nat_lt (length path.old) N) }
+    ensures unchanged { path.new ≡ path.old }
+{
+    if path.contains(&item) || path.len() == N {
+        return false;
+    }
+    path.insert(item);
+    path.remove(&item);
+    true
+}
+
 /// Changes the values of some keys at once, where they are stored.
 /// No two of the keys are equal. If they are written out, the caller needs no proof of that.
-#[tactic(auto, using(micromap::proofs::Rules::closures))]
 pub fn reset<const J: usize, const N: usize>(counts: &mut Map<u8, u32, N>, keys: &[u8; J])
     requires { distinct_count nat_eq keys.now ≡ J }
     ensures { counts.new ≡ updated_disjoint nat_eq (λ _ _. 0) counts.old keys.now }
@@ -78,7 +103,6 @@ pub fn reset<const J: usize, const N: usize>(counts: &mut Map<u8, u32, N>, keys:
 
 /// Adds one to a key's number, and knows the sum of all.
 /// A new key gets 1.
-#[tactic(auto, using(micromap::proofs::Rules::maps))]
 pub fn add_one<K: Eq + Drop, const N: usize>(map: &mut Map<K, u64, N>, key: K)
     requires fits { IsTrue (fits K.eq N map.old key) }
     requires sum { sum (values_of map.old) < 2 ^ 64 - 1 }
@@ -123,7 +147,8 @@ pub fn add_newest<T: Eq + Drop, const N: usize>(set: &mut Set<T, N>, item: T) ->
 }
 
 /// Takes the first pair out.
-/// Its key found its value, and finds none now. The others stay.
+/// Its key found its value, and finds none now. The others stay. `pop_last` takes the last one, and leaves the pairs
+/// before it.
 pub fn take_first<K: Eq + Drop, V: Drop, const N: usize>(map: &mut Map<K, V, N>) -> Option<(K, V)>
     ensures found { IfSome result (λ p. at K.eq map.old p.0 ≡ Some p.1) }
     ensures gone { IfSome result (λ p. IsFalse (has K.eq map.new p.0)) }
@@ -157,7 +182,6 @@ pub struct Stock {
 
 /// Takes a pair out, and knows by how much a sum falls.
 /// The sum is that of a field of all values.
-#[tactic(auto, using(micromap::proofs::Rules::maps))]
 pub fn clear_out<K: Eq + Drop, const N: usize>(map: &mut Map<K, Stock, N>, key: &K) -> u64
     ensures { sum_by (λ s. s.count) (values_of map.new) + result ≡ sum_by (λ s. s.count) (values_of map.old) }
 {

@@ -48,7 +48,8 @@ pub fn halved<const N: usize>(pairs: &Map<u8, u32, N>) -> Map<u8, u32, N>
 }
 
 /// Copies the pairs that pass, with other values, or returns `None`.
-/// It is `None` if they don't all fit in `M`. By `from_fitting` and `put_pair_if_fits` those that don't fit are left out.
+/// It is `None` if they don't all fit in `M`. By `from_fitting` and `put_pair_if_fits` those that don't fit are left
+/// out.
 #[tactic(auto)]
 pub fn low_halves<const N: usize, const M: usize>(pairs: &Map<u8, u8, N>) -> Option<Map<u8, u8, M>>
     ensures { result ≡ fold (put_or_refuse nat_eq M) (Some []) (map (λ p. (p.0, p.1 / 2)) (filter (λ p. nat_lt p.1 100) pairs.now)) }
@@ -138,7 +139,6 @@ pub fn copied<const N: usize, const M: usize>(
 
 /// Makes a map of the pairs of two maps.
 /// Of a key in both the second one's value stands.
-#[tactic(auto, using(micromap::proofs::Rules::caller, micromap::proofs::Rules::lists))]
 pub fn map_of_maps(a: &Map<u8, u32, 8>, b: &Map<u8, u32, 8>) -> Result<Map<u8, u32, 16>, Overfull>
     ensures { IfOk result (λ m. m ≡ build nat_eq (a.now ++ b.now)) }
 {
@@ -146,9 +146,8 @@ pub fn map_of_maps(a: &Map<u8, u32, 8>, b: &Map<u8, u32, 8>) -> Result<Map<u8, u
 }
 
 /// Makes a set of the keys of a map.
-/// It has room for them. Those that pass go the same way, with `filter` behind `copied()`. The values go by `values()`,
-/// and are `distinct nat_eq (map (λ p. p.1) pairs.now)`.
-#[tactic(auto, using(micromap::proofs::Rules::caller, micromap::proofs::Rules::lists))]
+/// The result is always `Ok`: the set has room for all keys. Those that pass go the same way, with `filter` behind
+/// `copied()`. The values go by `values()`, and are `distinct nat_eq (map (λ p. p.1) pairs.now)`.
 pub fn set_of_keys<const N: usize>(pairs: &Map<u8, u32, N>) -> Result<Set<u8, N>, Overfull>
     ensures keys { IfOk result (λ s. s ≡ keys_of pairs.now) }
     ensures room { IsOk result }
@@ -173,7 +172,6 @@ pub fn keys_over<const N: usize>(map: &Map<u8, u8, N>, limit: u8) -> Set<u8, N>
 /// Makes a set of the union of two sets.
 /// It is refused exactly if the union has more than `L` items. Difference, intersection and symmetric difference go the
 /// same way, by their words.
-#[tactic(auto, using(micromap::proofs::Rules::caller, micromap::proofs::Rules::lists))]
 pub fn set_of_union<const N: usize, const M: usize, const L: usize>(
     a: &Set<u8, N>,
     b: &Set<u8, M>,

@@ -1,7 +1,8 @@
 //! Counting and adding up.
 #![tactic(auto, using(micromap::proofs::Rules::caller))]
 
-ghost use Rattle.std.specs.Prelude.{◌&&◌, ◌+◌, ◌<◌, ◌==◌, ◌^◌, ◌≡◌, ◌≤◌, None, Option, Some, count_by, drop, fold, if◌then◌else◌, length, map, nat_eq, nat_lt, not, sum, unwrap_or, ℕ};
+ghost use Rattle.std.specs.Int.{saturate_signed, w64};
+ghost use Rattle.std.specs.Prelude.{◌≡◌, ◌&&◌, ◌+ℤ◌, ◌+◌, ◌<◌, ◌==◌, ◌^◌, ◌≤◌, ℕ, None, Option, Some, count_by, drop, fold, if◌then◌else◌, length, map, nat_eq, nat_lt, not, pos, sum, unwrap_or};
 ghost use Rattle.std.specs.List.{enumerate_from, zip};
 ghost use Rattle.std.specs.Map.{values_of};
 ghost use Rattle.std.specs.Option.{option_and_then};
@@ -131,6 +132,28 @@ pub fn total_wide<const N: usize>(pairs: &Map<u8, u32, N>) -> u64
     ensures { result ≡ sum (values_of pairs.now) }
 {
     pairs.values().map(|v| *v as u64).sum()
+}
+
+/// Adds up the values in a wider type, where the capacity is bounded.
+/// If the capacity is a number or a constant, the function requires nothing.
+pub fn total_bounded<const N: usize>(pairs: &Map<u8, u32, N>) -> u64
+    requires { N ≤ 65536 }
+    ensures { result ≡ sum (values_of pairs.now) }
+{
+    let _content = pairs.len();
+    total_wide(pairs)
+}
+
+/// Adds up signed values, where a sum that doesn't fit stays at the end of the range.
+/// The search doesn't find a `fold` over signed numbers, so this is a loop.
+pub fn net<const N: usize>(amounts: &Map<u8, i64, N>) -> i64
+    ensures { result ≡ fold (λ total amount. saturate_signed w64 (total +ℤ amount)) (pos 0) (values_of amounts.now) }
+{
+    let mut total: i64 = 0;
+    for amount in amounts.values() {
+        total = total.saturating_add(*amount);
+    }
+    total
 }
 
 /// Adds up the members of an operation on two sets.

@@ -23,8 +23,9 @@ pub fn greatest<const N: usize>(pairs: &Map<u8, u32, N>) -> Option<u32>
 }
 
 /// Finds a key with the least value, and that value.
-/// It returns `None` if the map is empty. A key with the greatest value goes the same way by `max_by_key`, and so does
-/// the largest set that is a value, by `pair.1.len()`, if the capacities are numbers or constants.
+/// It returns `None` if the map is empty. To take the pair out, call `remove` with the key. A key with the greatest
+/// value goes the same way by `max_by_key`, and so does the largest set that is a value, by `pair.1.len()`, if the
+/// capacities are numbers or constants.
 pub fn cheapest<const N: usize>(prices: &Map<u8, u32, N>) -> Option<(u8, u32)>
     ensures none { IsNone result ↔ (prices.now ≡ []) }
     ensures found { IfSome result (Contains prices.now) }
@@ -111,6 +112,7 @@ pub fn pair_over<const N: usize>(map: &Map<u8, u8, N>, limit: u8) -> Option<(u8,
 /// Finds an item that passes a test, which is a member.
 /// The contract says nothing of `None`. The items have any type. Those of a known one go the same way, by its equality
 /// in the place of `T.eq` and of `g.T.PartialEq.eq`.
+#[tactic(auto, using(micromap::proofs::Laws::SetLaws::set_laws))]
 pub fn other_than<'a, T: Eq, const N: usize>(set: &'a Set<T, N>, item: &T) -> Option<&'a T>
     ensures stored { IfSome result (λ x. IsTrue (is_member T.eq set.now x.now)) }
     ensures other { IfSome result (λ x. IsFalse (T.eq x.now item.now)) }

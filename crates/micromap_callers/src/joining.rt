@@ -1,7 +1,7 @@
 //! Changing one by another.
 #![tactic(auto, using(micromap::proofs::Rules::caller))]
 
-ghost use Rattle.std.specs.Prelude.{◌≡◌, ◌↔◌, ◌<◌, ◌||◌, [], List, ℕ, IfSome, IsFalse, IsNone, IsTrue, OnOk, filter, fold, length, nat_eq, not};
+ghost use Rattle.std.specs.Prelude.{◌≡◌, ◌<◌, ◌||◌, ◌↔◌, [], ℕ, IfSome, IsFalse, IsNone, IsTrue, List, OnOk, filter, fold, length, nat_eq, not};
 ghost use Rattle.std.specs.Bool.{OnTrue};
 ghost use Rattle.std.specs.Set.{is_member};
 ghost use Rattle.micromap.specs.Build.{put_all};
@@ -14,8 +14,8 @@ ghost use Rattle.micromap.specs.Same.{Same};
 use micromap::{Map, Overfull, Set};
 
 /// Puts a map over another, all or nothing.
-/// It returns whether it did. There is no room for all if it didn't. A set goes the same way into a set, by
-/// `put_all_items`, and two of them by `set.try_extend_from(one)?` before the second.
+/// It returns `true` if all pairs were put. After `false` they don't all fit, and nothing has changed. A set goes the
+/// same way into a set, by `put_all_items`, and two of them by `set.try_extend_from(one)?` before the second.
 pub fn reprice<const N: usize, const M: usize>(
     prices: &mut Map<u8, u32, N>,
     new: &Map<u8, u32, M>,
@@ -27,23 +27,25 @@ pub fn reprice<const N: usize, const M: usize>(
     prices.try_extend_from(new).is_ok()
 }
 
-// Puts all pairs of another map if it returns `true`. If it returns `false`, they would be more than `N`.
-#[tactic(auto, using(micromap::proofs::Rules::loops))]
-fn add_all<const N: usize, const M: usize>(map: &mut Map<u8, u8, N>, other: &Map<u8, u8, M>) -> bool
-    ensures put { OnTrue result (map.new ≡ put_all nat_eq map.old other.now) }
-    ensures refused { IsFalse result → N < length (put_all nat_eq map.old other.now) }
+/// Puts a map whose keys and values are `Copy` over another, all or nothing.
+/// It returns `true` if all pairs were put. After `false` they don't all fit, and nothing has changed.
+#[tactic(auto)]
+pub fn put_over<K: Eq + Copy, V: Copy, const N: usize, const M: usize>(
+    map: &mut Map<K, V, N>,
+    other: &Map<K, V, M>,
+) -> bool
+    ensures all { OnTrue result (map.new ≡ put_all K.eq map.old other.now) }
+    ensures none { IsFalse result → map.new ≡ map.old }
+    ensures refused { IsFalse result → N < length (put_all K.eq map.old other.now) }
 {
-    for (key, value) in other {
-        if !map.fits(key) {
-            return false;
-        }
-        map.insert(*key, *value);
+    match map.try_extend_from(other) {
+        Ok(()) => true,
+        Err(_) => false,
     }
-    true
 }
 
-/// Puts a map into a copy of another.
-/// `None` is exact: they don't all fit then. The second one's values stand. Each pair is put in a loop.
+/// Puts a map into a copy of another, or returns `None` exactly if they don't all fit.
+/// The second one's values stand.
 pub fn merged<const N: usize, const M: usize>(
     first: &Map<u8, u8, N>,
     second: &Map<u8, u8, M>,
@@ -52,15 +54,13 @@ pub fn merged<const N: usize, const M: usize>(
     ensures refused { IsNone result ↔ (N < length (put_all nat_eq first.now second.now)) }
 {
     let mut merged = first.copied();
-    if !add_all(&mut merged, second) {
-        return None;
-    }
-    let _content = merged.len();
+    merged.try_extend_from(second).ok()?;
     Some(merged)
 }
 
 /// Puts a map over one that is passed by value, as far as it fits.
-/// Keys and values are of any type. For numbers and known capacities the closure needs no clause: `|mut m, (k, v)|`.
+/// Keys and values are of any types that are `Copy`. For numbers and known capacities the closure needs no clause:
+/// `|mut m, (k, v)|`.
 #[tactic(auto)]
 pub fn merged_any<K: Eq + Copy, V: Copy, const N: usize, const M: usize>(
     mine: Map<K, V, N>,

@@ -64,8 +64,9 @@ pub fn put_guest(map: &mut Map<Guest, u8, 8>, a: Guest, b: &Guest) -> Option<u8>
 }
 
 /// Puts a value at a key of any type.
-/// The contract says what `b` finds then: the new value if it equals `a`, and else what it found before. `order` compares
-/// `b` with `a`, and `turned` compares `a` with `b`. A set's items go the same way, by `item_fits` and `is_member`.
+/// The contract says what `b` finds then: the new value if it equals `a`, and else what it found before. `order`
+/// compares `b` with `a`, and `turned` compares `a` with `b`. A set's items go the same way, by `item_fits` and
+/// `is_member`.
 pub fn put_any<K: Eq + Drop>(map: &mut Map<K, u8, 8>, a: K, b: &K) -> Option<u8>
     requires { IsTrue (fits K.eq 8 map.old a) }
     ensures order { result ≡ (if K.eq b.now a then Some 1 else at K.eq map.old b.now) }

@@ -30,7 +30,7 @@ fn first_over<const N: usize>(amounts: &Map<u8, u8, N>, limit: u8) -> Option<(u8
 
 /// Finds a pair that passes, or tells that no key has one.
 /// `get` finds the pair at its key. If the answer is `None`, no pair that a key finds passes.
-#[tactic(auto, using(micromap::proofs::Rules::maps))]
+#[tactic(auto, using(micromap::proofs::Rules::caller))]
 pub fn over<const N: usize>(amounts: &Map<u8, u8, N>, limit: u8) -> Option<(u8, u8)>
     ensures found { IfSome result (λ p. at nat_eq amounts.now p.0 ≡ Some p.1) }
     ensures over { IfSome result (λ p. IsTrue (nat_lt limit p.1)) }
@@ -41,7 +41,7 @@ pub fn over<const N: usize>(amounts: &Map<u8, u8, N>, limit: u8) -> Option<(u8, 
 }
 
 // Returns whether all values are below a limit.
-#[tactic(auto, using(micromap::proofs::Rules::caller, micromap::proofs::Rules::maps))]
+#[tactic(auto, using(micromap::proofs::Rules::caller))]
 fn are_below<const N: usize>(amounts: &Map<u8, u8, N>, limit: u8) -> bool
     ensures { result ≡ list_all (λ v. nat_lt v limit) (values_of amounts.now) }
 {
@@ -50,8 +50,8 @@ fn are_below<const N: usize>(amounts: &Map<u8, u8, N>, limit: u8) -> bool
 
 /// Tells that each value that `get` finds passes, where all do.
 /// It does so if it returns `true`. That each member of a set passes goes the same way, by a chain over `items.iter()`,
-/// under the ruleset `micromap::proofs::Rules::sets`.
-#[tactic(auto, using(micromap::proofs::Rules::maps))]
+/// under the ruleset `micromap::proofs::Rules::caller`.
+#[tactic(auto, using(micromap::proofs::Rules::caller))]
 pub fn each_below<const N: usize>(amounts: &Map<u8, u8, N>, limit: u8) -> bool
     ensures { IsTrue result → (k v : _) → at nat_eq amounts.now k ≡ Some v → IsTrue (nat_lt v limit) }
 {
@@ -60,7 +60,7 @@ pub fn each_below<const N: usize>(amounts: &Map<u8, u8, N>, limit: u8) -> bool
 
 /// Tells by `get` that there is no pair with a key.
 /// It moves the value of another key there. If it returns `true`, there was no pair with the new key.
-#[tactic(auto, using(micromap::proofs::Rules::caller, micromap::proofs::Rules::maps))]
+#[tactic(auto, using(micromap::proofs::Rules::caller))]
 pub fn reissue<const N: usize>(leases: &mut Map<u8, u8, N>, from: u8, to: u8) -> bool
     ensures { IsTrue result → pair nat_eq leases.old to ≡ None }
 {
@@ -77,7 +77,7 @@ pub fn reissue<const N: usize>(leases: &mut Map<u8, u8, N>, from: u8, to: u8) ->
 }
 
 /// Tells by `get_key_value` whether a key is stored.
-#[tactic(auto, using(micromap::proofs::Rules::caller, micromap::proofs::Rules::maps))]
+#[tactic(auto, using(micromap::proofs::Rules::caller))]
 pub fn is_open<const N: usize>(leases: &Map<u8, u8, N>, number: u8) -> bool
     ensures { result ≡ has nat_eq leases.now number }
 {
@@ -86,7 +86,7 @@ pub fn is_open<const N: usize>(leases: &Map<u8, u8, N>, number: u8) -> bool
 
 /// Tells that of two equal keys both are stored, or neither.
 /// It returns whether the keys are equal.
-#[tactic(auto, using(micromap::proofs::Rules::caller, micromap::proofs::Rules::maps))]
+#[tactic(auto, using(micromap::proofs::Rules::caller))]
 pub fn are_one<const N: usize>(leases: &Map<u8, u8, N>, one: u8, other: u8) -> bool
     ensures { IsTrue result → has nat_eq leases.now one ≡ has nat_eq leases.now other }
 {

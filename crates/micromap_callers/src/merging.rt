@@ -1,5 +1,5 @@
 //! Counts, totals and groups.
-#![tactic(auto, using(micromap::proofs::Rules::lists))]
+#![tactic(auto, using(micromap::proofs::Rules::caller))]
 
 ghost use Rattle.std.specs.Prelude.{◌≡◌, ◌↔◌, ◌+◌, ◌-◌, ◌^◌, ◌<◌, [], List, ℕ, IfSome, IsFalse, IsNone, Some, filter, fold, if◌then◌else◌, length, min, nat_eq, unwrap_or};
 ghost use Rattle.std.specs.Bool.{OnTrue};
@@ -22,9 +22,8 @@ fn all_counts<const N: usize>(list: &[u8]) -> Option<Map<u8, usize, N>>
 }
 
 /// Counts how often each item of a list comes.
-/// `None` is exact: there are more than `N` different items then. What a function makes of those that pass goes the
-/// same way, by `filter` and another `map`.
-#[tactic(auto, using(micromap::proofs::Rules::caller, micromap::proofs::Rules::lists))]
+/// It returns `None` exactly if there are more than `N` different items. What a function makes of those that pass goes
+/// the same way, by `filter` and another `map`.
 pub fn counts_or_none<const N: usize>(list: &[u8]) -> Option<Map<u8, usize, N>>
     ensures counted { IfSome result (λ m. m ≡ counts nat_eq list.now) }
     ensures refused { IsNone result ↔ (N < distinct_count nat_eq list.now) }
@@ -84,7 +83,7 @@ pub fn add_then_read<const N: usize>(
 }
 
 /// Makes a map of the total of each key.
-/// `None` is exact: there are more than `N` different keys then. A total stays at the greatest number.
+/// It returns `None` exactly if there are more than `N` different keys. A total stays at the greatest number.
 pub fn totals_of<const N: usize>(amounts: &[(u8, u32)]) -> Option<Map<u8, u32, N>>
     ensures totals { IfSome result (λ totals. totals ≡ merged nat_eq saturated_sum [] amounts.now) }
     ensures refused { IsNone result ↔ (N < distinct_count nat_eq (keys_of amounts.now)) }
@@ -102,7 +101,8 @@ pub fn totals_of<const N: usize>(amounts: &[(u8, u32)]) -> Option<Map<u8, u32, N
 }
 
 /// Groups a list: makes a map of the members of each key.
-/// A group has the members for which its set has room. `None` is exact: there are more than `N` different keys then.
+/// A group has the members for which its set has room. It returns `None` exactly if there are more than `N` different
+/// keys.
 pub fn groups_of<const N: usize, const M: usize>(
     list: &[(u8, u8)],
 ) -> Option<Map<u8, Set<u8, M>, N>>

@@ -1,12 +1,14 @@
 //! Sets as the values of a map.
 #![tactic(auto, using(micromap::proofs::Rules::caller))]
 
-ghost use Rattle.std.specs.Prelude.{◌≡◌, ◌&&◌, [], List, ℕ, false, filter, fold, if◌then◌else◌, length, map, nat_eq, nat_le, nat_lt, not, unwrap_or};
+ghost use Rattle.std.specs.List.{list_all};
+ghost use Rattle.std.specs.Prelude.{◌≡◌, ◌&&◌, [], ℕ, List, false, filter, fold, if◌then◌else◌, length, map, nat_eq, nat_le, nat_lt, not, unwrap_or};
 ghost use Rattle.std.specs.Map.{values_of};
 ghost use Rattle.std.specs.Option.{option_map_or};
 ghost use Rattle.micromap.specs.Extend.{put_all_items};
 ghost use Rattle.micromap.specs.Items.{item_fits, put_item_if_fits, take_item};
 ghost use Rattle.micromap.specs.Pairs.{at, has, put, take_out};
+ghost use Rattle.std.specs.Set.{is_member};
 
 use micromap::{Map, Set};
 
@@ -131,4 +133,21 @@ pub fn all_members(groups: &Map<u8, Set<u8, 8>, 8>) -> Set<u8, 16>
             all
         })
     })
+}
+
+/// Returns whether the set of a key has all items of a set, where a missing set is the empty one.
+pub fn meets(groups: &Map<u8, Set<u8, 8>, 16>, group: u8, needs: &Set<u8, 8>) -> bool
+    ensures { result ≡ list_all (is_member nat_eq (unwrap_or (at nat_eq groups.now group) [])) needs.now }
+{
+    let none = Set::new();
+    needs.is_subset(groups.get(&group).unwrap_or(&none))
+}
+
+/// Returns whether the sets of two keys share an item, where a missing set is the empty one.
+pub fn have_conflict(groups: &Map<u8, Set<u8, 8>, 16>, group: u8, other: u8) -> bool
+    ensures { result ≡ not (list_all (λ x. not (is_member nat_eq (unwrap_or (at nat_eq groups.now other) []) x)) (unwrap_or (at nat_eq groups.now group) [])) }
+{
+    let none = Set::new();
+    let others = groups.get(&other).unwrap_or(&none);
+    !groups.get(&group).unwrap_or(&none).is_disjoint(others)
 }

@@ -1,7 +1,7 @@
 //! `&str` as keys or items.
 #![tactic(auto, using(micromap::proofs::Rules::caller))]
 
-ghost use Rattle.std.specs.Prelude.{◌≡◌, ◌↔◌, ◌+◌, ◌-◌, ◌<◌, ◌^◌, [], ℕ, IfOk, IsFalse, IsTrue, None, OnOk, Option, Some, filter, fold, if◌then◌else◌, length, map, max, min, nat_lt, not, unwrap_or};
+ghost use Rattle.std.specs.Prelude.{◌≡◌, ◌+◌, ◌-◌, ◌<◌, ◌^◌, ◌↔◌, ◌≤◌, [], ℕ, IfErr, IfOk, IfSome, IsFalse, IsTrue, None, OnOk, Option, Some, filter, fold, if◌then◌else◌, is_some, length, map, max, min, nat_lt, not, unwrap_or};
 ghost use Rattle.std.specs.Bool.{OnTrue};
 ghost use Rattle.std.specs.List.{list_all, list_any, reduce};
 ghost use Rattle.std.specs.Map.{keys_of, lookup, values_of};
@@ -9,7 +9,8 @@ ghost use Rattle.std.specs.Option.{option_and_then, option_map_or};
 ghost use Rattle.std.specs.Str.{bytes_eq};
 ghost use Rattle.micromap.specs.Build.{counts_or_refuse, put_all};
 ghost use Rattle.micromap.specs.Extend.{put_all_items};
-ghost use Rattle.micromap.specs.Pairs.{at, fits, has, put, put_if_fits, take_out};
+ghost use Rattle.micromap.specs.Items.{IsItems};
+ghost use Rattle.micromap.specs.Pairs.{IsContent, at, fits, has, put, put_if_fits, take_out};
 ghost use Rattle.micromap.specs.Probe.{is_str};
 ghost use Rattle.micromap.specs.Same.{Same};
 ghost use Rattle.micromap.specs.Texts.{item_strs, key_strs, str_eq};
@@ -68,7 +69,7 @@ pub fn count_word<'a, const N: usize>(counts: &mut Map<&'a str, u32, N>, word: &
 
 /// Moves a value from one `&str` to another, which goes to its index or to the end.
 ///
-/// The answer is `false`, and nothing changes, if there is none.
+/// It returns `false`, and nothing changes, if there is none.
 pub fn rename<'a, const N: usize>(
     numbers: &mut Map<&'a str, u8, N>,
     from: &'a str,
@@ -109,7 +110,7 @@ pub fn large<'a, const N: usize>(names: &Map<&'a str, u64, N>) -> Map<&'a str, u
     some
 }
 
-/// Adds up the values of a list of words, or answers `None` if one is missing or the sum doesn't fit.
+/// Adds up the values of a list of words, or returns `None` if one is missing or the sum doesn't fit.
 pub fn sum_named(names: &[&str], amounts: &Map<&str, u32, 16>) -> Option<u32>
     ensures { result ≡ fold (λ (sum : Option ℕ) name. option_and_then (λ s. option_and_then (λ n. if nat_lt (s + n) (2 ^ 32) then Some (s + n) else None) (lookup (is_str name.now) amounts.now)) sum) (Some 0) names.now }
 {
@@ -160,7 +161,7 @@ pub fn have_same_settings<'a, const N: usize, const M: usize>(
     one.eq_with(other)
 }
 
-/// Counts how often each word of a list comes, or answers `None` if there are too many different ones.
+/// Counts how often each word of a list comes, or returns `None` if there are too many different ones.
 #[tactic(auto, unfolding(micromap_core::specs::Build::counts_or_refuse))]
 pub fn words_of<'a, const N: usize>(list: &[&'a str]) -> Option<Map<&'a str, usize, N>>
     ensures { result ≡ counts_or_refuse str_eq N list.now }
@@ -201,4 +202,45 @@ pub fn add_words<'a, const N: usize, const M: usize>(
 {
     words.try_extend_from(one)?;
     words.try_extend_from(other)
+}
+
+/// Keeps the words that are no key of a map.
+pub fn keep_unknown(words: &mut Set<&str, 16>, known: &Map<&str, u32, 32>)
+    ensures { words.new ≡ filter (λ word. not (is_some (lookup (is_str word.now) known.now))) words.old }
+{
+    words.retain(|word| !known.contains_key_by(&Text(*word)));
+}
+
+// Returns whether all of these words are keys.
+fn are_keys(needs: &Map<&str, Set<&str, 2>, 32>, words: &Set<&str, 2>) -> bool
+    ensures { result ≡ list_all (λ word. is_some (lookup (is_str word.now) needs.now)) words.now }
+{
+    words.iter().all(|word| needs.contains_key_by(&Text(*word)))
+}
+
+/// Returns whether all words of a map's sets are its keys.
+/// The type is written out with elided lifetimes: an alias with one lifetime is refused here.
+pub fn names_its_keys(needs: &Map<&str, Set<&str, 2>, 32>) -> bool
+    ensures { result ≡ list_all (list_all (λ word. is_some (lookup (is_str word.now) needs.now))) (values_of needs.now) }
+{
+    needs.values().all(|words| are_keys(needs, words))
+}
+
+/// Makes a set of the words of a text, or an error if there are more than `N` different ones.
+/// The contract says that no two words are equal, and that an error stands at a position of at least `N`. It doesn't
+/// say which words are in the set.
+pub fn words_in<'a, const N: usize>(text: &'a str) -> Result<Set<&'a str, N>, Overfull>
+    ensures words { IfOk result (IsItems str_eq N) }
+    ensures full { IfErr result (λ e. N ≤ e.at) }
+{
+    Ok(Set::try_from_iter(text.split_whitespace())?)
+}
+
+/// Counts how often each word of a text comes, or returns `None` if there are more than `N` different ones.
+/// The contract says only that no two words are equal and that there are at most `N`. That of `words_of` has the
+/// counts, of a list of words.
+pub fn count_words_in<'a, const N: usize>(text: &'a str) -> Option<Map<&'a str, usize, N>>
+    ensures { IfSome result (IsContent str_eq N) }
+{
+    Map::counts_of(text.split_whitespace())
 }

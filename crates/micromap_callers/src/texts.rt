@@ -63,7 +63,7 @@ pub fn set<const N: usize>(
 
 /// Counts a text, which is copied only if it is new.
 ///
-/// The answer is `false` if it has no room. A count stays at the greatest number.
+/// It returns `false` if the text has no room. A count stays at the greatest number.
 pub fn count<const N: usize>(
     alloc: Global,
     counts: &mut Map<TextBuf, u32, N>,
@@ -85,7 +85,7 @@ pub fn count<const N: usize>(
 
 /// Moves a value from one text to another, which goes to its index or to the end.
 ///
-/// The answer is `false`, and nothing changes, if there is none.
+/// It returns `false`, and nothing changes, if there is none.
 pub fn rename<const N: usize>(ages: &mut Map<TextBuf, u8, N>, from: &str, to: TextBuf) -> bool
     ensures answer { result ≡ has bytes_eq ages.old from.now }
     ensures ages { ages.new ≡ option_map_or (λ age. put bytes_eq (remove_entry (bytes_eq from.now) ages.old) to age) (at bytes_eq ages.old from.now) ages.old }
@@ -212,7 +212,7 @@ fn overlay<const N: usize, const M: usize>(
     Ok(true)
 }
 
-/// Copies settings with others put over them, or answers `None` if they don't all fit.
+/// Copies settings with others put over them, or returns `None` if they don't all fit.
 pub fn merged<const N: usize, const M: usize>(
     settings: &Map<TextBuf, TextBuf, N>,
     other: &Map<TextBuf, TextBuf, M>,

@@ -26,7 +26,7 @@ use Rattle.std.proofs.lemmas.Map.Keys.{IsDistinct-cons, IsDistinct-push}
 use Rattle.std.proofs.lemmas.Map.Steps.{list_any_congr}
 use Rattle.std.proofs.lemmas.Map.Made.{is_some-lookup, distinct_count-le, length-from_keys, length-le_from_is_member}
 use Rattle.micromap_core.specs.Pairs.{at, fits, has, has_room, put, IsContent, IsUnique}
-use Rattle.micromap_core.proofs.laws.Equalities.{lawful}
+use Rattle.micromap_core.proofs.Laws.Equalities.{lawful}
 use Rattle.micromap_core.proofs.Lists.{is_some-if}
 use Rattle.micromap_core.proofs.MapLemmas.{keys_of-put_stored, keys_of-put_new}
 

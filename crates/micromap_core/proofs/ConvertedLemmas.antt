@@ -8,7 +8,7 @@ use Rattle.micromap_core.specs.Pairs.{IsUnique}
 use Rattle.micromap_core.specs.Texts.{items_by, texts_by}
 use Rattle.micromap_core.proofs.SlotsLemmas.{zip_columns}
 use Rattle.micromap_core.proofs.Views.{distinct-from_map}
-use Rattle.micromap_core.proofs.laws.TextViews.{keys_texts}
+use Rattle.micromap_core.proofs.Laws.TextLaws.{keys_texts}
 
 module _ {K : Type 0} (see : K → List ℕ) where
   seen_again : (texts : List (List ℕ)) (keys : List K) → AllZip (λ text k. see k ≡ text) texts keys

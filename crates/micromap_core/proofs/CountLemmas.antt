@@ -5,7 +5,7 @@ use Rattle.micromap_core.specs.Build.{count_one}
 use Rattle.micromap_core.specs.Equalities.{Lawful}
 use Rattle.micromap_core.specs.Pairs.{at, fits}
 use Rattle.micromap_core.proofs.BuildLemmas.{has_put_fitting, HasPutFitting}
-use Rattle.micromap_core.proofs.laws.CountLaws.{count_more}
+use Rattle.micromap_core.proofs.Laws.CountLaws.{count_more}
 
 -- of the items so far those that fit are counted, no count is above their number, and whole tells whether all fit
 pub record Counting {K : Type 0} (eq : K → K → Bool) (N : ℕ) (items : List K) (whole : Bool) (counts : List (K × ℕ)) : Type 0 where

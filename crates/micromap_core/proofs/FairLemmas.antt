@@ -15,13 +15,13 @@ use Rattle.micromap_core.specs.Equalities.{Lawful}
 use Rattle.micromap_core.specs.Fair.{IsFairCall, IsFair, AnswersAgree, ToldApart, SameForGood}
 use Rattle.micromap_core.specs.Pairs.{at, pair, has, has_room, fits, put, put_key, take_out, IsContent, IsUnique}
 use Rattle.micromap_core.specs.Same.{has_value, pair_eq, is_same, Same}
-use Rattle.micromap_core.proofs.laws.Equalities.{lawful, of_lawful}
+use Rattle.micromap_core.proofs.Laws.Equalities.{lawful, of_lawful}
 use Rattle.micromap_core.proofs.SameLemmas.{Comparable, comparable, FindAlike, alike_from_same, same_from_alike}
 use Rattle.micromap_core.proofs.SameLemmas.{same_if_long, unlike_if_apart, long_from_same, differs_where_unlike}
 use Rattle.micromap_core.proofs.BuildLemmas.{IsDistinct-nil}
 use Rattle.micromap_core.proofs.MapLemmas.{lookup-entry}
-use Rattle.micromap_core.proofs.laws.MapLaws.{at_put, at_put_key, at_take_out}
-use Rattle.micromap_core.proofs.laws.MapLaws.{unique_put, unique_put_key, unique_take_out}
+use Rattle.micromap_core.proofs.Laws.MapLaws.{at_put, at_put_key, at_take_out}
+use Rattle.micromap_core.proofs.Laws.MapLaws.{unique_put, unique_put_key, unique_take_out}
 
 -- calls on two lists that are the same
 module _ {K V : Type 0} {eq : K → K → Bool} {same : V → V → Bool} {first second : List (K × V)}

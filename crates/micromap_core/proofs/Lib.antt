@@ -1,4 +1,4 @@
-pub mod laws
+pub mod Laws
 pub mod BuildLemmas
 pub mod CloneLemmas
 pub mod SlotsLemmas

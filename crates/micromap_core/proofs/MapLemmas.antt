@@ -18,7 +18,7 @@ use Rattle.std.proofs.lemmas.Map.Keys.{IsDistinct-push, IsDistinct-tail, IsDisti
 use Rattle.std.proofs.lemmas.Option.{get_or_from_slice_get, slice_get_within}
 use Rattle.micromap_core.specs.Equalities.{IsProbe}
 use Rattle.micromap_core.specs.Found.{FoundAt, NotFound}
-use Rattle.micromap_core.proofs.laws.Equalities.{of_lawful}
+use Rattle.micromap_core.proofs.Laws.Equalities.{of_lawful}
 use Rattle.micromap_core.specs.Pairs.{first_index, without_at, has, put, put_key, IsContent, IsUnique, with_value_at, pair}
 
 module _ {K V : Type 0} (test : K → Bool) where

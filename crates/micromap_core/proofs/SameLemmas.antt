@@ -24,8 +24,8 @@ use Rattle.micromap_core.specs.Same.{pair_eq, is_same, Same, same_at, has_value}
 use Rattle.micromap_core.specs.Same.{first_missing, first_unequal, first_difference}
 use Rattle.micromap_core.proofs.DistinctLemmas.{both_sides, not_both_sides}
 use Rattle.micromap_core.proofs.Lists.{all_by_find, find_tells}
-use Rattle.micromap_core.proofs.laws.Equalities.{lawful}
-use Rattle.micromap_core.proofs.laws.MapLaws.{at_alike}
+use Rattle.micromap_core.proofs.Laws.Equalities.{lawful}
+use Rattle.micromap_core.proofs.Laws.MapLaws.{at_alike}
 
 -- at the next of the pairs that are left: what the other list has at its key is found
 module _ {K V : Type 0} (eq : K → K → Bool) (same : V → V → Bool) (k : K) (v : Bor V)

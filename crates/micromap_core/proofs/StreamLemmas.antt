@@ -14,7 +14,7 @@ use Rattle.micromap_core.specs.declared.stream.ReadFault.TheVariants.{Source, To
 use Rattle.micromap_core.specs.Stream.{Stream, stream_of, Faultless, Faults, TakesBeginning, MapReads}
 use Rattle.micromap_core.proofs.BuildLemmas.{has_put_more, few_distinct, many_distinct, pairs_keyed}
 use Rattle.micromap_core.proofs.DistinctLemmas.{new_behind}
-use Rattle.micromap_core.proofs.laws.MapLaws.{put_new}
+use Rattle.micromap_core.proofs.Laws.MapLaws.{put_new}
 
 -- no fault, and then a call with none
 pub still_faultless : {S E : Type 0} {faults : S → ℕ} {last_fault : S → Option E} {old now new : S}

@@ -114,6 +114,7 @@ module _ {K V W : Type 0} (eq : K → K → Bool) (step : Option V → W → V) 
   abbrev pub merge_pair : List (K × V) → K × W → List (K × V)
   merge_pair pairs item = put eq pairs item.0 (step (at eq pairs item.0) item.1)
 
-  -- the pairs once these items are merged one after the other: a stored key keeps its index, a new one goes last
+  -- the pairs once these items are merged one after the other: `step` makes the new value of the stored one, if any, and
+  -- of the item's; a stored key keeps its index, and a new one goes last
   unfoldable pub merged : List (K × V) → List (K × W) → List (K × V)
   merged pairs items = fold merge_pair pairs items

@@ -20,12 +20,12 @@ module _ {K V : Type 0} (key_text : K → Option (List ℕ)) (value_text : V →
   abbrev pub map_text : List (K × V) → Option (List ℕ)
   map_text = set_text pair_text
 
--- the text of a reading's fault, with that of the source's fault behind it
+-- `the source failed: ` and the text of the source's fault, or `a pair has a new key, and there is no room for it`
 abbrev pub read_fault_text : {E : Type 0} → (E → Option (List ℕ)) → ReadFault E → Option (List ℕ)
 read_fault_text fault_text (Source fault) = Some (codes "the source failed: ") ++? fault_text fault
 read_fault_text fault_text TooMany = Some (codes "a pair has a new key, and there is no room for it")
 
--- the text of an insertion's error, which doesn't have what was passed
+-- `the key is stored already`, or `the key is new, and there is no room for it`
 abbrev pub insert_error_text : {P : Type 0} → InsertError P → Option (List ℕ)
 insert_error_text (Occupied passed) = Some (codes "the key is stored already")
 insert_error_text (Full passed) = Some (codes "the key is new, and there is no room for it")

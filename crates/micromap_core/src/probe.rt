@@ -35,7 +35,7 @@ impl<K: Eq> Probe<K> for K {
 }
 
 /// A probe for keys that are texts, `String` or `&str`: it matches the key with the same text.
-/// It finds a [`TextBuf`](crate::TextBuf) in the same way.
+/// It finds a `TextBuf` in the same way.
 #[derive(Debug, Clone, Copy)]
 pub struct Text<'a>(pub &'a str);
 

@@ -4,8 +4,8 @@ use Rattle.std.specs.Cmp.{IsEquivalence}
 use Rattle.std.specs.Cmp.Lexicographic.{pointwise}
 use Rattle.std.proofs.Math.Bool.{and_assoc, and-true}
 use Rattle.std.proofs.lemmas.List.{drop_all, drop_more}
-use Rattle.micromap.proofs.laws.ComparisonLaws.{same_for_good}
-use Rattle.micromap.proofs.laws.Equalities.{lawful}
+use Rattle.micromap.proofs.Laws.ComparisonLaws.{same_for_good}
+use Rattle.micromap.proofs.Laws.Equalities.{lawful}
 use Rattle.micromap.specs.Calls.{Call, answer, after, run, agree}
 use Rattle.micromap.specs.Fair.{IsFair, AnswersAgree}
 use Rattle.micromap.specs.Pairs.{IsUnique}

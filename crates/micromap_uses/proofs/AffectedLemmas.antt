@@ -7,8 +7,8 @@ use Rattle.std.specs.Option.{option_map, option_map_or}
 use Rattle.std.specs.Set.{is_member}
 use Rattle.micromap.specs.Pairs.{at, has, IsUnique}
 use Rattle.micromap.specs.Items.{put_item}
-use Rattle.micromap.proofs.laws.Equalities.{lawful_nat}
-use Rattle.micromap.proofs.laws.SetLaws.{is_member_put_item}
+use Rattle.micromap.proofs.Laws.Equalities.{lawful_nat}
+use Rattle.micromap.proofs.Laws.SetLaws.{is_member_put_item}
 use Rattle.micromap_uses.specs.Order.{needs, is_affected, is_next_affected, is_touched, DependsOn, IsChain}
 use Rattle.micromap_uses.proofs.OrderLemmas.{key_found, none_at_key}
 use Rattle.micromap_uses.proofs.ReachLemmas.{either_way}

@@ -16,8 +16,8 @@ use Rattle.std.specs.Option.{option_map, option_map_or}
 use Rattle.std.specs.Set.{is_member}
 use Rattle.micromap.specs.Items.{put_item, item_fits, IsItems}
 use Rattle.micromap.specs.Pairs.{at, has, IsContent, IsUnique}
-use Rattle.micromap.proofs.laws.Equalities.{lawful_nat}
-use Rattle.micromap.proofs.laws.SetLaws.{each_difference, is_member_put_item, length_put_item, unique_put_item}
+use Rattle.micromap.proofs.Laws.Equalities.{lawful_nat}
+use Rattle.micromap.proofs.Laws.SetLaws.{each_difference, is_member_put_item, length_put_item, unique_put_item}
 use Rattle.micromap_uses.specs.Order.{is_blocked, is_ready, is_next, IsOrdered}
 use Rattle.micromap_uses.proofs.ReachLemmas.{either_way}
 

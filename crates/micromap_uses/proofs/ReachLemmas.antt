@@ -3,7 +3,7 @@ use Rattle.std.proofs.Common.{◌≡◌, ℕ, nat_eq, ◌<◌, Bool, true, false
 use Rattle.std.proofs.lemmas.Map.Steps.{length-le_from_distinct_below}
 use Rattle.std.specs.Set.{is_member}
 use Rattle.micromap.specs.Items.{put_item, item_fits, IsItems}
-use Rattle.micromap.proofs.laws.SetLaws.{set_laws}
+use Rattle.micromap.proofs.Laws.SetLaws.{set_laws}
 use Rattle.micromap_uses.specs.Graph.{leads, IsWalk}
 
 pub either_way : {P : Type 0} (b : Bool) → (b ≡ true → P) → (b ≡ false → P) → P

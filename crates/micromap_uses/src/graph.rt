@@ -116,7 +116,7 @@ impl Graph {
     }
 
     // Adds a node, and from it all to which edges lead, but for those that were added before.
-    #[tactic(auto, using(micromap::proofs::Rules::sets, crate::proofs::ReachLemmas::room))]
+    #[tactic(auto, using(micromap::proofs::Rules::caller, crate::proofs::ReachLemmas::room))]
     fn search(&self, node: u8, met: &mut Set<u8, NODES>)
         requires node_is { node < NODES }
         requires nodes { (x : ℕ) → is_member nat_eq met.old x ≡ true → x < NODES }
@@ -135,7 +135,7 @@ impl Graph {
 }
 
 // Adds b to the neighbours of a.
-#[tactic(auto, using(micromap::proofs::Rules::sets, std::proofs::lemmas::Grind::common_steps))]
+#[tactic(auto, using(micromap::proofs::Rules::caller, std::proofs::lemmas::Grind::common_steps))]
 fn join(nodes: &mut [Set<u8, DEGREE>; NODES], a: u8, b: u8)
     requires a_is_node { a < NODES }
     requires room { IsTrue (item_fits nat_eq DEGREE (neighbours nodes.old a) b) }
@@ -147,7 +147,7 @@ fn join(nodes: &mut [Set<u8, DEGREE>; NODES], a: u8, b: u8)
 }
 
 // Removes b from the neighbours of a, and returns whether it was there.
-#[tactic(auto, using(micromap::proofs::Rules::sets, std::proofs::lemmas::Grind::common_steps))]
+#[tactic(auto, using(micromap::proofs::Rules::caller, std::proofs::lemmas::Grind::common_steps))]
 fn part(nodes: &mut [Set<u8, DEGREE>; NODES], a: u8, b: u8) -> bool
     requires { a < NODES }
     ensures answer { result ≡ leads nodes.old a b }

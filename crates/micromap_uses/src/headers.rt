@@ -170,7 +170,7 @@ impl From<AllocError> for HeaderFault {
 /// Returns the headers that fields make, added one after the other, or the first fault.
 ///
 /// Allocates memory for each name and value.
-#[tactic(auto, using(micromap::proofs::Rules::lists, std::proofs::lemmas::Grind::common_steps))]
+#[tactic(auto, using(micromap::proofs::Rules::caller, std::proofs::lemmas::Grind::common_steps))]
 pub fn collect<const N: usize>(
     alloc: Global,
     fields: &[Header<'_>],

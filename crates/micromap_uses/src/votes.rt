@@ -12,7 +12,7 @@ use micromap::Map;
 pub type Name = u32;
 
 /// Returns each name with its number of votes, or `None` if the votes have more than `N` distinct names.
-#[tactic(auto, using(micromap::proofs::Rules::lists))]
+#[tactic(auto, using(micromap::proofs::Rules::caller))]
 pub fn tally<const N: usize>(votes: &[Name]) -> Option<Map<Name, usize, N>>
     ensures tally { IfSome result (λ tally. tally ≡ counts nat_eq votes.now) }
     ensures counts { IfSome result (λ counts. (name : _) → unwrap_or (at nat_eq counts name) 0 ≡ count_by (nat_eq name) votes.now) }

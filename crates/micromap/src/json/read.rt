@@ -20,9 +20,9 @@ use std::alloc::Global;
 
 /// Creates a map of an object's members, or returns why there is none.
 ///
-/// The pairs have the order of `serde_json`'s own map, which keeps one member of a repeated name. Allocates memory for
-/// the values that are read, and never returns `Memory` for an empty text. Makes one scan for each member, up to the first
-/// that doesn't fit.
+/// The pairs are in the order of their names, compared as bytes. Of a repeated name the last value is read. Allocates
+/// memory for the values that are read, and never returns `Memory` for an empty text. Makes one scan for each member, up
+/// to the first that doesn't fit.
 pub fn map_from_json<const N: usize>(
     alloc: Global,
     text: &str,

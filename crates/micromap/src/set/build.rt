@@ -91,7 +91,7 @@ impl<T: Eq + Drop, const N: usize> Set<T, N> {
     /// Creates a set of all items of an iterator, inserted one after the other as `insert` does, or returns `None` if
     /// they don't all fit.
     ///
-    /// Requires that the iterator ends. Takes every item, also after one that doesn't fit. The result is `None` exactly
+    /// Requires that the iterator ends. Takes every item, even after one that doesn't fit. The result is `None` exactly
     /// if more than `N` of the items are distinct: then all are dropped. Makes one scan for each item.
     ///
     /// ```

@@ -135,7 +135,7 @@ impl<K: Eq + Drop, V: Drop, const N: usize> Map<K, V, N> {
     /// Creates a map of all items of an iterator, inserted one after the other as `insert` does, or returns `None` if
     /// they don't all fit.
     ///
-    /// Requires that the iterator ends. Takes every item, also after one that doesn't fit. The result is `None` exactly
+    /// Requires that the iterator ends. Takes every item, even after one that doesn't fit. The result is `None` exactly
     /// if the items have more than `N` distinct keys: then all are dropped. Makes one scan for each item.
     pub fn from_all<I: Iterator<Item = (K, V)>>(items: I) -> Option<Self>
         requires can { I.can_next items }
@@ -173,7 +173,7 @@ impl<K: Eq + Drop, const N: usize> Map<K, usize, N> {
     /// Creates a map of an iterator's distinct items, each with the number of times that it came, or returns `None` if
     /// more than `N` are distinct.
     ///
-    /// Requires that the iterator ends, after fewer than `usize::MAX` items. Takes every item, also after one that doesn't
+    /// Requires that the iterator ends, after fewer than `usize::MAX` items. Takes every item, even after one that doesn't
     /// fit. Each distinct item is in the order in which it first came. Makes one scan for each item.
     ///
     /// ```

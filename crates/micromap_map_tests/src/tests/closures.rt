@@ -8,7 +8,7 @@ ghost use Rattle.micromap.specs.Closures.{IsSublist, updated_disjoint};
 use micromap::Map;
 
 // Keeps the pairs with an even key.
-#[tactic(auto, using(micromap::proofs::Rules::closures))]
+#[tactic(auto, using(micromap::proofs::Rules::caller))]
 fn keep_even<const N: usize>(pairs: &mut Map<u8, u8, N>)
     ensures { pairs.new ≡ filter (λ p. p.0 % 2 == 0) pairs.old }
 {
@@ -28,7 +28,7 @@ fn keep_some<const N: usize>(pairs: &mut Map<u8, u8, N>, limit: u8)
 }
 
 // Sets each value to its key.
-#[tactic(auto, using(micromap::proofs::Rules::closures))]
+#[tactic(auto, using(micromap::proofs::Rules::caller))]
 fn keys_as_values<const N: usize>(pairs: &mut Map<u8, u8, N>)
     ensures { pairs.new ≡ map (λ p. (p.0, p.0)) pairs.old }
 {
@@ -36,7 +36,7 @@ fn keys_as_values<const N: usize>(pairs: &mut Map<u8, u8, N>)
 }
 
 // Sets the value of each key that is stored to its position.
-#[tactic(auto, using(micromap::proofs::Rules::closures))]
+#[tactic(auto, using(micromap::proofs::Rules::caller))]
 fn positions<const J: usize, const N: usize>(pairs: &mut Map<u8, usize, N>, keys: &[u8; J])
     requires { distinct_count nat_eq keys.now ≡ J }
     ensures { pairs.new ≡ updated_disjoint nat_eq (λ position _. position) pairs.old keys.now }

@@ -19,7 +19,7 @@ fn overwrite<const N: usize>(map: &mut Map<u8, u8, N>, key: u8, value: u8)
 }
 
 // Puts a pair and looks its key up.
-#[tactic(auto, using(micromap::proofs::Rules::maps))]
+#[tactic(auto, using(micromap::proofs::Rules::caller))]
 fn put_and_get<const N: usize>(map: &mut Map<u8, u8, N>, key: u8, value: u8) -> Option<u8>
     requires { IsTrue (fits nat_eq N map.old key) }
     ensures { result ≡ Some value }
@@ -29,7 +29,7 @@ fn put_and_get<const N: usize>(map: &mut Map<u8, u8, N>, key: u8, value: u8) -> 
 }
 
 // Takes a pair out and looks its key up.
-#[tactic(auto, using(micromap::proofs::Rules::maps))]
+#[tactic(auto, using(micromap::proofs::Rules::caller))]
 fn take_and_get<const N: usize>(map: &mut Map<u8, u8, N>, key: u8) -> Option<u8>
     ensures { result ≡ None }
 {
@@ -320,7 +320,7 @@ fn a_default_stands_for_a_missing_value(rt: HostRuntime) {
 }
 
 // Inserts a pair by each call that requires room, if there is some.
-#[tactic(auto, using(micromap::proofs::Rules::maps))]
+#[tactic(auto, using(micromap::proofs::Rules::caller))]
 fn put<const N: usize>(map: &mut Map<u8, u8, N>, key: u8, value: u8) -> bool {
     if !map.fits(&key) {
         return false;

@@ -329,7 +329,7 @@ fn each_item_is_visited_once_in_turn(rt: HostRuntime) {
 }
 
 // Inserts an item by each call that requires room, if there is some.
-#[tactic(auto, using(micromap::proofs::Rules::sets))]
+#[tactic(auto, using(micromap::proofs::Rules::caller))]
 fn put_item<const N: usize>(set: &mut Set<u8, N>, item: u8) -> bool {
     if !set.fits(&item) {
         return false;

@@ -8,7 +8,7 @@ use micromap_testing::{debugs, displays};
 use std::alloc::{AllocError, Global};
 
 // The text of a map of texts.
-#[tactic(auto, using(micromap_core::proofs::laws::TextLemmas::each_map_text))]
+#[tactic(auto, using(micromap_core::proofs::Laws::TextLaws::each_map_text))]
 fn text_of<const N: usize>(
     alloc: Global,
     map: &Map<String, String, N>,

@@ -1,8 +1,8 @@
 use Rattle.std.proofs.Common.{nat_eq, ◌∙◌}
 use Rattle.std.proofs.lemmas.Bool.{OnTrue_at, OnTrue_from}
 use Rattle.micromap.specs.Same.{is_same, Same}
-use Rattle.micromap.proofs.laws.Equalities.{lawful_nat, of_lawful}
-use Rattle.micromap.proofs.laws.Laws.{length-same, sameness}
+use Rattle.micromap.proofs.Laws.Equalities.{lawful_nat, of_lawful}
+use Rattle.micromap.proofs.Laws.ComparisonLaws.{length-same, sameness}
 use Rattle.micromap_callers.proofs.knowing.are_same.Goals as goal
 
 pub returns-then-eq_with-clause-same : goal.returns-then-eq_with-clause-same

@@ -1,8 +1,8 @@
 use Rattle.std.proofs.Common.{◌<◌, length, nat_eq, nat_lt, arith}
 use Rattle.std.proofs.lemmas.Bool.{OnTrue_from}
 use Rattle.std.proofs.lemmas.Bool.Decides.{nat_tests}
-use Rattle.micromap.proofs.laws.Equalities.{lawful_nat}
-use Rattle.micromap.proofs.laws.Laws.{longer_has_key}
+use Rattle.micromap.proofs.Laws.Equalities.{lawful_nat}
+use Rattle.micromap.proofs.Laws.ComparisonLaws.{longer_has_key}
 use Rattle.micromap_callers.proofs.knowing.has_more.Goals as goal
 
 pub returns : goal.returns

@@ -1,6 +1,6 @@
 use Rattle.std.proofs.Common.{nat_eq}
-use Rattle.micromap.proofs.laws.Equalities.{lawful_nat}
-use Rattle.micromap.proofs.laws.Laws.{same_iff_filters}
+use Rattle.micromap.proofs.Laws.Equalities.{lawful_nat}
+use Rattle.micromap.proofs.Laws.ComparisonLaws.{same_iff_filters}
 use Rattle.micromap_callers.proofs.knowing.has_no_difference.Goals as goal
 
 pub returns : goal.returns

@@ -1,7 +1,7 @@
 use Rattle.std.proofs.Common.{nat_eq, sym, ◌∙◌}
 use Rattle.std.proofs.lemmas.Bool.{OnTrue_from}
-use Rattle.micromap.proofs.laws.Equalities.{lawful_nat}
-use Rattle.micromap.proofs.laws.Laws.{equal_items_from_one_side}
+use Rattle.micromap.proofs.Laws.Equalities.{lawful_nat}
+use Rattle.micromap.proofs.Laws.ComparisonLaws.{equal_items_from_one_side}
 use Rattle.micromap_callers.proofs.knowing.have_same_items.Goals as goal
 
 pub returns-then-len : goal.returns-then-len

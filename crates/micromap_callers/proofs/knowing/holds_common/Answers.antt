@@ -1,8 +1,8 @@
 use Rattle.std.proofs.Common.{◌≤◌, nat_eq, nat_le, arith}
 use Rattle.std.proofs.lemmas.Bool.{OnTrue_from}
 use Rattle.std.proofs.lemmas.Bool.Decides.{nat_tests}
-use Rattle.micromap.proofs.laws.Equalities.{lawful_nat}
-use Rattle.micromap.proofs.laws.Laws.{few_have_equals}
+use Rattle.micromap.proofs.Laws.Equalities.{lawful_nat}
+use Rattle.micromap.proofs.Laws.ComparisonLaws.{few_have_equals}
 use Rattle.micromap_callers.proofs.knowing.holds_common.Goals as goal
 
 pub returns : goal.returns

@@ -1,6 +1,6 @@
 use Rattle.std.proofs.Common.{◌≡◌, nat_eq, true, rules, arith, subst, sym, ◌∙◌}
 use Rattle.std.specs.Set.{is_member}
-use Rattle.micromap.proofs.laws.SetLaws.{length_put_item}
+use Rattle.micromap.proofs.Laws.SetLaws.{length_put_item}
 use Rattle.micromap_uses.proofs.AffectedLemmas.{all_met, depends_put, next_depends}
 use Rattle.micromap_uses.proofs.OrderLemmas.{fewer, room, targets_put}
 use Rattle.micromap_uses.proofs.order.affected.Goals as goal

@@ -1,6 +1,6 @@
 use Rattle.std.proofs.Common.{◌≡◌, ◌++◌, [], ◌∷◌, nat_eq, true, rules, arith, subst, sym, ◌∙◌}
 use Rattle.std.specs.Set.{is_member}
-use Rattle.micromap.proofs.laws.SetLaws.{length_put_item, put_item_new}
+use Rattle.micromap.proofs.Laws.SetLaws.{length_put_item, put_item_new}
 use Rattle.micromap_uses.specs.Order.{IsOrdered}
 use Rattle.micromap_uses.proofs.OrderLemmas.{fewer, is_ready-has, next_is_ready, none_is_next, room, targets_put, IsOrdered-append}
 use Rattle.micromap_uses.proofs.order.order_of.Goals as goal

@@ -1,6 +1,6 @@
 use Rattle.std.proofs.Common.{sym, ap, string_bytes, arith, rules}
 use Rattle.serde_json.specs.View.{members_view}
-use Rattle.micromap_core.proofs.laws.TextViews.{length_texts, texts_empty}
+use Rattle.micromap_core.proofs.Laws.TextLaws.{length_texts, texts_empty}
 use Rattle.micromap.specs.Json.{whole_members}
 use Rattle.micromap.proofs.JsonReading.{member_past, member_put, members_built, not_read, read_beyond, read_whole}
 use Rattle.micromap.proofs.json.read.map_of_members.Goals as goal

@@ -3,7 +3,7 @@ use Rattle.std.proofs.lemmas.List.{nil_from_length}
 use Rattle.serde_json.specs.View.{items_view}
 use Rattle.micromap.specs.Json.{all_texts}
 use Rattle.micromap.proofs.JsonReading.{not_read, read_beyond, read_whole, text_past, text_put}
-use Rattle.micromap.proofs.laws.SetTextViews.{item_texts_empty, length_item_texts}
+use Rattle.micromap.proofs.Laws.SetTextLaws.{item_texts_empty, length_item_texts}
 use Rattle.micromap.proofs.json.read.set_of_elements.Goals as goal
 
 pub loop-element-init : goal.loop-element-init

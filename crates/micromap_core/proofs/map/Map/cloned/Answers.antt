@@ -1,4 +1,4 @@
-use Rattle.std.proofs.Common.{IsTrue, ap, ◌∙◌, arith, rules, take_all}
+use Rattle.std.proofs.Common.{IsTrue, ap, ◌∙◌, arith, take_all}
 use Rattle.std.proofs.lemmas.List.Elements.{same_from_all_zip}
 use Rattle.micromap_core.proofs.CloneLemmas.{all_at, clones_all, clones_more, from_equal, length_clones, unique_clones, IsEqualClone}
 use Rattle.micromap_core.proofs.Sizes.{columns_fit}

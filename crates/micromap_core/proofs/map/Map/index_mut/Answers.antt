@@ -1,5 +1,5 @@
 use Rattle.std.proofs.Common.{refl, sym}
-use Rattle.micromap_core.proofs.laws.MapLaws.{put_stored}
+use Rattle.micromap_core.proofs.Laws.MapLaws.{put_stored}
 use Rattle.micromap_core.proofs.map.Map.index_mut.Goals as goal
 
 -- a write at the key that is stored puts

@@ -1,5 +1,5 @@
 use Rattle.std.proofs.Common.{rules, ◌≤◌, length, ap, subst, ◌∙◌}
-use Rattle.micromap_core.proofs.laws.Equalities.{lawful}
+use Rattle.micromap_core.proofs.Laws.Equalities.{lawful}
 use Rattle.micromap_core.proofs.map.Map.len.Goals as goal
 
 pub returns : goal.returns

@@ -1,6 +1,6 @@
 use Rattle.std.proofs.Common.{rules}
-use Rattle.micromap_core.proofs.laws.Equalities.{lawful}
-use Rattle.micromap_core.proofs.laws.MapLaws.{unique_empty}
+use Rattle.micromap_core.proofs.Laws.Equalities.{lawful}
+use Rattle.micromap_core.proofs.Laws.MapLaws.{unique_empty}
 use Rattle.micromap_core.proofs.map.Map.new.Goals as goal
 
 pub invariant_of-result : goal.invariant_of-result

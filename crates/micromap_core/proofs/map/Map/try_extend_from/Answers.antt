@@ -4,7 +4,7 @@ use Rattle.std.proofs.lemmas.Bool.{false≢true}
 use Rattle.micromap_core.specs.Build.{pair_fits, put_all, put_pair, MisfitIn}
 use Rattle.micromap_core.specs.Pairs.{IsContent}
 use Rattle.micromap_core.proofs.BuildLemmas.{fits_checked, many_left, pairs_keyed}
-use Rattle.micromap_core.proofs.laws.Equalities.{of_lawful}
+use Rattle.micromap_core.proofs.Laws.Equalities.{of_lawful}
 use Rattle.micromap_core.proofs.PutLemmas.{put_counted, put_ends, put_goes_on, put_starts, put_stops}
 use Rattle.micromap_core.proofs.map.Map.try_extend_from.Goals as goal
 

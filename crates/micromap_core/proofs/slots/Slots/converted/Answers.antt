@@ -1,4 +1,4 @@
-use Rattle.std.proofs.Common.{◌≡◌, ◌-◌, ◌≤◌, length, ap, sym, subst, ◌∙◌, arith, rules, take_all}
+use Rattle.std.proofs.Common.{◌≡◌, ◌-◌, ◌≤◌, length, ap, subst, ◌∙◌, arith, rules, take_all}
 use Rattle.std.specs.List.{AllZip}
 use Rattle.arrayvec.specs.Iter.{drain_items}
 use Rattle.micromap_walk.specs.Filled.{items_of}

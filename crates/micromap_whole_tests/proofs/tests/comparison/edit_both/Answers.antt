@@ -1,7 +1,7 @@
 use Rattle.std.proofs.Common.{[], ◌∷◌, sym, ◌∙◌}
 use Rattle.std.specs.Cmp.{booleans_Decides}
 use Rattle.std.proofs.lemmas.Bool.{not-false}
-use Rattle.micromap.proofs.laws.ComparisonLaws.{fair_where_fits}
+use Rattle.micromap.proofs.Laws.ComparisonLaws.{fair_where_fits}
 use Rattle.micromap.specs.Calls.{insert, remove}
 use Rattle.micromap.specs.Same.{is_same}
 use Rattle.micromap_whole_tests.proofs.tests.comparison.edit_both.Goals as goal

@@ -1,6 +1,6 @@
 use Rattle.std.proofs.Common.{◌≡◌, true, [], get_or, ap, subst, sym, ◌∙◌, rules, take_all}
 use Rattle.micromap_core.proofs.BuildLemmas.{put_at, array_fits, array_fits_at, bounded-built, distinct-built}
-use Rattle.micromap_core.proofs.laws.Equalities.{lawful}
+use Rattle.micromap_core.proofs.Laws.Equalities.{lawful}
 use Rattle.micromap.specs.Extend.{distinct}
 use Rattle.micromap.specs.Items.{put_item, item_fits, IsItems}
 use Rattle.micromap.proofs.ExtendLemmas.{items_keyed}

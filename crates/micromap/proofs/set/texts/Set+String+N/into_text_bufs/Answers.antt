@@ -1,6 +1,6 @@
 use Rattle.std.proofs.Common.{refl, ap, ◌∙◌, string_bytes}
 use Rattle.std.specs.Map.{keys_of}
-use Rattle.micromap_core.proofs.laws.TextViews.{keys_texts}
+use Rattle.micromap_core.proofs.Laws.TextLaws.{keys_texts}
 use Rattle.micromap.specs.Texts.{item_texts}
 use Rattle.micromap.proofs.ItemLemmas.{content_items}
 use Rattle.micromap.proofs.set.texts.Set+String+N.into_text_bufs.Goals as goal

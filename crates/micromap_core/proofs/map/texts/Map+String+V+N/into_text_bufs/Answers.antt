@@ -1,8 +1,7 @@
-use Rattle.std.proofs.Common.{◌∙◌, ap, subst, string_bytes, bytes_eq}
-use Rattle.micromap_core.specs.Pairs.{IsUnique}
+use Rattle.std.proofs.Common.{◌∙◌, ap, string_bytes}
 use Rattle.micromap_core.specs.Texts.{key_texts}
 use Rattle.micromap_core.proofs.ConvertedLemmas.{into_texts}
-use Rattle.micromap_core.proofs.laws.TextViews.{unique_texts}
+use Rattle.micromap_core.proofs.Laws.TextLaws.{unique_texts}
 use Rattle.micromap_core.proofs.map.texts.Map+String+V+N.into_text_bufs.Goals as goal
 
 pub invariant_of-texts : goal.invariant_of-texts

@@ -1,5 +1,4 @@
-use Rattle.std.proofs.Common.{◌∙◌, subst, string_bytes, bytes_eq}
-use Rattle.micromap_core.specs.Pairs.{IsUnique}
+use Rattle.std.proofs.Common.{◌∙◌, string_bytes}
 use Rattle.micromap_core.proofs.ConvertedLemmas.{from_texts, unique_from_texts}
 use Rattle.micromap_core.proofs.map.texts.Map+TextBuf+V+N.into_strings.Goals as goal
 

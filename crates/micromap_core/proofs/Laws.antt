@@ -1,12 +1,7 @@
-pub mod ClosureLaws
 pub mod ComparisonLaws
 pub mod CountLaws
 pub mod Equalities
-pub mod Laws
 pub mod LoopLaws
 pub mod MapLaws
-pub mod MergeLaws
 pub mod ProbedLaws
-pub mod SumLaws
-pub mod TextLemmas
-pub mod TextViews
+pub mod TextLaws

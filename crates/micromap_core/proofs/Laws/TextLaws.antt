@@ -1,29 +1,69 @@
 -- For callers: what each change of a map with texts as keys does to the list that has the keys' bytes. The laws hold for
 -- `String` and for `&str`, and for any way `read` of seeing a value: `key_texts` and `key_strs` see values as they are,
--- `texts` and `strs` by their bytes.
-use Rattle.std.proofs.Common.{◌≡◌, ℕ, Bool, true, IsTrue, List, [], ◌∷◌, ◌++◌, Bor, codes, drop, length, slice_get}
-use Rattle.std.proofs.Common.{String, Option, Some, is_some, refl, ap, sym, subst, ◌∙◌, string_bytes, arith, bytes_eq}
-use Rattle.std.proofs.Common.{string_eq}
+-- `texts` and `strs` by their bytes. `ComparesBy see eq` says that `eq x y ≡ bytes_eq (see x) (see y)` for all `x` and `y`.
+use Rattle.std.proofs.Common.{◌≡◌, ℕ, true, List, [], ◌∷◌, Option, Some, None, is_some, codes, refl, Bool, IsTrue}
+use Rattle.std.proofs.Common.{◌++◌, Bor, drop, length, slice_get, String, ap, sym, subst, ◌∙◌, string_bytes, arith}
+use Rattle.std.proofs.Common.{bytes_eq, string_eq}
+use Rattle.std.specs.Fmt.{◌++?◌, debug_items, comma_space}
 use Rattle.std.specs.List.{AllZip, IsDistinct}
 use Rattle.std.specs.Map.{keys_of, lookup, lookup_entry, remove_entry, set_value, values_of}
 use Rattle.std.specs.Option.{option_eq, option_map}
 use Rattle.std.specs.Ordering.{on}
+use Rattle.std.proofs.lemmas.Bool.{false≢true}
 use Rattle.std.proofs.lemmas.List.{drop-map, length-map, map-append}
 use Rattle.std.proofs.lemmas.Simd.{map-map}
 use Rattle.std.proofs.lemmas.Slice.Eq.{bytes_eq-Decides}
-use Rattle.std.specs.Fmt.{◌++?◌}
 use Rattle.micromap_core.specs.Build.{put_all}
 use Rattle.micromap_core.specs.Pairs.{at, has, pair, put, take_out, IsUnique}
-use Rattle.micromap_core.specs.Print.{map_text, pair_text}
+use Rattle.micromap_core.specs.Print.{set_text, pair_text, map_text}
 use Rattle.micromap_core.specs.Probe.{is_str, is_text}
 use Rattle.micromap_core.specs.Same.{first_difference, first_missing, first_unequal, is_same, same_at}
 use Rattle.micromap_core.specs.Texts.{items_by, key_strs, key_texts, str_eq, texts, texts_by}
-use Rattle.micromap_core.proofs.laws.Equalities.{probes_by}
 use Rattle.micromap_core.proofs.MapLemmas.{by_test, lookup-entry}
-use Rattle.micromap_core.proofs.laws.MapLaws.{pair_key}
-use Rattle.micromap_core.proofs.laws.ProbedLaws.{matched_test}
-use Rattle.micromap_core.proofs.laws.TextLemmas.{map_text_known}
 use Rattle.micromap_core.proofs.Views.{clones-map, distinct-map, equal_items-map, front-map, printed-map}
+use Rattle.micromap_core.proofs.Laws.Equalities.{probes_by}
+use Rattle.micromap_core.proofs.Laws.MapLaws.{pair_key}
+use Rattle.micromap_core.proofs.Laws.ProbedLaws.{matched_test}
+
+both_known : (a b : Option (List ℕ)) → is_some a ≡ true → is_some b ≡ true
+    → is_some (a ++? b) ≡ true
+both_known None b known also = absurd (false≢true known)
+both_known (Some a) None known also = absurd (false≢true also)
+both_known (Some a) (Some b) known also = refl
+
+module _ {X : Type 0} (text : X → Option (List ℕ)) (known : (x : X) → is_some (text x) ≡ true) where
+  items_known : (lead : List ℕ) (items : List X) → is_some (debug_items text lead items) ≡ true
+  items_known lead [] = refl
+  items_known lead (x ∷ items) =
+      both_known (Some lead) _ refl
+      (both_known (text x) _ (known x) (items_known comma_space items))
+
+  pub set_text_known : (items : List X) → is_some (set_text text items) ≡ true
+  set_text_known items = both_known (Some (codes "{")) _ refl
+      (both_known _ (Some (codes "}")) (items_known [] items) refl)
+
+-- by the word alone, for a search
+pub each_set_text : {X : Type 0} (text : X → Option (List ℕ)) (items : List X)
+    → (set_text text items ≡ set_text text items)
+    × (((x : X) → is_some (text x) ≡ true) → is_some (set_text text items) ≡ true)
+each_set_text text items = (refl, λ known. set_text_known text known items)
+
+module _ {K V : Type 0} (key_text : K → Option (List ℕ)) (value_text : V → Option (List ℕ))
+    (keys : (k : K) → is_some (key_text k) ≡ true)
+    (values : (v : V) → is_some (value_text v) ≡ true) where
+  pub map_text_known : (pairs : List (K × V)) → is_some (map_text key_text value_text pairs) ≡ true
+  map_text_known = set_text_known (pair_text key_text value_text)
+      (λ p. both_known (key_text p.0) _ (keys p.0)
+      (both_known (Some (codes ": ")) _ refl (values p.1)))
+
+-- by the word alone, for a search
+pub each_map_text : {K V : Type 0} (key_text : K → Option (List ℕ))
+    (value_text : V → Option (List ℕ)) (pairs : List (K × V))
+    → (map_text key_text value_text pairs ≡ map_text key_text value_text pairs)
+    × (((k : K) → is_some (key_text k) ≡ true) → ((v : V) → is_some (value_text v) ≡ true)
+    → is_some (map_text key_text value_text pairs) ≡ true)
+each_map_text key_text value_text pairs =
+    (refl, λ keys values. map_text_known key_text value_text keys values pairs)
 
 -- eq compares keys by the bytes that `see` shows, as `string_eq` does by `string_bytes`
 abbrev pub ComparesBy : {K : Type 0} → (K → List ℕ) → (K → K → Bool) → Type 0
@@ -339,7 +379,9 @@ module _ {K V W : Type 0} (see : K → List ℕ) (read : V → W) (value_text : 
     λ known. map_text_known (λ k. Some (see k)) (λ v. value_text (read v)) (λ k. refl) known pairs,
   )
 
-pub ruleset text_views = (
+pub ruleset text_laws = (
+  each_set_text,
+  each_map_text,
   texts_empty,
   at_key_texts,
   at_texts,

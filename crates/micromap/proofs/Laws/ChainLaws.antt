@@ -1,18 +1,30 @@
--- For callers: what a look-up or a search says of another. The pair of a key and its value, equal keys, the first pair or
--- item that passes a test, and a test that all values or items pass. The ruleset `found_laws` is a part of
--- `maps` of `Rules`, and `found_items` one of `sets`.
-use Rattle.std.proofs.Common.{◌≡◌, ℕ, nat_eq, Bool, true, false, not, List, [], ◌∷◌, Option, Some, None, is_some, refl, ap, sym, ◌∙◌, arith, option_map}
-use Rattle.std.specs.List.{find, list_all, list_any, position_or_len}
-use Rattle.std.specs.Map.{lookup, lookup_entry, values_of}
-use Rattle.std.specs.Set.{is_member}
+-- For callers: chains of iterators. What `find` finds in a map or a set, the first value or item that passes a test, and
+-- a test that all values or items pass; and what a map or a set is once it is built by a chain. Unequal keys or items are
+-- built as they are, and those that pass a test are unequal too. What is made of all items of a chain is built of them,
+-- or there is none, exactly if they have too many distinct keys. The ruleset `caller` of `Rules` has those that a search
+-- needs.
+use Rattle.std.proofs.Common.{◌≡◌, ℕ, nat_eq, Bool, true, false, not, List, [], ◌∷◌, Option, Some, None, is_some}
+use Rattle.std.proofs.Common.{refl, ap, sym, ◌∙◌, arith, option_map, if◌then◌else◌, map-id, nat_le}
+use Rattle.std.specs.List.{find, list_all, list_any, position_or_len, IsDistinct}
+use Rattle.std.specs.Map.{lookup, lookup_entry, values_of, keys_of}
+use Rattle.std.specs.Set.{is_member, distinct_count}
 use Rattle.std.proofs.lemmas.Bool.Decides.{nat_tests}
 use Rattle.std.proofs.lemmas.List.Folds.{find_at}
 use Rattle.std.proofs.lemmas.Map.Entries.{lookup_from_place}
+use Rattle.std.proofs.lemmas.Map.Made.{IsDistinct-keys_filter}
+use Rattle.micromap_core.specs.Build.{build, build_or_refuse, counts, counts_or_refuse}
 use Rattle.micromap_core.specs.Equalities.{Lawful}
 use Rattle.micromap_core.specs.Pairs.{at, has, IsUnique}
-use Rattle.micromap_core.proofs.laws.Equalities.{equalities, of_lawful}
-use Rattle.micromap_core.proofs.laws.MapLaws.{at_alike}
+use Rattle.micromap_core.proofs.BuildLemmas.{pairs_keyed, whole_counted}
+use Rattle.micromap_core.proofs.DistinctLemmas.{IsDistinct-filter}
 use Rattle.micromap_core.proofs.MapLemmas.{lookup-entry}
+use Rattle.micromap_core.proofs.Laws.CountLaws.{counts_keyed}
+use Rattle.micromap_core.proofs.Laws.Equalities.{equalities, of_lawful}
+use Rattle.micromap_core.proofs.Laws.LoopLaws.{build_unique}
+use Rattle.micromap_core.proofs.Laws.MapLaws.{at_alike}
+use Rattle.micromap.specs.Extend.{distinct, distinct_or_refuse}
+use Rattle.micromap.proofs.AddedItems.{added_all}
+use Rattle.micromap.proofs.ExtendLemmas.{items_keyed}
 
 module _ {K V : Type 0} where
   -- a key has a value exactly if it has a pair, and it is the pair's
@@ -144,7 +156,35 @@ all_members eq test (y ∷ items) laws each =
     let rest = all_members eq test items laws (λ x member. each x (grind (arith, member))) in
     grind (arith, each y here, rest)
 
-pub ruleset found_laws = (
+-- a set that is built of unequal items has these items
+pub distinct_unique : {T : Type 0} (eq : T → T → Bool) (items : List T) → Lawful eq
+    → IsDistinct eq items → distinct eq items ≡ items
+distinct_unique eq items laws unique = added_all (of_lawful eq laws) items unique
+
+-- what a map or a set is that is made of all items: these put, or none if they have too many distinct keys
+module _ {K V : Type 0} (eq : K → K → Bool) (N : ℕ) (items : List (K × V)) where
+  pub build_or_refuse_is : Lawful eq
+      → build_or_refuse eq N items
+      ≡ (if nat_le (distinct_count eq (keys_of items)) N then Some (build eq items) else None)
+  unfolding build_or_refuse
+  build_or_refuse_is laws = whole_counted (of_lawful eq laws) (pairs_keyed eq N) items
+
+-- what a counter is that all items came to, or none if too many of them are distinct
+pub counts_or_refuse_is : {K : Type 0} (eq : K → K → Bool) (N : ℕ) (items : List K) → Lawful eq
+    → counts_or_refuse eq N items
+    ≡ (if nat_le (distinct_count eq items) N then Some (counts eq items) else None)
+unfolding counts_or_refuse counts
+counts_or_refuse_is eq N items laws = whole_counted (of_lawful eq laws) (counts_keyed eq N) items
+    ∙ ap (λ n. if nat_le n N then Some (counts eq items) else None) (ap (distinct_count eq) (map-id items))
+
+module _ {T : Type 0} (eq : T → T → Bool) (N : ℕ) (items : List T) where
+  pub distinct_or_refuse_is : Lawful eq
+      → distinct_or_refuse eq N items
+      ≡ (if nat_le (distinct_count eq items) N then Some (distinct eq items) else None)
+  unfolding distinct_or_refuse
+  distinct_or_refuse_is laws = whole_counted (of_lawful eq laws) (items_keyed eq N) items
+
+pub ruleset chain_laws = (
   each_pair,
   at_alike,
   has_alike,
@@ -155,15 +195,16 @@ pub ruleset found_laws = (
   all_values,
   nat_tests,
   equalities,
-)
-
-pub ruleset found_items = (
-  find_passes,
   member_alike,
   member_find,
   no_member,
   each_member,
   all_members,
-  nat_tests,
-  equalities,
+  distinct_unique,
+  build_unique,
+  build_or_refuse_is,
+  counts_or_refuse_is,
+  distinct_or_refuse_is,
+  IsDistinct-filter,
+  IsDistinct-keys_filter,
 )

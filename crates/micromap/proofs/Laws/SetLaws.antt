@@ -1,7 +1,7 @@
 -- For callers: what each change of a set does to each way of reading it. `MapLaws` has the same for a map. The name of
 -- a law has the reader first and then the change. The readers are a test of the items (`any`, whether an item passes,
 -- and `find`, the first that does), a given item (`is_member`, `find_item`, `fits`), the number of items (`length`),
--- and that they are pairwise unequal (`unique`). The rulesets `sets` and `caller` of `Rules` have those that a search needs.
+-- and that they are pairwise unequal (`unique`). The ruleset `caller` of `Rules` has those that a search needs.
 use Rattle.std.proofs.Common.{◌≡◌, ℕ, ◌+◌, ◌≤◌, ◌||◌, ◌&&◌, not, Bool, true, false, List, [], ◌∷◌, ◌++◌, filter, length}
 use Rattle.std.proofs.Common.{Some, None, is_some, if◌then◌else◌, refl, ap, sym, subst, ◌∙◌, arith, option_map}
 use Rattle.std.proofs.Common.{unwrap_or}
@@ -12,14 +12,13 @@ use Rattle.std.proofs.lemmas.Bool.Decides.{nat_tests}
 use Rattle.std.proofs.lemmas.Map.Entries.{length-keys_of}
 use Rattle.micromap_core.specs.Equalities.{Lawful, Probes}
 use Rattle.micromap_core.specs.Pairs.{put, put_key, take_out, IsUnique}
-use Rattle.micromap_core.proofs.laws.Equalities.{equalities, of_lawful, probes_key}
-use Rattle.micromap_core.proofs.laws.TextLemmas.{each_set_text}
+use Rattle.micromap_core.proofs.Laws.Equalities.{equalities, of_lawful, probes_key}
 use Rattle.std.proofs.option.Match.{None-if_not_some}
-use Rattle.micromap_core.proofs.laws.MapLaws.{lookup_put, lookup_put_key, lookup_take_out, pair_put, pair_put_key}
-use Rattle.micromap_core.proofs.laws.MapLaws.{pair_take_out, length_put, length_put_key, length_take_out, unique_put}
-use Rattle.micromap_core.proofs.laws.MapLaws.{unique_put_key, unique_take_out, take_out_missing, keys_take_out}
-use Rattle.micromap_core.proofs.laws.MapLaws.{has_behind}
-use Rattle.micromap_core.proofs.laws.ProbedLaws.{keys_remove_entry}
+use Rattle.micromap_core.proofs.Laws.MapLaws.{lookup_put, lookup_put_key, lookup_take_out, pair_put, pair_put_key}
+use Rattle.micromap_core.proofs.Laws.MapLaws.{pair_take_out, length_put, length_put_key, length_take_out, unique_put}
+use Rattle.micromap_core.proofs.Laws.MapLaws.{unique_put_key, unique_take_out, take_out_missing, take_out_put, keys_take_out}
+use Rattle.micromap_core.proofs.Laws.MapLaws.{has_behind}
+use Rattle.micromap_core.proofs.Laws.ProbedLaws.{keys_remove_entry}
 use Rattle.micromap.specs.ItemEntries.{entries_of}
 use Rattle.micromap.specs.Extend.{put_all_items}
 use Rattle.micromap.specs.Items.{put_item, replace_item, find_item, item_fits, take_item}
@@ -209,6 +208,14 @@ module _ {T : Type 0} (eq : T → T → Bool) (items : List T) (x : T) where
       ∙ ap keys_of (take_out_missing eq (entries_of items) x
       (None-if_not_some _ (sym (any-entries (eq x) items) ∙ missing))) ∙ keys_of-entries items
 
+  -- a new item that is put and removed again leaves the list as it was
+  pub take_item_put_item : Lawful eq → is_member eq items x ≡ false → take_item eq (put_item eq items x) x ≡ items
+  take_item_put_item laws missing =
+      ap (λ l. take_item eq l x) (entries-put_item eq items x)
+      ∙ take_item-keys eq (put eq (entries_of items) x tt) x
+      ∙ ap keys_of (take_out_put eq (entries_of items) x tt laws
+      (None-if_not_some _ (sym (any-entries (eq x) items) ∙ missing))) ∙ keys_of-entries items
+
 -- at an item of one's own
 module _ {T : Type 0} (eq : T → T → Bool) (items : List T) (x y : T) where
   pub is_member_put_item : Lawful eq
@@ -374,6 +381,7 @@ pub ruleset set_laws = (
   unique_take_item,
   put_item_back,
   take_item_missing,
+  take_item_put_item,
   remove_key_missing,
   length_remove_key,
   items_remove_key,
@@ -386,6 +394,5 @@ pub ruleset set_laws = (
   each_difference,
   each_intersection,
   is_member_walked,
-  each_set_text,
   equalities,
 )

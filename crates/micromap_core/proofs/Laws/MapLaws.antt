@@ -1,39 +1,36 @@
 -- For callers: what each change of a map does to each way of reading it. The name of a law has the reader first and
 -- then the change, as `lookup_put` and `length_take_out`. The readers are look-ups by a test (`lookup` of the value,
 -- `pair` of the pair), look-ups by a key (`at`, `has`, `fits`), the number of pairs (`length`), and that keys are
--- pairwise unequal (`unique`). `ProbedLaws` has the changes by probe. The rulesets `maps` and `caller` of `Rules`
--- have those that a search needs.
+-- pairwise unequal (`unique`). `ProbedLaws` has the changes by probe. The ruleset `caller` of `Rules` has those that a
+-- search needs.
 use Rattle.std.proofs.Common.{◌≡◌, ℕ, ◌+◌, ◌||◌, Bool, true, not, List, [], ◌∷◌, ◌++◌, filter, length, reverse, Some}
-use Rattle.std.proofs.Common.{None, is_some, get_or, if◌then◌else◌, refl, ap, sym, subst, ◌∙◌, inl, inr, arith, ◌≤◌, false}
-use Rattle.std.specs.List.{fold, list_all, IsDistinct}
+use Rattle.std.proofs.Common.{None, is_some, if◌then◌else◌, refl, ap, sym, subst, ◌∙◌, inl, inr, arith, ◌≤◌}
+use Rattle.std.proofs.Common.{false}
+use Rattle.std.specs.List.{fold, IsDistinct}
 use Rattle.std.specs.Map.{keys_of, lookup, lookup_entry, remove_entry, set_value}
-use Rattle.std.specs.Option.{option_eq, option_map, option_map_or, option_or, unwrap_or}
+use Rattle.std.specs.Option.{option_map, option_map_or, option_or, unwrap_or}
 use Rattle.std.specs.Set.{distinct_count}
 use Rattle.std.proofs.lemmas.List.{reverse-append, length-append}
-use Rattle.std.proofs.lemmas.List.Sums.{list_all-from_AllPass}
-use Rattle.std.proofs.lemmas.Map.Entries.{length-keys_of, lookup_from_place, option_filter, none_past_head}
+use Rattle.std.proofs.lemmas.Map.Entries.{length-keys_of, option_filter, none_past_head}
 use Rattle.std.proofs.lemmas.Map.{length-set_value, lookup-none}
-use Rattle.std.proofs.lemmas.Map.Made.{IsDistinct-keys_filter, All-is_member, is_some-lookup}
+use Rattle.std.proofs.lemmas.Map.Made.{IsDistinct-keys_filter, is_some-lookup}
 use Rattle.std.proofs.lemmas.Bool.{cases_Bool}
 use Rattle.std.proofs.lemmas.Bool.Decides.{nat_tests}
 use Rattle.std.proofs.lemmas.Map.Steps.{set_value_same}
-use Rattle.std.proofs.lemmas.Option.{slice_get-get_or}
 use Rattle.micromap_core.specs.Build.{build, put_all, put_pair}
 use Rattle.micromap_core.specs.Equalities.{Lawful, Probes}
 use Rattle.micromap_core.specs.Pairs.{at, pair, has, put, put_key, take_out, IsUnique, fits}
-use Rattle.micromap_core.specs.Same.{has_value}
-use Rattle.micromap_core.proofs.laws.Equalities.{equalities, of_lawful, of_probes, probes_key, same_test}
+use Rattle.micromap_core.proofs.Laws.Equalities.{equalities, of_lawful, of_probes, probes_key, same_test}
 use Rattle.micromap_core.proofs.DistinctLemmas.{IsDistinct-filter}
 use Rattle.micromap_core.proofs.BuildLemmas.{IsDistinct-nil, distinct-built, length-built, pairs_keyed}
 use Rattle.micromap_core.proofs.MapLemmas.{lookup-entry, push-put, push-put_key, slice_set-put_key, IsUnique-push}
-use Rattle.micromap_core.proofs.MapLemmas.{IsUnique-set, IsUnique-set_key, keys_of-put_new}
-use Rattle.micromap_core.proofs.MapLemmas.{keys_of-put_stored, entry_push, entry_set, entry_set_key, none_apart}
-use Rattle.micromap_core.proofs.MapLemmas.{lookup-append, entry_new, length-remove_entry, length-set_key, keys_removed}
-use Rattle.micromap_core.proofs.MapLemmas.{by_test, lookup-set, no_value, set_put, lookup-reverse}
-use Rattle.micromap_core.proofs.laws.ProbedLaws.{keys_remove_entry, lookup_remove_entry, lookup_remove_text}
-use Rattle.micromap_core.proofs.laws.ProbedLaws.{remove_entry_missing, remove_entry_set_value, set_value_missing}
-use Rattle.micromap_core.proofs.laws.ProbedLaws.{unique_remove_entry, unique_set_value}
-use Rattle.micromap_core.proofs.laws.TextLemmas.{each_map_text}
+use Rattle.micromap_core.proofs.MapLemmas.{IsUnique-set, IsUnique-set_key, keys_of-put_new, keys_of-put_stored}
+use Rattle.micromap_core.proofs.MapLemmas.{entry_push, entry_set, entry_set_key, none_apart, lookup-append, entry_new}
+use Rattle.micromap_core.proofs.MapLemmas.{length-remove_entry, length-set_key, keys_removed, by_test, lookup-set}
+use Rattle.micromap_core.proofs.MapLemmas.{no_value, set_put, lookup-reverse}
+use Rattle.micromap_core.proofs.Laws.ProbedLaws.{keys_remove_entry, lookup_remove_entry, lookup_remove_text}
+use Rattle.micromap_core.proofs.Laws.ProbedLaws.{remove_entry_missing, remove_entry_push, remove_entry_set_value}
+use Rattle.micromap_core.proofs.Laws.ProbedLaws.{set_value_missing, unique_remove_entry, unique_set_value}
 
 -- by a test: the pair that is found, and its value
 module _ {K V : Type 0} (eq : K → K → Bool) (test : K → Bool) where
@@ -351,6 +348,14 @@ module _ {K V : Type 0} (eq : K → K → Bool) where
   unfolding take_out
   take_out_missing pairs k none = (no_value (eq k) pairs none).taken
 
+  -- what is put at a new key and removed again leaves the list as it was
+  pub take_out_put : (pairs : List (K × V)) (k : K) (v : V) → Lawful eq → at eq pairs k ≡ None
+      → take_out eq (put eq pairs k v) k ≡ pairs
+  unfolding take_out
+  take_out_put pairs k v laws none =
+      ap (remove_entry (eq k)) (put_new eq pairs k v (ap is_some none))
+      ∙ remove_entry_push (eq k) pairs (k, v) none ((of_lawful eq laws).refl k)
+
   -- a key that doesn't fit is missing, and there is no room
   pub not_fits : (N : ℕ) (pairs : List (K × V)) (k : K) → fits eq N pairs k ≡ false
       → (has eq pairs k ≡ false) × (N ≤ length pairs)
@@ -381,26 +386,6 @@ module _ {K V : Type 0} (eq : K → K → Bool) where
   take_out_first p behind laws =
       ap (λ b. if b then behind else p ∷ remove_entry (eq p.0) behind)
       ((of_lawful eq laws).refl p.0)
-
--- each pair that a loop over a map comes to is what its key finds: so of what is left at the start, which is all
-module _ {K V : Type 0} (eq : K → K → Bool) where
-  pub at_walked : (same : V → V → Bool) (pairs left : List (K × V)) → left ≡ pairs → Lawful eq
-      → Lawful same → IsUnique eq pairs → list_all (has_value eq same pairs) left ≡ true
-  at_walked same pairs left all laws values unique =
-      ap (list_all (has_value eq same pairs)) all
-      ∙ list_all-from_AllPass (has_value eq same pairs) pairs (λ i d within.
-      let p = get_or pairs i d in
-      ap (λ o. option_eq same o (Some p.1))
-      (lookup_from_place (of_lawful eq laws) pairs i p.0 p.1 unique
-      (slice_get-get_or pairs i d within)) ∙ (of_lawful same values).refl p.1)
-
-  pub has_walked : (pairs : List (K × V)) (left : List K) → left ≡ keys_of pairs → Lawful eq
-      → list_all (has eq pairs) left ≡ true
-  has_walked pairs left all laws =
-      ap (list_all (has eq pairs)) all
-      ∙ list_all-from_AllPass (has eq pairs) (keys_of pairs)
-      (λ i d within. is_some-lookup (eq (get_or (keys_of pairs) i d)) pairs
-      ∙ All-is_member (of_lawful eq laws) (keys_of pairs) i d within)
 
 -- what each key finds, by the word alone: for a search that doesn't see the equality in what it computes to, nor that a
 -- key of one's own equals itself
@@ -475,6 +460,7 @@ pub ruleset map_laws = (
   put_back,
   put_again,
   take_out_missing,
+  take_out_put,
   set_value_missing,
   remove_entry_missing,
   length-set_value,
@@ -490,8 +476,5 @@ pub ruleset map_laws = (
   each_put_key,
   each_take_out,
   each_put_all,
-  at_walked,
-  has_walked,
-  each_map_text,
   equalities,
 )

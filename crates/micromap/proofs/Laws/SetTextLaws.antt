@@ -1,8 +1,8 @@
 -- For callers: what each change of a set of texts does to the list of the texts' bytes. The laws hold for `String` and for
 -- `&str`.
 use Rattle.std.proofs.Common.{◌≡◌, ℕ, Some, codes, Bool, true, not, IsTrue, IsFalse, List, [], ◌∷◌, ◌++◌, Bor, drop}
-use Rattle.std.proofs.Common.{filter, length, slice_get, String, is_some, refl, ap, sym, subst, ◌∙◌}
-use Rattle.std.proofs.Common.{string_bytes, arith, bytes_eq, option_map, string_eq}
+use Rattle.std.proofs.Common.{filter, length, slice_get, String, is_some, refl, ap, sym, subst, ◌∙◌, string_bytes}
+use Rattle.std.proofs.Common.{arith, bytes_eq, option_map, string_eq}
 use Rattle.std.specs.Fmt.{◌++?◌}
 use Rattle.std.specs.List.{AllZip, IsDistinct, find, items_where_true, list_all, list_any}
 use Rattle.std.specs.List.Retain.{ReturnsInTurn}
@@ -14,18 +14,18 @@ use Rattle.std.proofs.lemmas.Slice.Eq.{bytes_eq-Decides}
 use Rattle.micromap_core.specs.Print.{set_text}
 use Rattle.micromap_core.specs.Same.{have_equal_items}
 use Rattle.micromap_core.specs.Texts.{item_strs, item_texts, items_by, str_eq}
-use Rattle.micromap_core.proofs.laws.ClosureLaws.{retained_items}
-use Rattle.micromap_core.proofs.laws.Equalities.{equalities, lawful_bytes, of_lawful, of_probes, probes_by, same_test}
-use Rattle.micromap_core.proofs.laws.TextLemmas.{set_text_known}
-use Rattle.micromap_core.proofs.laws.TextViews.{compares_by, ComparesBy}
 use Rattle.micromap_core.proofs.Views.{any-map, by_items, clones-map, distinct-map, equal_items-map, filter-map}
 use Rattle.micromap_core.proofs.Views.{find-map, front-map, printed-map, remove_key-map, swap_key-map}
-use Rattle.micromap.proofs.ItemLemmas.{any-find}
-use Rattle.micromap.proofs.OperationLaws.{same_members}
-use Rattle.micromap.proofs.laws.SetLaws.{length_put_item, put_item_back}
+use Rattle.micromap_core.proofs.Laws.LoopLaws.{retained_items}
+use Rattle.micromap_core.proofs.Laws.Equalities.{equalities, lawful_bytes, of_lawful, of_probes, probes_by, same_test}
+use Rattle.micromap_core.proofs.Laws.TextLaws.{set_text_known}
+use Rattle.micromap_core.proofs.Laws.TextLaws.{compares_by, ComparesBy}
 use Rattle.micromap.specs.Extend.{put_all_items}
 use Rattle.micromap.specs.Items.{put_item, replace_item, find_item, take_item}
 use Rattle.micromap.specs.Operations.{difference, intersection, HaveEquals, IsDisjoint}
+use Rattle.micromap.proofs.ItemLemmas.{any-find}
+use Rattle.micromap.proofs.OperationLaws.{same_members}
+use Rattle.micromap.proofs.Laws.SetLaws.{length_put_item, put_item_back}
 
 module _ {T : Type 0} (see : T → List ℕ) where
   pub item_texts_empty : items_by see [] ≡ []
@@ -319,7 +319,7 @@ module _ {T : Type 0} (see : T → List ℕ) where
   extended_item_texts items xs =
       sym (item_texts_put_all (on see bytes_eq) items xs (λ x y. refl))
 
-pub ruleset set_texts = (
+pub ruleset set_text_laws = (
   item_texts_empty,
   item_texts_first,
   is_member_item_texts,

@@ -1,26 +1,213 @@
--- For callers: how many distinct keys a list has with one more, how many keys a map has after a list is put into it,
--- and what a counter has. The ruleset is a part of `lists` of `Rules`.
-use Rattle.std.proofs.Common.{◌≡◌, ℕ, ◌+◌, ◌<◌, ◌≤◌, ◌||◌, Bool, true, false, List, [], ◌∷◌, ◌++◌, length, map, get_or}
-use Rattle.std.proofs.Common.{take, drop, unwrap_or, cond, if◌then◌else◌, refl, ap, sym, subst, ◌∙◌, append_assoc}
-use Rattle.std.proofs.Common.{arith}
+-- For callers: what a map has into which a loop merges values (`merged`): after one item more, at each key, and how many
+-- keys there are; how many distinct keys a list has with one more, how many keys a map has after a list is put into it,
+-- and what a counter has. The ruleset `caller` of `Rules` has those that a search needs.
+use Rattle.std.proofs.Common.{◌≡◌, ℕ, ◌+◌, ◌<◌, ◌≤◌, ◌||◌, Bool, true, false, List, [], ◌∷◌, ◌++◌, filter, length}
+use Rattle.std.proofs.Common.{map, get_or, take, Option, Some, refl, ap, sym, ◌∙◌, arith, unwrap_or, fold, drop, cond}
+use Rattle.std.proofs.Common.{if◌then◌else◌, subst, append_assoc}
 use Rattle.std.specs.List.{count_by, fold, list_any}
-use Rattle.std.specs.Map.{keys_of}
+use Rattle.std.specs.Map.{keys_of, values_of}
 use Rattle.std.specs.Set.{distinct_count, is_member}
 use Rattle.std.proofs.Math.Bool.{or-false}
 use Rattle.std.proofs.lemmas.Grind.{common_steps}
-use Rattle.std.proofs.lemmas.List.{append-nil, length-map, length-take, map-id, take_all, take-append-drop, take-map}
-use Rattle.std.proofs.lemmas.List.Folds.{list_any-append}
-use Rattle.std.proofs.lemmas.List.Sums.{count_by-le-length, fold_more}
+use Rattle.std.proofs.lemmas.List.{map-append, nil_from_length, take_all, append-nil, length-map, length-take, map-id}
+use Rattle.std.proofs.lemmas.List.{take-append-drop, take-map}
+use Rattle.std.proofs.lemmas.List.Folds.{fold-map, list_any-append}
+use Rattle.std.proofs.lemmas.List.Sums.{fold-append, fold_more, fold_push, count_by-le-length}
 use Rattle.std.proofs.lemmas.Map.Entries.{length-keys_of}
 use Rattle.std.proofs.lemmas.Map.Made.{is_some-lookup, length-from_keys}
-use Rattle.micromap_core.specs.Build.{build, put_all, count_one, counts, merged}
+use Rattle.micromap_core.specs.Build.{count_one, counts, merge_pair, merged, build, put_all}
 use Rattle.micromap_core.specs.Equalities.{Lawful}
-use Rattle.micromap_core.specs.Pairs.{at, fits, has, put, IsUnique}
-use Rattle.micromap_core.proofs.BuildLemmas.{fold_beyond, length-built, member-fold, puts_keyed, IsKeyed}
+use Rattle.micromap_core.specs.Pairs.{at, fits, has, IsUnique, put}
+use Rattle.micromap_core.proofs.BuildLemmas.{distinct-fold, fold_beyond, fold_grows, length-fold, member-fold}
+use Rattle.micromap_core.proofs.BuildLemmas.{puts_keyed, IsKeyed, length-built}
 use Rattle.micromap_core.proofs.Lists.{all_read, taken_read}
-use Rattle.micromap_core.proofs.laws.Equalities.{of_lawful}
-use Rattle.micromap_core.proofs.laws.MapLaws.{at_alike, at_put, unique_empty}
-use Rattle.micromap_core.proofs.laws.MergeLaws.{each_merged_take, each_merged_take_map, length_merged, merged_grows}
+use Rattle.micromap_core.proofs.Laws.Equalities.{of_lawful}
+use Rattle.micromap_core.proofs.Laws.MapLaws.{at_alike, at_put, unique_empty}
+
+module _ {K V W : Type 0} (eq : K → K → Bool) (step : Option V → W → V) where
+  -- no item, the first item, two lists of them, and one more
+  pub merged_none : (pairs : List (K × V)) → merged eq step pairs [] ≡ pairs
+  unfolding merged
+  merged_none pairs = refl
+
+  pub merged_first : (pairs : List (K × V)) (item : K × W) (items : List (K × W))
+      → merged eq step pairs (item ∷ items) ≡ merged eq step (merge_pair eq step pairs item) items
+  unfolding merged
+  merged_first pairs item items = refl
+
+  pub merged_append : (pairs : List (K × V)) (items others : List (K × W))
+      → merged eq step pairs (items ++ others) ≡ merged eq step (merged eq step pairs items) others
+  unfolding merged
+  merged_append pairs items others = fold-append (merge_pair eq step) pairs items others
+
+  pub merged_push : (pairs : List (K × V)) (items : List (K × W)) (item : K × W)
+      → merged eq step pairs (items ++ item ∷ [])
+      ≡ merge_pair eq step (merged eq step pairs items) item
+  unfolding merged
+  merged_push pairs items item = fold_push (merge_pair eq step) pairs items item
+
+  pub merged_take : (pairs : List (K × V)) (items : List (K × W)) (i : ℕ) (d : K × W)
+      → i < length items → merged eq step pairs (take (i + 1) items)
+      ≡ merge_pair eq step (merged eq step pairs (take i items)) (get_or items i d)
+  unfolding merged
+  merged_take pairs items i d within = fold_more (merge_pair eq step) pairs items i d within
+
+  merges_keyed : IsKeyed eq 0 (λ pairs item. fits eq 0 pairs item.0) (merge_pair eq step) keys_of
+      (λ item. item.0) [] (λ items. distinct_count eq (keys_of items))
+  merges_keyed = puts_keyed eq 0 (λ item. item.0) (λ pairs item. step (at eq pairs item.0) item.1)
+
+  -- what a key finds: its value, with the items of equal keys
+  pub at_merged : (pairs : List (K × V)) (items : List (K × W)) (q : K) → Lawful eq
+      → at eq (merged eq step pairs items) q ≡ fold (λ o w. Some (step o w)) (at eq pairs q)
+      (values_of (filter (λ item. eq item.0 q) items))
+  unfolding merged
+  at_merged pairs [] q laws = refl
+  at_merged pairs (item ∷ items) q laws =
+      let alike : eq item.0 q ≡ true
+      → at eq pairs item.0 ≡ at eq pairs q = at_alike eq item.0 q pairs laws in
+      grind (
+        arith,
+        at_merged (merge_pair eq step pairs item) items q laws,
+        at_put eq pairs item.0 (step (at eq pairs item.0) item.1) q laws,
+        alike,
+      )
+
+  pub has_merged : (pairs : List (K × V)) (items : List (K × W)) (q : K) → Lawful eq
+      → has eq (merged eq step pairs items) q ≡ (has eq items q || has eq pairs q)
+  unfolding merged
+  has_merged pairs items q laws =
+      grind (
+        arith,
+        member-fold (of_lawful eq laws) merges_keyed pairs items q,
+        is_some-lookup (eq q) (merged eq step pairs items),
+        is_some-lookup (eq q) pairs,
+        is_some-lookup (eq q) items,
+      )
+
+  pub unique_merged : (pairs : List (K × V)) (items : List (K × W)) → Lawful eq → IsUnique eq pairs
+      → IsUnique eq (merged eq step pairs items)
+  unfolding merged
+  unique_merged pairs items laws unique =
+      distinct-fold (of_lawful eq laws) merges_keyed pairs items unique
+
+  -- how many keys there are
+  pub length_merged : (pairs : List (K × V)) (items : List (K × W)) → Lawful eq → IsUnique eq pairs
+      → length (merged eq step pairs items) ≡ distinct_count eq (keys_of pairs ++ keys_of items)
+  unfolding merged
+  length_merged pairs items laws unique = sym (length-keys_of (merged eq step pairs items))
+      ∙ length-fold (of_lawful eq laws) merges_keyed pairs items unique
+
+  -- with more items there are no fewer
+  pub merged_grows : (pairs : List (K × V)) (items : List (K × W)) (i : ℕ) → Lawful eq
+      → IsUnique eq pairs → length (merged eq step pairs (take i items)) ≤ length
+      (merged eq step pairs items)
+  unfolding merged
+  merged_grows pairs items i laws unique =
+      omega (
+        arith,
+        fold_grows (of_lawful eq laws) merges_keyed pairs items i unique,
+        length-keys_of (merged eq step pairs (take i items)),
+        length-keys_of (merged eq step pairs items),
+      )
+
+  -- an item that is merged when its key is new is one more
+  pub merged_beyond : (pairs : List (K × V)) (items : List (K × W)) (i : ℕ) (d : K × W)
+      → i < length items → Lawful eq → IsUnique eq pairs
+      → has eq (merged eq step pairs (take i items)) (get_or items i d).0 ≡ false
+      → length (merged eq step pairs (take i items)) < length (merged eq step pairs items)
+  unfolding merged
+  merged_beyond pairs items i d within laws unique new =
+      let before = merged eq step pairs (take i items) in
+      omega (
+        arith,
+        fold_beyond (of_lawful eq laws) merges_keyed pairs items i d within unique
+            (sym (is_some-lookup (eq (get_or items i d).0) before) ∙ new),
+        length-keys_of before,
+        length-keys_of (merged eq step pairs items),
+      )
+
+  -- items that a function reads
+  module _ {X : Type 0} (read : X → K × W) (pairs : List (K × V)) (items : List X) where
+    pub merged_push_map : (x : X)
+        → merged eq step pairs (map read (items ++ x ∷ []))
+        ≡ merge_pair eq step (merged eq step pairs (map read items)) (read x)
+    merged_push_map x = ap (merged eq step pairs) (map-append read items (x ∷ []))
+        ∙ merged_push pairs (map read items) (read x)
+
+  -- what a search needs, at once: of all items, and of the first so many, also where a function reads them
+  pub each_merged : (pairs : List (K × V)) (items : List (K × W)) → Lawful eq
+      → (merged eq step pairs items ≡ merged eq step pairs items)
+      × ((q : K) → at eq (merged eq step pairs items) q
+      ≡ fold (λ o w. Some (step o w)) (at eq pairs q)
+      (values_of (filter (λ item. eq item.0 q) items)))
+      × ((q : K) → has eq (merged eq step pairs items) q ≡ (has eq items q || has eq pairs q))
+      × (IsUnique eq pairs → IsUnique eq (merged eq step pairs items))
+      × (IsUnique eq pairs → length (merged eq step pairs items)
+      ≡ distinct_count eq (keys_of pairs ++ keys_of items))
+  each_merged pairs items laws = (
+    refl,
+    λ q. at_merged pairs items q laws,
+    λ q. has_merged pairs items q laws,
+    λ unique. unique_merged pairs items laws unique,
+    λ unique. length_merged pairs items laws unique,
+  )
+
+  -- what a loop ends with where its iterator has no items left
+  pub each_merged_end : (pairs : List (K × V)) (items : List (K × W))
+      → (merged eq step pairs items ≡ merged eq step pairs items)
+      × (length items ≡ 0 → merged eq step pairs items ≡ pairs)
+  each_merged_end pairs items =
+      (refl, λ none. ap (merged eq step pairs) (nil_from_length items none) ∙ merged_none pairs)
+
+  pub each_merged_take : (pairs : List (K × V)) (items : List (K × W)) (i : ℕ)
+      → (merged eq step pairs (take i items) ≡ merged eq step pairs (take i items))
+      × (length items ≤ i → merged eq step pairs (take i items) ≡ merged eq step pairs items)
+      × ((d : K × W) → i < length items
+      → merged eq step pairs (take (i + 1) items)
+      ≡ merge_pair eq step (merged eq step pairs (take i items)) (get_or items i d))
+      × (Lawful eq → IsUnique eq pairs → (d : K × W) → i < length items
+      → has eq (merged eq step pairs (take i items)) (get_or items i d).0 ≡ false
+      → length (merged eq step pairs (take i items)) < length (merged eq step pairs items))
+  each_merged_take pairs items i = (
+    refl,
+    λ over. ap (merged eq step pairs) (take_all i items over),
+    merged_take pairs items i,
+    λ laws unique d within new. merged_beyond pairs items i d within laws unique new,
+  )
+
+  pub each_merged_take_map :
+      {X : Type 0} (read : X → K × W) (pairs : List (K × V)) (items : List X) (i : ℕ)
+      → (merged eq step pairs (map read (take i items))
+      ≡ merged eq step pairs (map read (take i items)))
+      × (length items ≤ i → merged eq step pairs (map read (take i items))
+      ≡ merged eq step pairs (map read items))
+      × ((d : X) → i < length items
+      → merged eq step pairs (map read (take (i + 1) items))
+      ≡ merge_pair eq step (merged eq step pairs (map read (take i items)))
+      (read (get_or items i d)))
+      × (Lawful eq → IsUnique eq pairs → (d : X) → i < length items
+      → has eq (merged eq step pairs (map read (take i items)))
+      (read (get_or items i d)).0 ≡ false
+      → length (merged eq step pairs (map read (take i items))) < length
+      (merged eq step pairs (map read items)))
+  each_merged_take_map read pairs items i =
+      let made = merged eq step pairs in
+      let all = each_merged_take pairs (map read items) i in (
+        refl,
+        all_read read items i (λ l. made l ≡ made (map read items)) all.1,
+        taken_read read items i
+            (λ first more item. made more ≡ merge_pair eq step (made first) item) all.2,
+        λ laws unique. taken_read read items i
+            (λ first more item. has eq (made first) item.0 ≡ false
+            → length (made first) < length (made (map read items))) (all.3 laws unique),
+      )
+
+-- a counter
+module _ {K : Type 0} (eq : K → K → Bool) where
+  pub merged_counts : {W : Type 0} (items : List (K × W))
+      → merged eq (λ o w. unwrap_or o 0 + 1) [] items ≡ counts eq (keys_of items)
+  unfolding merged counts
+  merged_counts items = sym (fold-map (count_one eq) (λ item. item.0) [] items)
 
 module _ {K : Type 0} (eq : K → K → Bool) where
   -- one key more counts if none before it is equal to it
@@ -250,6 +437,16 @@ module _ {K : Type 0} (eq : K → K → Bool) where
       )
 
 pub ruleset count_laws = (
+  merged_none,
+  merged_first,
+  merged_append,
+  merged_push,
+  merged_push_map,
+  each_merged,
+  each_merged_end,
+  each_merged_take,
+  each_merged_take_map,
+  unique_empty,
   counts_none,
   each_counts,
   each_counts_take,
@@ -257,4 +454,5 @@ pub ruleset count_laws = (
   each_put_all_take,
   each_put_all_take_map,
   each_build_take_map,
+  merged_counts,
 )

@@ -1,13 +1,14 @@
 -- For callers: what the changes of a map by probe do to each way of reading it. They are `set_value` and `remove_entry` of
 -- the standard library, which take the probe's test of keys. The ruleset `map_laws` of `MapLaws` has what a search needs.
-use Rattle.std.proofs.Common.{◌≡◌, ℕ, Bool, true, not, List, [], ◌∷◌, filter, String, string_eq, None, refl, sym, subst, arith}
+use Rattle.std.proofs.Common.{◌≡◌, ℕ, Bool, true, not, List, [], ◌∷◌, ◌++◌, filter, String, string_eq, None, refl, ap, sym, subst, arith}
+use Rattle.std.proofs.Common.{if◌then◌else◌}
 use Rattle.std.specs.List.{IsDistinct}
 use Rattle.std.specs.Map.{keys_of, lookup, remove_entry, set_value}
 use Rattle.std.proofs.lemmas.Map.{keys-set_value}
 use Rattle.micromap_core.specs.Equalities.{Lawful, Probes}
 use Rattle.micromap_core.specs.Pairs.{without_at, IsUnique}
 use Rattle.micromap_core.specs.Probe.{is_text}
-use Rattle.micromap_core.proofs.laws.Equalities.{of_lawful, of_probes, same_test, probes_text}
+use Rattle.micromap_core.proofs.Laws.Equalities.{of_lawful, of_probes, same_test, probes_text}
 use Rattle.micromap_core.proofs.MapLemmas.{by_test, keys_removed, lookup-removed, no_value, IsUnique-remove}
 
 module _ {K V : Type 0} (test : K → Bool) (pairs : List (K × V)) where
@@ -42,8 +43,14 @@ module _ {K V : Type 0} (test : K → Bool) (pairs : List (K × V)) where
         (λ i f. subst (IsUnique eq) (sym f.taken)
         (IsUnique-remove eq (of_lawful eq laws) pairs unique i f.pair f.here))
 
--- a value that is written at a key which is then removed
+-- a new pair, or a value, that is written at a key which is then removed
 module _ {K V : Type 0} (test : K → Bool) where
+  pub remove_entry_push : (pairs : List (K × V)) (p : K × V) → lookup test pairs ≡ None → test p.0 ≡ true
+      → remove_entry test (pairs ++ p ∷ []) ≡ pairs
+  remove_entry_push [] p none passes = ap (λ b. if b then [] else p ∷ []) passes
+  remove_entry_push (e ∷ pairs) p none passes =
+      grind (arith, none, passes, remove_entry_push pairs p)
+
   pub remove_entry_set_value : (pairs : List (K × V)) (v : V)
       → remove_entry test (set_value test pairs v) ≡ remove_entry test pairs
   remove_entry_set_value [] v = refl

@@ -1,0 +1,11 @@
+pub mod ChainLaws
+pub mod SetLaws
+pub mod SetLoopLaws
+pub mod SetTextLaws
+pub use Rattle.micromap_core.proofs.Laws.ComparisonLaws
+pub use Rattle.micromap_core.proofs.Laws.CountLaws
+pub use Rattle.micromap_core.proofs.Laws.Equalities
+pub use Rattle.micromap_core.proofs.Laws.LoopLaws
+pub use Rattle.micromap_core.proofs.Laws.MapLaws
+pub use Rattle.micromap_core.proofs.Laws.ProbedLaws
+pub use Rattle.micromap_core.proofs.Laws.TextLaws

@@ -1,0 +1,196 @@
+-- For callers: loops that build a set, or put its items into another; that a set has one item for each distinct item that
+-- was put, as `CountLaws` says of a map's keys; and that the keys of a map into which a loop merges values are the items
+-- of a set to which the same keys are added. The rulesets `loops` and `caller` of `Rules` have what a search needs.
+use Rattle.std.proofs.Common.{◌≡◌, ◌≤◌, Bool, false, not, List, [], ◌∷◌, ◌++◌, filter, length, refl, ap, sym, ◌∙◌}
+use Rattle.std.proofs.Common.{append_assoc, arith, append-nil, ℕ, ◌+◌, ◌<◌, map, get_or, take, subst, Option}
+use Rattle.std.specs.List.{AllByRecursion, IsDistinct, list_any}
+use Rattle.std.specs.Map.{keys_of}
+use Rattle.std.specs.Set.{is_member, distinct_count}
+use Rattle.std.proofs.lemmas.List.{length-append, map-id, take_all}
+use Rattle.std.proofs.lemmas.List.Sums.{fold_more}
+use Rattle.std.proofs.lemmas.Map.Entries.{length-keys_of}
+use Rattle.std.proofs.lemmas.Map.Keys.{IsDistinct-head, IsDistinct-tail}
+use Rattle.micromap_core.specs.Build.{merge_pair, merged}
+use Rattle.micromap_core.specs.Equalities.{Lawful}
+use Rattle.micromap_core.specs.Pairs.{at}
+use Rattle.micromap_core.proofs.BuildLemmas.{fold_beyond, length-built, length-fold, member-fold, IsDistinct-nil}
+use Rattle.micromap_core.proofs.DistinctLemmas.{IsDistinct-filter, new_behind}
+use Rattle.micromap_core.proofs.Lists.{all_read, taken_read}
+use Rattle.micromap_core.proofs.Laws.Equalities.{equalities, of_lawful}
+use Rattle.micromap_core.proofs.Laws.LoopLaws.{each_left}
+use Rattle.micromap.specs.Extend.{put_all_items, distinct}
+use Rattle.micromap.specs.Items.{put_item, take_item}
+use Rattle.micromap.specs.Operations.{difference, union}
+use Rattle.micromap.proofs.ExtendLemmas.{items_keyed}
+use Rattle.micromap.proofs.ItemLemmas.{keys_put_item, keys_put_all_items}
+use Rattle.micromap.proofs.Laws.SetLaws.{is_member_put_item, items_take_item, length_put_item, not_fits}
+use Rattle.micromap.proofs.Laws.SetLaws.{put_item_back, put_item_new}
+
+module _ {T : Type 0} (eq : T → T → Bool) where
+  -- items that are done and items that are left: a new one goes between them
+  pub put_item_first_of_rest : (done rest : List T) (x : T) → is_member eq done x ≡ false
+      → put_item eq done x ++ rest ≡ done ++ x ∷ rest
+  put_item_first_of_rest done rest x missing = ap (λ l. l ++ rest) (put_item_new eq done x missing)
+      ∙ append_assoc done (x ∷ []) rest
+
+  pub copied_item_next : (done rest : List T) (x : T) → Lawful eq → IsDistinct eq (done ++ x ∷ rest)
+      → put_item eq done x ++ rest ≡ done ++ x ∷ rest
+  copied_item_next done rest x laws distinct =
+      put_item_first_of_rest done rest x (new_behind (of_lawful eq laws) done x rest distinct)
+
+  -- a list of items that is put takes none away
+  pub length_le_put_all_items : (items xs : List T)
+      → length items ≤ length (put_all_items eq items xs)
+  length_le_put_all_items items [] = omega arith
+  length_le_put_all_items items (x ∷ xs) =
+      grind (arith, length_put_item eq items x, length_le_put_all_items (put_item eq items x) xs)
+
+  -- of items that differ from x the same are new with x there
+  new_apart : (xs ys : List T) (x : T) → Lawful eq → AllByRecursion (λ y. eq x y ≡ false) ys
+      → difference eq ys (put_item eq xs x) ≡ difference eq ys xs
+  new_apart xs [] x laws apart = refl
+  new_apart xs (y ∷ ys) x laws apart = let here = apart.0 in
+      grind (arith, here, new_apart xs ys x laws apart.1, is_member_put_item eq xs x y laws)
+
+  -- unequal items that are put are a union
+  pub put_all_items_union : (xs ys : List T) → Lawful eq → IsDistinct eq ys
+      → put_all_items eq xs ys ≡ union eq ys xs
+  unfolding union
+  put_all_items_union xs [] laws distinct = sym (append-nil xs)
+  put_all_items_union xs (y ∷ ys) laws distinct =
+      let next = put_all_items_union (put_item eq xs y) ys laws
+      (IsDistinct-tail eq y ys distinct) in
+      let apart = new_apart xs ys y laws (IsDistinct-head eq y ys distinct) in
+      grind (
+        arith,
+        next,
+        apart,
+        put_item_back eq xs y,
+        put_item_first_of_rest xs (difference eq ys xs) y,
+      )
+
+  -- an item that is taken out is one that a difference leaves out
+  left_out : (xs ys : List T) (x : T) → Lawful eq
+      → difference eq (filter (λ y. not (eq x y)) xs) ys ≡ difference eq xs (x ∷ ys)
+  left_out [] ys x laws = refl
+  left_out (z ∷ xs) ys x laws = grind (arith, left_out xs ys x laws, (of_lawful eq laws).symm x z)
+
+  pub difference_take_item : (xs ys : List T) (x : T) → Lawful eq → IsDistinct eq xs
+      → difference eq (take_item eq xs x) ys ≡ difference eq xs (x ∷ ys)
+  difference_take_item xs ys x laws distinct =
+      ap (λ l. difference eq l ys) (items_take_item eq xs x laws distinct) ∙ left_out xs ys x laws
+
+  pub difference_none : (xs : List T) → difference eq xs [] ≡ xs
+  difference_none [] = refl
+  difference_none (x ∷ xs) = ap (λ l. x ∷ l) (difference_none xs)
+
+pub ruleset set_loop_laws = (
+  keys_put_item,
+  keys_put_all_items,
+  length-keys_of,
+  copied_item_next,
+  IsDistinct-filter,
+  not_fits,
+  length_put_item,
+  length_le_put_all_items,
+  put_all_items_union,
+  difference_take_item,
+  difference_none,
+  each_left,
+  length-append,
+  equalities,
+)
+
+module _ {T : Type 0} (eq : T → T → Bool) where
+  -- after items are put
+  pub length_put_all_items : (items xs : List T) → Lawful eq → IsDistinct eq items
+      → length (put_all_items eq items xs) ≡ distinct_count eq (items ++ xs)
+  length_put_all_items items xs laws unique =
+      length-fold (of_lawful eq laws) (items_keyed eq 0) items xs unique
+      ∙ ap (λ l. distinct_count eq (items ++ l)) (map-id xs)
+
+  -- a set that is built of a list has its distinct items
+  length_distinct : (xs : List T) → Lawful eq → length (distinct eq xs) ≡ distinct_count eq xs
+  length_distinct xs laws = length-built (of_lawful eq laws) (items_keyed eq 0) xs
+
+  is_member_distinct : (xs : List T) (x : T) → Lawful eq
+      → is_member eq (distinct eq xs) x ≡ list_any (eq x) xs
+  is_member_distinct xs x laws = member-fold (of_lawful eq laws) (items_keyed eq 0) [] xs x
+      ∙ ap (list_any (eq x)) (map-id xs)
+
+  -- what a search needs, at once: of a set that is built of a list, and of its first so many
+  pub each_distinct : (xs : List T) → Lawful eq
+      → (distinct eq xs ≡ distinct eq xs) × (length (distinct eq xs) ≡ distinct_count eq xs)
+      × ((x : T) → is_member eq (distinct eq xs) x ≡ list_any (eq x) xs)
+  each_distinct xs laws = (refl, length_distinct xs laws, λ x. is_member_distinct xs x laws)
+
+  pub each_distinct_take : (xs : List T) (i : ℕ) → Lawful eq
+      → (distinct eq (take i xs) ≡ distinct eq (take i xs))
+      × (length xs ≤ i → distinct eq (take i xs) ≡ distinct eq xs)
+      × ((d : T) → i < length xs
+      → distinct eq (take (i + 1) xs) ≡ put_item eq (distinct eq (take i xs)) (get_or xs i d))
+      × ((d : T) → i < length xs → is_member eq (distinct eq (take i xs)) (get_or xs i d) ≡ false
+      → length (distinct eq (take i xs)) < distinct_count eq xs)
+  each_distinct_take xs i laws = (
+    refl,
+    λ over. ap (distinct eq) (take_all i xs over),
+    fold_more (put_item eq) [] xs i,
+    λ d within new. subst (λ n. length (distinct eq (take i xs)) < n) (length_distinct xs laws)
+        (fold_beyond (of_lawful eq laws) (items_keyed eq 0) [] xs i d within (IsDistinct-nil eq) new),
+  )
+
+  -- of a set that is built of the first so many items that a function reads
+  pub each_distinct_take_map : {X : Type 0} (read : X → T) (xs : List X) (i : ℕ) → Lawful eq
+      → (distinct eq (map read (take i xs)) ≡ distinct eq (map read (take i xs)))
+      × (length xs ≤ i → distinct eq (map read (take i xs)) ≡ distinct eq (map read xs))
+      × ((d : X) → i < length xs
+      → distinct eq (map read (take (i + 1) xs))
+      ≡ put_item eq (distinct eq (map read (take i xs))) (read (get_or xs i d)))
+      × ((d : X) → i < length xs
+      → is_member eq (distinct eq (map read (take i xs))) (read (get_or xs i d)) ≡ false
+      → length (distinct eq (map read (take i xs))) < distinct_count eq (map read xs))
+  each_distinct_take_map read xs i laws =
+      let all = each_distinct_take (map read xs) i laws in (
+        refl,
+        all_read read xs i (λ l. distinct eq l ≡ distinct eq (map read xs)) all.1,
+        taken_read read xs i
+            (λ first more x. distinct eq more ≡ put_item eq (distinct eq first) x) all.2,
+        taken_read read xs i
+            (λ first more x. is_member eq (distinct eq first) x ≡ false
+            → length (distinct eq first) < distinct_count eq (map read xs)) all.3,
+      )
+
+  -- of a set to which the first so many items are added
+  pub each_put_all_items_take : (items xs : List T) (i : ℕ) → Lawful eq → IsDistinct eq items
+      → (put_all_items eq items (take i xs) ≡ put_all_items eq items (take i xs))
+      × (length xs ≤ i → put_all_items eq items (take i xs) ≡ put_all_items eq items xs)
+      × ((d : T) → i < length xs
+      → put_all_items eq items (take (i + 1) xs)
+      ≡ put_item eq (put_all_items eq items (take i xs)) (get_or xs i d))
+      × ((d : T) → i < length xs
+      → is_member eq (put_all_items eq items (take i xs)) (get_or xs i d) ≡ false
+      → length (put_all_items eq items (take i xs)) < length (put_all_items eq items xs))
+  each_put_all_items_take items xs i laws unique = (
+    refl,
+    λ over. ap (put_all_items eq items) (take_all i xs over),
+    fold_more (put_item eq) items xs i,
+    λ d within new. fold_beyond (of_lawful eq laws) (items_keyed eq 0) items xs i d within unique new,
+  )
+
+module _ {K V W : Type 0} (eq : K → K → Bool) (step : Option V → W → V) where
+  pub keys_merged : (pairs : List (K × V)) (items : List (K × W))
+      → keys_of (merged eq step pairs items) ≡ put_all_items eq (keys_of pairs) (keys_of items)
+  unfolding merged
+  keys_merged pairs [] = refl
+  keys_merged pairs (item ∷ items) =
+      keys_merged (merge_pair eq step pairs item) items
+      ∙ ap (λ keys. put_all_items eq keys (keys_of items))
+      (keys_put_item eq item.0 (step (at eq pairs item.0) item.1) pairs)
+
+pub ruleset item_counts = (
+  each_distinct,
+  each_distinct_take,
+  each_distinct_take_map,
+  each_put_all_items_take,
+  keys_merged,
+)
