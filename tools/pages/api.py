@@ -91,13 +91,18 @@ class Api:
         self.sources, self.wrong, self.paths, self.views, self.lent = sources, wrong, Paths("micromap").found, {}, []
         self.entries, self.traits = collections.defaultdict(list), collections.defaultdict(list)
         for it in sources.items:
-            if not it.path.endswith("/slot.rt") and (it.kind != "impl" or sources.owner(it) in sources.types):
+            if not it.path.endswith("/slot.rt") and (it.kind != "impl" or self.subject(it) in sources.types):
                 self.take(it)
         self.groups = self.grouped()
 
+    def subject(self, item):
+        """The type that an impl is of, or is `From` if that type is the standard library's."""
+        owner, made_of = self.sources.owner(item), re.fullmatch(r"From<(\w+)>", item.trait or "")
+        return made_of[1] if made_of and owner not in self.sources.types else owner
+
     def take(self, item):
         """Adds an item to the entries."""
-        owner, functions = self.sources.owner(item), item.functions
+        owner, functions = self.subject(item), item.functions
         if item.trait == "Model":
             self.views[owner] = item
         elif item.trait and not item.ghosts and not any(it.clauses for it in functions):
@@ -106,7 +111,8 @@ class Api:
             is_alone = owner in ("Map", "Set")
             doc = item.doc or "\n\n".join(it.doc for it in functions if it.doc)
             head = f"impl {item.trait} for {self.sources.public(item.whom)}"
-            code = [head, *[f"where {', '.join(item.bounds)}"] * bool(item.bounds), *members(item)]
+            said = [f"/// {line}".rstrip() for line in item.doc.split("\n")] * bool(item.doc and not is_alone)
+            code = [*said, head, *[f"where {', '.join(item.bounds)}"] * bool(item.bounds), *members(item)]
             at = self.sources.call(item) if is_alone else item.trait.partition("<")[0] if owner == "K" else owner
             self.entries[at].append((doc * is_alone, code, item))
         elif item.kind in ("impl", "fn"):

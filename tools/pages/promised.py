@@ -80,6 +80,8 @@ def shared_lines(text):
         if line.lstrip().startswith("module _") and len(later) - len(later.lstrip(" ")) <= depth:
             continue
         kept.append(line)
+    if kept != lines:  # a line around those that are gone may have none left either
+        return shared_lines("\n".join(kept))
     without = re.sub(r"(?:^ *--(?! for a search alone).*\n)+(?=\n|-- for)", "", "\n".join(kept), flags=re.M)
     return re.sub(r"\n{3,}", "\n\n", without)
 

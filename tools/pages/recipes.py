@@ -21,10 +21,10 @@ your own types and tests in the place of its own. Another type of keys may need 
 - Write the line `tactic` as `#[..]` at your function, or as `#![..]` at the head of your file.
 - The imports are those of the words in the clauses. [CALLING](CALLING.md#callers) has those of types.
 - A block `antt` is a file of definitions, of a loop's [invariant](PROVING.md#an-invariant), or of *answers*, which are proofs of single goals. It has
-the path of its function: that of `total` of `src/walks.rt` is `proofs/walks/total/Invariants.antt`, and in `main.rt` or `lib.rt` `proofs/total/Invariants.antt`. `my_crate` stands for your crate.
+the path of its function: that of `total` of `src/walks.rt` is `proofs/walks/total/Invariants.antt`, and in `main.rt` or `lib.rt` `proofs/total/Invariants.antt`. `my_crate` stands for your crate, and what follows `proofs.`, as `counting`, for your file.
 - The line of your crate in `crates.txt` is `name: micromap micromap_core`.
 - The proof of a recursive function `f` is in the folder `+f`. It says what falls at each call.
-- Many contracts say only what an `Ok`, a `Some` or a `true` means. After a refusal nothing is known of the map.
+- Many contracts say only what an `Ok`, a `Some` or a `true` means. Under such a contract nothing is known of the map after a refusal.
 
 The files are in `crates/micromap_callers` of micromap's own repository. Its `micromap_uses` has whole examples, with definitions
 and laws of their own:
@@ -33,15 +33,20 @@ and laws of their own:
 # What one may look for, and the headings that have it.
 WANTS = {
     "merge or join two maps": ["Puts a map over another, all or nothing", "Makes a map of the pairs of two maps",
-        "Adds the amounts of another map to the totals of a map"],
+        "Puts a map with `&str` keys over another, all or nothing", "Adds the amounts of another map to the totals of a map"],
     "settings in layers": ["Finds a key's value in the first of several maps with it",
         "Copies settings with others put over them, or returns `None` if they don't all fit"],
     "the words of a text": ["Makes a set of the words of a text, or an error if there are more than `N` different ones",
         "Counts how often each word of a text comes, or returns `None` if there are more than `N` different ones"],
     "the union of a map's sets": ["Makes a set of the items of all sets of a map"],
     "remove while iterating": ["Keeps the pairs that pass"],
+    "a sum": ["Adds up the values, whose sum must fit", "Adds up signed values, where a sum that doesn't fit stays at the end of the range"],
+    "the least or the greatest value": ["Finds a key with the least value, and that value", "Finds the greatest value"],
+    "a closure over sets of `&str`": ["Returns whether all words of a map's sets are its keys"],
+    "JSON": ["Reads a map with owned texts as keys from JSON, or says what is wrong with it"],
     "what was visited, and a work list": ["Moves the items of a set into another, as far as they fit",
-        "Puts an item on a path and takes it off again, which leaves the path as it was"],
+        "`reached` of `graph.rt` and `affected` of `order.rt` in `micromap_uses`"],
+    "mark and unmark, in a search for cycles": ["Puts an item on a path and takes it off again, which leaves the path as it was"],
     "the newest `N` items": ["Inserts an item into a set, which loses its first if it's full"],
     "invert a map": ["Makes a map with key and value exchanged"],
     "group by a key": ["Groups a list: makes a map of the members of each key"],
@@ -178,6 +183,6 @@ def recipes(wrong):
     uses = sorted(it for it in glob.glob(f"crates/{WHOLE}/src/*.rt") if not it.endswith("/lib.rt"))
     listed = "\n".join(f"- `{os.path.basename(it)}`: {title_of(it)[0]}" for it in uses)
     ends = [f"### {own_title(it)}\n\n{block('antt', read(it))}" for it in sorted(words, key=lambda it: ("/specs/" not in it, it))]
-    wanted = "\n".join(["| Looked for | Recipe |", "|---|---|", *(f"| {it} | {', '.join(map(linked, WANTS[it]))} |" for it in WANTS)])
-    wrong += [f"{RECIPES}: no heading is {it}" for those in WANTS.values() for it in those if it not in {one.heading for one in known}]
+    wanted = "\n".join(["| Looked for | Recipe |", "|---|---|", *(f"| {want} | {', '.join(it if it[0] == '`' else linked(it) for it in WANTS[want])} |" for want in WANTS)])
+    wrong += [f"{RECIPES}: no heading is {it}" for those in WANTS.values() for it in those if it[0] != "`" and it not in {one.heading for one in known}]
     return "\n\n".join([INTRO.strip(), listed, "## Index", wanted, "\n".join(rows), *sections, *([f"## {WORDS}", LISTED, *ends] if ends else [])]) + "\n"
