@@ -22,7 +22,8 @@ HEAD = """# Claims
 Made by `tools/documents` from the sources, from the edits and from what `tools/claims` recorded of them.
 
 Every clause is proved. Whether a clause says enough is tried by wrong bodies, which the prover must refuse. Of many clauses no refusal is known. \
-Counted are the clauses of `ensures`, the ghost members of impls and the laws of traits. Two edits are for a precondition, which isn't counted:
+Counted are the clauses of `ensures`, the ghost members of impls and the laws of traits. Clauses of one name count once: `into_iter_gives` by value and by reference, and `matches` of `Text` for its three \
+types of key. The edits of `into_iter_gives` are of the bodies by value. Two edits are for a precondition, which isn't counted:
 
 TOTALS
 
@@ -36,7 +37,8 @@ Some rewrite answers, or the loop's invariant, for the wrong body. So an answer 
 It isn't tried whether the search proves the right body there.
 - One goal of each edit is recorded. It may have others.
 - Some bodies are those of an inner function on which the call rests. Then the recorded goal is one of that function's. It belongs to the same \
-clause, or to one that the call's proof uses. This doesn't show that the call's own clause says enough.
+clause, or to one that the call's proof uses. This doesn't show that the call's own clause says enough. \
+Four clauses have no other refusal at a goal: `succeeds` of `Map::clone`, `memory` of `map_from_json` and of `set_from_json`, and `into_iter_gives` of a map.
 - *Written proof* stands before a goal if only a proof that was written by hand refused the body. This shows no more than \
 that the proof doesn't serve the wrong body.
 
@@ -52,7 +54,7 @@ WITHOUT = "Clauses without an edit"
 WITHOUT_HEAD = """
 These are proved as all others are. `rt plant` tries bodies of its own on a function. Some give up, as `None` does. Others call the \
 right body with an argument, the result or a field changed. A body is tried against all clauses of \
-the function at once. So what came of it stands here only of calls of which no clause of `ensures` has an edit. Of the others the second column says why none was tried, or none judged. Of a *shared* call the result is left out, even of a body that was let through:
+the function at once, and an impl counts as one call. So what came of it stands here only of calls of which no clause of `ensures` has an edit. Of the others the second column says why none was tried, or none judged. Of a *shared* call only a body that was let through is named:
 
 SILENT
 
@@ -179,6 +181,8 @@ class Claims:
     def verdict(self, call):
         """What is known of a call's clauses without an edit: what was tried, or why nothing was."""
         clauses = {name: it for name, it in self.library().items() if it.call == call}
+        if "let through" in self.tried.get(call, ""):
+            return self.tried[call]
         if self.named() & {*clauses}:
             return SHARED
         is_of_trait = next(iter(clauses.values())).item.kind == "trait"
@@ -193,8 +197,8 @@ class Claims:
         return [head, *(f"| {self.clauses_of(call, names)} | {verdict} |" for call, (names, verdict) in rows.items())]
 
     def counts(self):
-        """How many clauses have an edit that a goal refuses, for how many of these no such edit changes the source alone, for how
-        many the goal is that of another clause, how many have such as only a written proof refuses, how many have refused
+        """How many clauses have an edit that a goal refuses, for how many of these such an edit leaves the proof as it is, and its
+        goal names no other clause, for how many no edit does, for how many the goal is that of another clause, how many have such as only a written proof refuses, how many have refused
         planted bodies alone, how many have none, and all."""
         unnamed, library = self.unnamed(), self.library()
         without = {call: len(names) for call, names in unnamed.items()}
@@ -202,13 +206,14 @@ class Claims:
         strong = [it for it in self.edits if it.path in self.goals and kind_of(self.goals[it.path]) != PROOF]
         shown = {*library} & {name for edit in strong for _, names in edit.claims for name in names}
         alone = {name for edit in strong if not self.changes_proof(edit) for _, names in edit.claims for name in names}
+        best = {it for edit in strong if not self.changes_proof(edit) for _, names in edit.claims for it in names if is_of(self.goals[edit.path], it)}
         own = {name for edit in strong for _, names in edit.claims for name in names if is_of(self.goals[edit.path], name)}
         named = len(library) - sum(without.values())
-        return len(shown), len(shown - alone), len(shown - own), named - len(shown), tried, sum(without.values()) - tried, len(library)
+        return len(shown), len(shown & best), len(shown - alone), len(shown - own), named - len(shown), tried, sum(without.values()) - tried, len(library)
 
     def totals(self):
         """The table of these."""
-        names = ["with an edit that a goal of a contract, an invariant or a call's condition refuses", "of these, only by edits that change the proof too", "of these, recorded only at a goal that names another clause"]
+        names = ["with an edit that a goal of a contract, an invariant or a call's condition refuses", "of these, by an edit that leaves the proof as it is, at a goal that names no other clause", "of these, only by edits that change the proof too", "of these, recorded only at a goal that names another clause"]
         names += ["with edits that only a written proof refuses"]
         names += [f"[without an edit](#{anchor(WITHOUT)}), but of a call of which `rt plant`, a tool of the kit, had a wrong body refused", "with none of these", "all"]
         yield "| The library's clauses | |\n|---|---|"
@@ -216,7 +221,7 @@ class Claims:
 
     def wrong_of_readme(self):
         """What is amiss in the README's sentence about these."""
-        shown, changed, other, written, tried, untried, library = self.counts()
-        wanted = (f"For {shown} of the library's {library} clauses a wrong body was refused at a goal. For {changed} of these each such edit changes the proof too, and it isn't known whether the right body would be proved there. For {other} the recorded goal names another clause of the call. For {written} more only a written proof refused the body. "
-                  f"{tried} more belong to calls of which a tool's wrong body was refused, and it isn't known by which clause. Of the other {untried} no refusal is known.")
+        shown, best, _, _, written, tried, untried, library = self.counts()
+        wanted = (f"For {shown} of the library's {library} clauses a wrong body was refused at a goal. For {best} of these such a body leaves the proof as it is, and its goal names no other clause. For {written} more only a written proof refused the body. "
+                  f"{tried} more belong to calls of which a tool's wrong body was refused, by whichever clause. Of the other {untried} no refusal is known.")
         return [] if wanted in read("README.md") else [f"README.md doesn't say: {wanted}"]
