@@ -4,6 +4,7 @@ import os
 import re
 
 from pages.laws import parts_of
+from pages.names import unbroken
 from pages.sources import anchor, read
 
 LAWS = "crates/micromap/LAWS.md"
@@ -15,7 +16,7 @@ SEARCHED = r"pub (each_[\w'-]+) :"  # a law that a search alone uses
 LAW = r"^(?P<within> *)pub [\w'≢-]+ :.*\n(?:^(?P=within) +\S.*\n)*"
 INTRO = """# The laws of micromap
 
-Each law below is promised to callers: it is proved, and it keeps its name and its statement. The first line of a block is the
+Each law below is proved. From the tag `v0.3.0-1` on it keeps its name and its statement. The first line of a block is the
 module that has its laws. The rulesets of `micromap::proofs::Rules` have those that a search needs, so most callers name
 none; [PROVING](PROVING.md) says when one is named. A line `module _` has the arguments that come first in each law
 that is indented below it. The checker finds those in braces. The name of a law about a change has the reader first and then the change: `length_take_out` is the length after a removal. [API](API.md) explains the words of the calls, and `rt lemma WORD` prints the definition of any other. `rt lemma NAME` prints a law too, and
@@ -54,7 +55,7 @@ def laws_in(text):
     after = text[re.match(COMMENT, text, re.M).end() :]
     for block in (it[0] for it in re.finditer(f"{COMMENT}|{MODULE}|{LAW}|^.+\n|^\n", after, re.M)):
         first = block.lstrip(" ")
-        indent, flat = block[: len(block) - len(first)], " ".join(block.split())
+        indent, flat = block[: len(block) - len(first)], unbroken(block)
         if first.startswith("--"):
             comment = block.rstrip("\n")
         elif first.startswith("module _") and not indent and lines:
