@@ -90,7 +90,7 @@ def shared_lines(text):
 def section(path):
     """The section of a file."""
     text, module = read(path), os.path.basename(path).removesuffix(".antt")
-    block = f"-- Rattle.micromap.proofs.Laws.{module}\n{shared_lines(laws_in(text))}"
+    block = f"-- Rattle.{path.split('/')[1]}.proofs.Laws.{module}\n{shared_lines(laws_in(text))}"
     return f"## {title_of(path)}\n\n{first_comment(text)}\n\n```text\n{block}\n```"
 
 

@@ -158,8 +158,8 @@ pub fn take_first<K: Eq + Drop, V: Drop, const N: usize>(map: &mut Map<K, V, N>)
 }
 
 /// Takes all pairs out, and returns the first.
-/// The iterator must fit in memory. By value go `into_iter`, `into_keys` under `IntoKeysFits`, `into_values` under
-/// `IntoValuesFits`, and a set's `into_iter` under `SetIntoIterFits`.
+/// The iterator must fit in memory. Iterators by value go the same way: `into_iter` under the same condition, `into_keys`
+/// under `IntoKeysFits`, `into_values` under `IntoValuesFits`, and a set's `into_iter` under `SetIntoIterFits`.
 pub fn first_drained<K: Eq + Drop, V: Drop, const N: usize>(
     map: &mut Map<K, V, N>,
 ) -> Option<(K, V)>

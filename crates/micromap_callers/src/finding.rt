@@ -15,7 +15,8 @@ use std::alloc::{AllocError, Global};
 
 /// Finds the greatest value.
 /// It returns `None` if the map is empty. The least goes the same way by `min()`, a key by `iter().map(|(k, _)| *k)`,
-/// and what passes a test by `filter` before `map`. By `copied()` in the place of `map` the search doesn't find it.
+/// and what passes a test by `filter` before `map`. By `copied()` in the place of `map` the search doesn't find it. Of
+/// signed values it finds neither `max()` nor `min()`: take `max_by_key` or `min_by_key`.
 pub fn greatest<const N: usize>(pairs: &Map<u8, u32, N>) -> Option<u32>
     ensures { result ≡ reduce max (values_of pairs.now) }
 {
@@ -126,8 +127,8 @@ pub fn other_than<'a, T: Eq, const N: usize>(set: &'a Set<T, N>, item: &T) -> Op
 }
 
 /// Finds the index of a value.
-/// It returns `None` if no value is `x`. The first pair that passes a test goes the same way, by `iter().position(|(_,
-/// v)| ..)`.
+/// It returns `None` if no value is `x`. The index of the first pair that passes a test is found the same way, by
+/// `iter().position(|(_, v)| ..)`.
 pub fn position_of<const N: usize>(pairs: &Map<u8, u32, N>, x: u32) -> Option<usize>
     ensures { result ≡ position (λ v. v == x) (values_of pairs.now) }
 {

@@ -59,7 +59,7 @@ pub fn add_items(groups: &mut Map<u8, Set<u16, 8>, 16>, group: u8, items: &Set<u
 }
 
 /// Moves the set of a key into that of another key.
-/// The first pair goes then. Nothing changes, and it returns `false`, if the two keys are equal, one is missing, or the
+/// The pair of the first key is removed then. Nothing changes, and it returns `false`, if the two keys are equal, one is missing, or the
 /// items don't all fit.
 pub fn move_items(groups: &mut Map<u8, Set<u16, 8>, 16>, from: u8, into: u8) -> bool
     ensures answer { result ≡ (not (nat_eq from into) && has nat_eq groups.old from && option_map_or (λ s. nat_le (length (put_all_items nat_eq s (unwrap_or (at nat_eq groups.old from) []))) 8) (at nat_eq groups.old into) false) }
