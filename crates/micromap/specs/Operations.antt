@@ -89,7 +89,7 @@ module _ {T : Type 0} (eq : T → T → Bool) where
   unfoldable pub symmetric_on : TwoWalks T (List T) (List T) → TwoWalks T (List T) (List T)
   symmetric_on w = record { first = difference_on w.first; second = if_empty (difference_left w.first) (difference_on w.second) w.second }
 
--- a call of `next` at s gave the first of what is left, as shows sees it, or nothing where nothing is, and led to t
+-- a call of `next` at s gave the first of what is left, as `shows` sees it, or nothing where nothing is, and led to t
 pub record GivesNext {S A T : Type 0} (shows : A → T) (left : S → List T) (on : S → S) (s : S) (r : Option A) (t : S) : Type 0 where
   pub member : YieldsFirstBy shows left s r t
   pub led : t ≡ on s

@@ -4,7 +4,7 @@ use Rattle.std.specs.Iterator.Runs.{SomeRun, WholeRun}
 use Rattle.micromap_core.specs.Pairs.{at, fits, put}
 use Rattle.micromap_core.specs.declared.overfull.Overfull.{Overfull}
 
--- the most items that are counted: fewer than `usize::MAX`
+-- `2 ^ 64 - 2`, the most items that are counted
 abbrev pub most_items : ℕ
 most_items = 2 ^ 64 - 2
 

@@ -19,7 +19,7 @@ module _ {F A V R : Type 0} (g : Mut F (A × (MutBor V × Unit {0})) (R × (MutB
   abbrev pub AcceptsValue : F → A → V → Type 0
   AcceptsValue f a v = (value : MutBor V) → value.now ≡ v → Takes g f (a, (value, tt))
 
--- part has some of the elements of whole, in the order that they have there
+-- `part` has some of the elements of `whole`, in the order that they have there
 abbrev pub IsSublist : {X : Type 0} → List X → List X → Type 0
 IsSublist part whole = (picks : List Bool) × (part ≡ items_where_true picks whole)
 

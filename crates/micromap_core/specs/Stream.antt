@@ -7,7 +7,7 @@ use Rattle.micromap_core.specs.Pairs.{fits, IsContent}
 use Rattle.micromap_core.specs.declared.stream.ReadFault.{ReadFault}
 use Rattle.micromap_core.specs.declared.stream.ReadFault.TheVariants.{Source, TooMany}
 
--- a sink or source that counts its faults has room for one more below this
+-- `2 ^ 128 - 1`: a number of faults below this can grow by one
 abbrev pub most_faults : ℕ
 most_faults = 2 ^ 128 - 1
 
@@ -22,21 +22,21 @@ abbrev pub stream_of : {S X E : Type 0} → (S → List X) → (S → ℕ) → (
 stream_of entries faults last_fault s = record { entries = entries s; faults = faults s; last_fault = last_fault s }
 
 module _ {S E : Type 0} (faults : S → ℕ) (last_fault : S → Option E) (old new : S) where
-  -- no fault came between old and new
+  -- no fault came between `old` and `new`
   pub record Faultless : Type 0 where
     pub count : faults new ≡ faults old
     pub last : last_fault new ≡ last_fault old
 
-  -- one fault came between old and new, and it is this one
+  -- one fault came between `old` and `new`, and it is this one
   pub record Faults (fault : E) : Type 0 where
     pub count : faults new ≡ suc (faults old)
     pub last : last_fault new ≡ Some fault
 
--- the first of these entries, but not all, were appended to old
+-- the first of these entries, but not all, were appended to `old`
 abbrev pub TakesBeginning : {X : Type 0} → List X → List X → List X → Type 0
 TakesBeginning old entries new = (n : ℕ) × (n < length entries) × (new ≡ old ++ take n entries)
 
--- a reading of a map of capacity N from a source, which is old before it and new after it
+-- a reading of a map of capacity N from a source, which is `old` before it and `new` after it
 module _ {K V E : Type 0} (eq : K → K → Bool) (N : ℕ) (old new : Stream (K × V) E) where
   -- to the end: all entries fit a new map, and the map has them
   pub record ReadsWhole (map : List (K × V)) : Type 0 where

@@ -10,7 +10,7 @@ impl<K: Eq + Copy, V: Copy, const N: usize> Map<K, V, N> {
     /// Inserts all pairs of another map, one after the other, as `insert` does, or none. If they don't all fit, returns
     /// the position of the first that doesn't, counted from 0.
     ///
-    /// The result is `Err` exactly if the pairs of both have more than `N` distinct keys. Then this map is unchanged,
+    /// The result is `Err` exactly if the two maps together have more than `N` distinct keys. Then this map is unchanged,
     /// where `try_extend` keeps the pairs before that position. Works on a copy of this map, and makes one scan for each
     /// pair of `other`.
     ///
