@@ -142,12 +142,13 @@ pub fn keep_greatest<const N: usize>(greatest: &mut Map<u8, u32, N>, amounts: &[
 }
 
 /// Adds the amounts of another map to the totals of a map.
-/// A total stays at the greatest number. The contract says nothing of `false`.
+/// A total stays at the greatest number. There would be more than `N` keys if it returns `false`.
 pub fn add_map<const N: usize, const M: usize>(
     totals: &mut Map<u8, u32, N>,
     amounts: &Map<u8, u32, M>,
 ) -> bool
-    ensures { OnTrue result (totals.new ≡ merged nat_eq saturated_sum totals.old amounts.now) }
+    ensures totals { OnTrue result (totals.new ≡ merged nat_eq saturated_sum totals.old amounts.now) }
+    ensures refused { IsFalse result → N < length (merged nat_eq saturated_sum totals.old amounts.now) }
 {
     for (number, amount) in amounts {
         let total = totals.get(number).copied().unwrap_or(0);
@@ -162,9 +163,10 @@ pub fn add_map<const N: usize, const M: usize>(
 }
 
 /// Adds the amounts of a `Vec` by value.
-/// A total stays at the greatest number. The contract says nothing of `false`.
+/// A total stays at the greatest number. There would be more than `N` keys if it returns `false`.
 pub fn add_vector<const N: usize>(totals: &mut Map<u8, u32, N>, amounts: Vec<(u8, u32)>) -> bool
-    ensures { OnTrue result (totals.new ≡ merged nat_eq saturated_sum totals.old (vec_items amounts)) }
+    ensures totals { OnTrue result (totals.new ≡ merged nat_eq saturated_sum totals.old (vec_items amounts)) }
+    ensures refused { IsFalse result → N < length (merged nat_eq saturated_sum totals.old (vec_items amounts)) }
 {
     for (number, amount) in amounts {
         let total = totals.get(&number).copied().unwrap_or(0);

@@ -65,6 +65,3 @@ fn main(rt: HostRuntime) -> ExitCode {
         ExitCode::FAILURE
     }
 }
-
-#[cfg(test)]
-mod tests;

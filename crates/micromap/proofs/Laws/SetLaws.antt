@@ -216,6 +216,12 @@ module _ {T : Type 0} (eq : T → T → Bool) (items : List T) (x : T) where
       ∙ ap keys_of (take_out_put eq (entries_of items) x tt laws
       (None-if_not_some _ (sym (any-entries (eq x) items) ∙ missing))) ∙ keys_of-entries items
 
+  -- a removal by a probe that matches the items equal to an item
+  pub take_item_key : (take_item eq items x ≡ take_item eq items x)
+      × (take_item eq items x ≡ remove_key (eq x) items)
+  unfolding take_item
+  take_item_key = (refl, refl)
+
 -- at an item of one's own
 module _ {T : Type 0} (eq : T → T → Bool) (items : List T) (x y : T) where
   pub is_member_put_item : Lawful eq
@@ -383,6 +389,7 @@ pub ruleset set_laws = (
   take_item_missing,
   take_item_put_item,
   remove_key_missing,
+  take_item_key,
   length_remove_key,
   items_remove_key,
   each_put_item,

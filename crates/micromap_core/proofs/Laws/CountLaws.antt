@@ -126,6 +126,13 @@ module _ {K V W : Type 0} (eq : K → K → Bool) (step : Option V → W → V) 
         length-keys_of (merged eq step pairs items),
       )
 
+  -- the same of the first item that is still to come
+  pub merged_beyond_first : (pairs : List (K × V)) (item : K × W) (items : List (K × W))
+      → Lawful eq → IsUnique eq pairs → has eq pairs item.0 ≡ false
+      → length pairs < length (merged eq step pairs (item ∷ items))
+  unfolding merged
+  merged_beyond_first pairs item items = merged_beyond pairs (item ∷ items) 0 item (omega arith)
+
   -- items that a function reads
   module _ {X : Type 0} (read : X → K × W) (pairs : List (K × V)) (items : List X) where
     pub merged_push_map : (x : X)
@@ -439,6 +446,7 @@ module _ {K : Type 0} (eq : K → K → Bool) where
 pub ruleset count_laws = (
   merged_none,
   merged_first,
+  merged_beyond_first,
   merged_append,
   merged_push,
   merged_push_map,

@@ -356,6 +356,13 @@ module _ {K V : Type 0} (eq : K → K → Bool) where
       ap (remove_entry (eq k)) (put_new eq pairs k v (ap is_some none))
       ∙ remove_entry_push (eq k) pairs (k, v) none ((of_lawful eq laws).refl k)
 
+  -- a removal by a probe that matches the keys equal to a key
+  pub take_out_entry : (pairs : List (K × V)) (k : K)
+      → (take_out eq pairs k ≡ take_out eq pairs k)
+      × (take_out eq pairs k ≡ remove_entry (eq k) pairs)
+  unfolding take_out
+  take_out_entry pairs k = (refl, refl)
+
   -- a key that doesn't fit is missing, and there is no room
   pub not_fits : (N : ℕ) (pairs : List (K × V)) (k : K) → fits eq N pairs k ≡ false
       → (has eq pairs k ≡ false) × (N ≤ length pairs)
@@ -463,6 +470,7 @@ pub ruleset map_laws = (
   take_out_put,
   set_value_missing,
   remove_entry_missing,
+  take_out_entry,
   length-set_value,
   length-remove_entry,
   lookup-set,

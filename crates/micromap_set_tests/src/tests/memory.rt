@@ -1,4 +1,4 @@
-//! Calls on numbers, which ask for no memory: each test passes though its first request would be refused.
+//! Calls on numbers, which ask for no memory: `tools/refuse-memory` runs each test with its first request refused.
 use micromap::{Map, Set};
 use std::alloc::AllocError;
 
