@@ -32,7 +32,7 @@ and laws of their own:
 """
 # What one may look for, and the headings that have it.
 WANTS = {
-    "merge or join two maps": ["Puts a map over another, all or nothing", "Makes a map of the pairs of two maps",
+    "merge or join two maps": ["Puts a map whose keys and values are `Copy` over another, all or nothing", "Makes a map of the pairs of two maps",
         "Puts a map with `&str` keys over another, all or nothing", "Adds the amounts of another map to the totals of a map"],
     "settings in layers": ["Finds a key's value in the first of several maps with it",
         "Copies settings with others put over them, or returns `None` if they don't all fit"],
@@ -43,9 +43,8 @@ WANTS = {
     "a sum": ["Adds up the values, whose sum must fit", "Adds up signed values, where a sum that doesn't fit stays at the end of the range"],
     "the least or the greatest value": ["Finds a key with the least value, and that value", "Finds the greatest value"],
     "a closure over sets of `&str`": ["Returns whether all words of a map's sets are its keys"],
-    "rename a key": ["Moves a value from one text to another, which goes to its index or to the end",
-        "Moves a value from one `&str` to another, which goes to its index or to the end"],
-    "print a map": ["Prints a map whose keys are texts", "Writes a map of numbers as a text"],
+    "rename a key": ["Moves a value from one text to another, which goes to its index or to the end"],
+    "print a map": ["Writes a map of numbers as a text"],
     "the neighbours of a node": ["Inserts an item into the set of a key, if it fits", "Takes a pair out, and its key out of each set"],
     "nested scopes": ["Finds a key's value in the first of several maps with it", "`scopes.rt` in `micromap_uses`"],
     "JSON": ["Reads a map with owned texts as keys from JSON, or says what is wrong with it"],
@@ -53,8 +52,14 @@ WANTS = {
         "`reached` of `graph.rt` and `affected` of `order.rt` in `micromap_uses`"],
     "mark and unmark, in a search for cycles": ["Puts an item on a path and takes it off again, which leaves the path as it was"],
     "the newest `N` items": ["Inserts an item into a set, which loses its first if it's full"],
+    "the pair at an index": ["Finds the first key and the last value"],
+    "the value at a `&str`": ["Sets the value at a `&str`, if it fits, and returns the old one"],
+    "move the pairs of a map into another": ["Puts pairs into a map, up to the first that doesn't fit"],
+    "how many pairs were dropped": ["Keeps the pairs that pass"],
+    "a copy with other values": ["Copies the pairs that pass", "Copies the pairs that pass, with other values, or returns `None`"],
     "invert a map": ["Makes a map with key and value exchanged"],
     "group by a key": ["Groups a list: makes a map of the members of each key"],
+    "the total of each key": ["Adds each amount of a list to the total of its key", "Groups a list: makes a map of the members of each key"],
     "a copy with another capacity": ["Copies the pairs that pass into a map of another capacity"],
 }
 # An item at the margin, with the comments and the attributes above it.

@@ -3,7 +3,7 @@
 
 ghost use Rattle.std.specs.Prelude.{◌==◌, ◌||◌, ◌≡◌, IsTrue, false, fold, nat_eq, nat_lt, unwrap_or, []};
 ghost use Rattle.std.specs.Cmp.Lexicographic.{pointwise};
-ghost use Rattle.std.specs.List.{list_all, list_any, zip};
+ghost use Rattle.std.specs.List.{list_all, list_any};
 ghost use Rattle.std.specs.Map.{values_of};
 ghost use Rattle.std.specs.Option.{option_eq, option_map_or};
 ghost use Rattle.std.specs.Set.{is_member};
@@ -15,7 +15,8 @@ use micromap::{Map, Set};
 
 /// Returns whether a value passes a test.
 /// Keys go the same way by `keys()`, pairs by `iter()` with `|(k, v)|`, and a set's items by `set.iter()`. Whether all
-/// pass is asked by `all`.
+/// pass is asked by `all`. Of `&str` keys the clause has `k.now`: `|k| k.len() > 5` over `names.keys()` is
+/// `list_any (λ k. nat_lt 5 (length k.now)) (keys_of names.now)`.
 pub fn any_value<const N: usize>(pairs: &Map<u8, u32, N>, x: u32) -> bool
     ensures { result ≡ list_any (λ v. v == x) (values_of pairs.now) }
 {
@@ -23,8 +24,11 @@ pub fn any_value<const N: usize>(pairs: &Map<u8, u32, N>, x: u32) -> bool
 }
 
 /// Returns whether all items of a list are in a set.
-/// That all are keys of a map goes the same way, by `map.contains_key(x)`. The capacity is generic, so the closure
-/// says what it returns. If it is a number or a constant, the closure needs no clause, as in `all_keys_of`.
+/// That all are keys of a map goes the same way, by `map.contains_key(x)`. The capacity is generic, so the closure says
+/// what it returns. If it is a number or a constant, the closure needs no clause. Then
+/// `a.iter().all(|(k, _)| b.contains_key(k))` says whether all keys of a map are in another, and is
+/// `list_all (λ p. has nat_eq b.now p.0) a.now`. That no key is there goes the same way, by `!b.contains_key(k)`, and
+/// that one is, by `any`. Whether all values are items of a set goes by `a.values()` and `set.contains(v)`.
 #[tactic(auto)]
 pub fn all_stored<const N: usize>(set: &Set<u8, N>, list: &[u8]) -> bool
     ensures { result ≡ list_all (is_member nat_eq set.now) list.now }
@@ -36,37 +40,20 @@ pub fn all_stored<const N: usize>(set: &Set<u8, N>, list: &[u8]) -> bool
     )
 }
 
-/// Returns whether all keys of a map are in another.
-/// That no key is there goes the same way, by `!b.contains_key(k)`, and that one is, by `any`. Whether all values are
-/// items of a set goes by `a.values()` and `set.contains(v)`.
-#[tactic(auto)]
-pub fn all_keys_of(a: &Map<u8, u32, 16>, b: &Map<u8, u32, 8>) -> bool
-    ensures { result ≡ list_all (λ p. has nat_eq b.now p.0) a.now }
-{
-    a.iter().all(|(k, _)| b.contains_key(k))
-}
-
 /// Returns whether a map's values are those of a list, in order.
-/// Whether two maps have the same keys in one order goes the same way, by `first.keys().eq(second.keys())`.
+/// Whether two maps have the same keys in one order goes the same way, by `first.keys().eq(second.keys())`. As far as
+/// both maps have some, `a.values().zip(b.values()).all(|(x, y)| *x == *y)` compares their values index by index. It is
+/// `list_all (λ p. p.0 == p.1) (zip (values_of a.now) (values_of b.now))`.
 pub fn has_values<const N: usize>(pairs: &Map<u8, u32, N>, list: &[u32]) -> bool
     ensures { result ≡ pointwise nat_eq (values_of pairs.now) list.now }
 {
     pairs.values().eq(list.iter())
 }
 
-/// Returns whether two maps have the same values, index by index.
-/// They are compared as far as both maps have some.
-pub fn have_equal_values<const N: usize, const M: usize>(
-    a: &Map<u8, u32, N>,
-    b: &Map<u8, u32, M>,
-) -> bool
-    ensures { result ≡ list_all (λ p. p.0 == p.1) (zip (values_of a.now) (values_of b.now)) }
-{
-    a.values().zip(b.values()).all(|(x, y)| *x == *y)
-}
-
 /// Returns whether an item that two sets share passes a test.
-/// The other operations on two sets go the same way. Whether all members pass is a fold from `true` by `&&`.
+/// The other operations on two sets go the same way. Whether all members pass is a fold from `true` by `&&`. The
+/// greatest member, or 0, goes the same way, by `fold(0, |most, x| if most < *x { *x } else { most })` and
+/// `fold max 0`: of sets whose capacities are numbers, under `#[tactic(auto)]`.
 pub fn any_common_above<const N: usize, const M: usize>(a: &Set<u8, N>, b: &Set<u8, M>) -> bool
     ensures { result ≡ fold (λ any x. any || nat_lt 9 x) false (intersection nat_eq a.now b.now) }
 {

@@ -34,30 +34,14 @@ fn whole<const N: usize>(list: &[(u8, u8)]) -> Option<Map<u8, u8, N>>
 
 /// Makes a map of pairs, or `None` if they have too many keys.
 /// It returns `None` exactly if the list has more than `N` different keys. What a function makes of each item goes the
-/// same way, by another `map`, and the list is `map (λ x. (x, x / 2)) list.now` for `|x| (*x, *x / 2)`.
+/// same way, by another `map`, and the list is `map (λ x. (x, x / 2)) list.now` for `|x| (*x, *x / 2)`. A set goes the
+/// same way, by `Set::from_all` and `distinct_or_refuse`, as in `put_list_whole`. It is `distinct nat_eq list.now`, or
+/// `None` exactly if `N < distinct_count nat_eq list.now`.
 pub fn whole_or_none<const N: usize>(list: &[(u8, u8)]) -> Option<Map<u8, u8, N>>
     ensures made { IfSome result (λ m. m ≡ build nat_eq list.now) }
     ensures refused { IsNone result ↔ (N < distinct_count nat_eq (keys_of list.now)) }
 {
     whole(list)
-}
-
-// What `distinct_halves` returns, in the word of `from_all`.
-#[tactic(auto, unfolding(micromap::specs::Extend::distinct_or_refuse))]
-fn all_halves<const N: usize>(list: &[u8]) -> Option<Set<u8, N>>
-    ensures { result ≡ distinct_or_refuse nat_eq N (map (λ x. x / 2) list.now) }
-{
-    Set::from_all(list.iter().map(|x| *x / 2))
-}
-
-/// Makes a set of what a function makes of each item, or `None`.
-/// It returns `None` exactly if there are more than `N` different results. The items themselves go the same way, by
-/// `|x| *x`.
-pub fn distinct_halves<const N: usize>(list: &[u8]) -> Option<Set<u8, N>>
-    ensures built { IfSome result (λ s. s ≡ distinct nat_eq (map (λ x. x / 2) list.now)) }
-    ensures refused { IsNone result ↔ (N < distinct_count nat_eq (map (λ x. x / 2) list.now)) }
-{
-    all_halves(list)
 }
 
 /// Makes a map of what a function makes of each item that fits.
@@ -71,7 +55,8 @@ pub fn first_halves<const N: usize>(list: &[u8]) -> Map<u8, u8, N>
 
 /// Makes a map of a list of keys and a list of values.
 /// It has each key with the value at the same index, as far as both lists go. What doesn't fit is left out. Each item
-/// with its index goes the same way, by `enumerate()` and `enumerate_from 0 list.now`.
+/// with its index goes the same way, by `enumerate()` and `enumerate_from 0 list.now`. Under the ruleset `caller` a
+/// list of words with one value goes the same way, and is `fold (λ m v. put_if_fits str_eq 16 m v 1) [] words.now`.
 #[tactic(auto)]
 pub fn zipped(keys: &[u8], values: &[u8]) -> Map<u8, u8, 16>
     ensures { result ≡ fold (λ (m : List (ℕ × ℕ)) (p : ℕ × ℕ). put_if_fits nat_eq 16 m p.0 p.1) [] (zip keys.now values.now) }
@@ -86,7 +71,9 @@ pub fn zipped(keys: &[u8], values: &[u8]) -> Map<u8, u8, 16>
 
 /// Puts pairs into a map, up to the first that doesn't fit.
 /// A `Vec` by value goes the same way, by `into_iter()`, and items that pass by `filter`. A set takes items, and is
-/// `put_all_items nat_eq set.old list.now`.
+/// `put_all_items nat_eq set.old list.now`. The items of another set are `other.iter().copied()`, and the keys of a map
+/// `other.keys().copied()`, with `keys_of`. The pairs of another map are moved by `other.drain()`, as `other.old`. Of
+/// these the first that doesn't fit and those after it are dropped.
 pub fn put_list<const N: usize>(
     pairs: &mut Map<u8, u8, N>,
     list: &[(u8, u8)],

@@ -1,8 +1,8 @@
 //! Changing one in place.
 #![tactic(auto, using(micromap::proofs::Rules::caller))]
 
-ghost use Rattle.std.specs.Int.{saturate_signed, w64};
 ghost use Rattle.std.specs.Prelude.{◌≡◌, ◌&&◌, ◌*ℤ◌, ◌*◌, ◌+◌, ◌-◌, ◌<◌, ◌^◌, [], IfSome, IsFalse, IsTrue, None, Some, drop, false, filter, if◌then◌else◌, length, map, min, nat_eq, nat_lt, not, slice_get, sum, sum_by, true};
+ghost use Rattle.std.specs.Int.{saturate_signed, w64};
 ghost use Rattle.std.specs.List.{list_all};
 ghost use Rattle.std.specs.Map.{values_of};
 ghost use Rattle.std.specs.Set.{distinct_count, is_member};
@@ -14,36 +14,21 @@ ghost use Rattle.micromap.specs.Pairs.{at, fits, has, has_room, put_if_fits, tak
 use micromap::{Map, Set};
 
 /// Keeps the pairs that pass.
-/// A set's items go the same way, by `|item|`.
+/// A set's items go the same way, by `|item|`. How many went is `before - pairs.len()`, with `let before = pairs.len()`
+/// in front: it is `length pairs.old - length pairs.new`.
 pub fn keep_above<const N: usize>(pairs: &mut Map<u8, u32, N>, limit: u32)
     ensures { pairs.new ≡ filter (λ p. nat_lt limit p.1) pairs.old }
 {
     pairs.retain(|_, value| *value > limit);
 }
 
-/// Drops the pairs that fail, and returns how many.
-pub fn expire<const N: usize>(leases: &mut Map<u8, u32, N>, now: u32) -> usize
-    ensures pairs { leases.new ≡ filter (λ p. nat_lt now p.1) leases.old }
-    ensures answer { result ≡ length leases.old - length leases.new }
-{
-    let before = leases.len();
-    leases.retain(|_, until| *until > now);
-    before - leases.len()
-}
-
 /// Changes all values.
+/// The pairs that fail then are dropped by `retain` after it: `*value = value.saturating_sub(1)` and then `*value > 0`
+/// make `filter (λ p. nat_lt 0 p.1) (map (λ p. (p.0, p.1 - 1)) pairs.old)`.
 pub fn cap<const N: usize>(pairs: &mut Map<u8, u8, N>, most: u8)
     ensures { pairs.new ≡ map (λ p. (p.0, min p.1 most)) pairs.old }
 {
     pairs.update_all(|_, value| *value = (*value).min(most));
-}
-
-/// Changes all values, and drops the pairs that fail then.
-pub fn lower<const N: usize>(pairs: &mut Map<u8, u32, N>)
-    ensures { pairs.new ≡ filter (λ p. nat_lt 0 p.1) (map (λ p. (p.0, p.1 - 1)) pairs.old) }
-{
-    pairs.update_all(|_, value| *value = value.saturating_sub(1));
-    pairs.retain(|_, value| *value > 0);
 }
 
 // Returns `true` if each amount times a factor fits.
@@ -158,8 +143,9 @@ pub fn take_first<K: Eq + Drop, V: Drop, const N: usize>(map: &mut Map<K, V, N>)
 }
 
 /// Takes all pairs out, and returns the first.
-/// The iterator must fit in memory. Iterators by value go the same way: `into_iter` under the same condition, `into_keys`
-/// under `IntoKeysFits`, `into_values` under `IntoValuesFits`, and a set's `into_iter` under `SetIntoIterFits`.
+/// The iterator must fit in memory. Iterators by value go the same way: `into_iter` under the same condition,
+/// `into_keys` under `IntoKeysFits`, `into_values` under `IntoValuesFits`, and a set's `into_iter` under
+/// `SetIntoIterFits`.
 pub fn first_drained<K: Eq + Drop, V: Drop, const N: usize>(
     map: &mut Map<K, V, N>,
 ) -> Option<(K, V)>

@@ -6,7 +6,6 @@ ghost use Rattle.std.specs.Fmt.{decimal};
 ghost use Rattle.std.specs.Map.{keys_of};
 ghost use Rattle.std.specs.String.{string_bytes};
 ghost use Rattle.micromap.specs.Build.{build, put_or_refuse};
-ghost use Rattle.micromap.specs.Items.{put_item_if_fits};
 ghost use Rattle.micromap.specs.Operations.{union};
 ghost use Rattle.micromap.specs.Pairs.{has, put_if_fits};
 ghost use Rattle.micromap.specs.Print.{map_text};
@@ -16,7 +15,9 @@ use micromap::{Map, Overfull, Set};
 use std::alloc::{AllocError, Global};
 
 /// Copies the pairs that pass.
-/// A set's items go the same way.
+/// A set's items go the same way. So do the pairs of a map with `&str` keys. Of owned texts the copy is made by
+/// `clone()?`, as in `beginning`. All pairs with other values are copied by `update_all` in the place of `retain`:
+/// `some.update_all(|_, value| *value /= 2)` makes `map (λ p. (p.0, p.1 / 2)) pairs.now`.
 pub fn above<const N: usize>(pairs: &Map<u8, u32, N>) -> Map<u8, u32, N>
     ensures { result ≡ filter (λ p. nat_lt 9 p.1) pairs.now }
 {
@@ -36,15 +37,6 @@ pub fn above_in<const N: usize, const M: usize>(
     let mut some = pairs.copied();
     some.retain(|_, value| *value > 9);
     some.into_capacity()
-}
-
-/// Copies a map with other values.
-pub fn halved<const N: usize>(pairs: &Map<u8, u32, N>) -> Map<u8, u32, N>
-    ensures { result ≡ map (λ p. (p.0, p.1 / 2)) pairs.now }
-{
-    let mut halves = pairs.copied();
-    halves.update_all(|_, value| *value /= 2);
-    halves
 }
 
 /// Copies the pairs that pass, with other values, or returns `None`.
@@ -122,8 +114,9 @@ pub fn changed<const N: usize, const M: usize>(
 }
 
 /// Copies a map whose values are cloned, in a loop.
-/// The copy is the very same list. `plan.clone()` makes it in one call; the loop is the form to start from if a value
-/// changes on its way.
+/// The copy is the very same list. `plan.clone()` makes it in one call. It does so too where keys or items are owned
+/// texts, since a clone of a `TextBuf` is the same value. The loop is the form to start from if a value changes on its
+/// way.
 #[tactic(auto, using(micromap::proofs::Rules::loops))]
 pub fn copied<const N: usize, const M: usize>(
     plan: &Map<u8, Set<u8, M>, N>,
@@ -156,6 +149,8 @@ pub fn set_of_keys<const N: usize>(pairs: &Map<u8, u32, N>) -> Result<Set<u8, N>
 }
 
 /// Makes a set of the keys whose value passes.
+/// All keys that are owned texts are copied by a loop over `ages.keys()`, with `names.insert(name.clone()?)`. The
+/// invariant then has `l.names ++ l.name-iterator ≡ keys_of l.ages`, and the same bound.
 #[tactic(auto, using(micromap::proofs::Rules::loops))]
 pub fn keys_over<const N: usize>(map: &Map<u8, u8, N>, limit: u8) -> Set<u8, N>
     ensures { result ≡ keys_of (filter (λ p. nat_lt limit p.1) map.now) }
@@ -182,23 +177,9 @@ pub fn set_of_union<const N: usize, const M: usize, const L: usize>(
     Set::try_from_iter(a.union(b).copied())
 }
 
-/// Makes a set of the items of several sets.
-/// What doesn't fit is left out.
-#[tactic(auto)]
-pub fn gathered(groups: &[Set<u8, 8>]) -> Set<u8, 16>
-    ensures { result ≡ fold (λ (s : List ℕ) (g : List ℕ).
-        fold (λ (s : List ℕ) (v : ℕ). put_item_if_fits nat_eq 16 s v) s g) [] groups.now }
-{
-    groups.iter().fold(Set::new(), |s: Set<u8, 16>, g| {
-        g.iter().fold(s, |mut s: Set<u8, 16>, v| {
-            s.checked_insert(*v);
-            s
-        })
-    })
-}
-
 /// Writes a map of numbers as a text.
-/// A set goes the same way, by `set_text`.
+/// A set goes the same way, by `set_text`. Of keys that are owned texts the clause has `λ name. Some name` in the place
+/// of `λ key. Some (decimal key)`.
 pub fn text_of_amounts<const N: usize>(
     alloc: Global,
     amounts: &Map<u8, u8, N>,

@@ -1,9 +1,9 @@
 //! Counting and adding up.
 #![tactic(auto, using(micromap::proofs::Rules::caller))]
 
+ghost use Rattle.std.specs.Prelude.{◌≡◌, ◌&&◌, ◌+ℤ◌, ◌+◌, ◌<◌, ◌^◌, ◌≤◌, ℕ, None, Option, Some, count_by, drop, fold, if◌then◌else◌, length, nat_eq, nat_lt, not, pos, sum, unwrap_or};
 ghost use Rattle.std.specs.Int.{saturate_signed, w64};
-ghost use Rattle.std.specs.Prelude.{◌≡◌, ◌&&◌, ◌+ℤ◌, ◌+◌, ◌<◌, ◌==◌, ◌^◌, ◌≤◌, ℕ, None, Option, Some, count_by, drop, fold, if◌then◌else◌, length, map, nat_eq, nat_lt, not, pos, sum, unwrap_or};
-ghost use Rattle.std.specs.List.{enumerate_from, zip};
+ghost use Rattle.std.specs.List.{zip};
 ghost use Rattle.std.specs.Map.{values_of};
 ghost use Rattle.std.specs.Option.{option_and_then};
 ghost use Rattle.std.specs.Set.{is_member};
@@ -14,7 +14,9 @@ use micromap::{Map, Set};
 
 /// Counts the pairs that pass a test.
 /// Values alone go the same way by `values()`, a set's items by `set.iter()`, and the pairs of a map by value by
-/// `into_iter()`, if its capacity is a number or a constant.
+/// `into_iter()`, if its capacity is a number or a constant. With their index the values go by `values().enumerate()`:
+/// `|(i, v)| *i == **v as usize` counts those that are their own index, as `λ p. p.0 == p.1` over
+/// `enumerate_from 0 (values_of pairs.now)`.
 pub fn count_pairs<const N: usize>(pairs: &Map<u8, u32, N>, limit: u32) -> usize
     ensures { result ≡ count_by (λ p. nat_lt limit p.1 && nat_lt p.0 9) pairs.now }
 {
@@ -67,17 +69,6 @@ pub fn count_unlisted<const N: usize, const M: usize, const L: usize>(
         .count()
 }
 
-/// Counts the values that are their own index.
-pub fn count_at_index<const N: usize>(pairs: &Map<u8, u32, N>) -> usize
-    ensures { result ≡ count_by (λ p. p.0 == p.1) (enumerate_from 0 (values_of pairs.now)) }
-{
-    pairs
-        .values()
-        .enumerate()
-        .filter(|(i, v)| *i == **v as usize)
-        .count()
-}
-
 /// Counts the empty sets of a map.
 /// The capacity of these sets is a constant, and the chain goes over `iter()`, so the closure needs no clause.
 #[tactic(auto)]
@@ -105,14 +96,6 @@ pub fn count_groups_of<const N: usize, const M: usize>(
             { s.contains(&member) },
         )
         .count()
-}
-
-/// Counts the members of an operation on two sets.
-/// The other operations go the same way.
-pub fn count_union<const N: usize, const M: usize>(a: &Set<u8, N>, b: &Set<u8, M>) -> usize
-    ensures { result ≡ length (union nat_eq a.now b.now) }
-{
-    a.union(b).count()
 }
 
 /// Adds up the values, whose sum must fit.
@@ -157,7 +140,8 @@ pub fn net<const N: usize>(amounts: &Map<u8, i64, N>) -> i64
 }
 
 /// Adds up the members of an operation on two sets.
-/// The sum must fit. Each number that is in both sets is met once.
+/// The sum must fit. Each number that is in both sets is met once. Under the ruleset `caller`, `a.union(b).count()`
+/// counts the members, and is `length (union nat_eq a.now b.now)`. The other operations go the same way.
 #[tactic(auto)]
 pub fn total_of_union<const N: usize, const M: usize>(a: &Set<u8, N>, b: &Set<u8, M>) -> u64
     requires { sum (union nat_eq a.now b.now) < 2 ^ 64 }
@@ -171,7 +155,8 @@ pub fn total_of_union<const N: usize, const M: usize>(a: &Set<u8, N>, b: &Set<u8
 }
 
 /// Adds up what a map has for each key of a list.
-/// It returns `None` if a key is missing or the sum doesn't fit.
+/// It returns `None` if a key is missing or the sum doesn't fit. Under the ruleset `caller` a list of words goes the
+/// same way, by `amounts.get_by(&Text(*name))?` and `lookup (is_str name.now) amounts.now`.
 #[tactic(auto)]
 pub fn price_of(prices: &Map<u8, u32, 16>, basket: &[u8]) -> Option<u32>
     ensures { result ≡ fold

@@ -1,13 +1,13 @@
 //! Finding and listing what is stored.
 #![tactic(auto, using(micromap::proofs::Rules::caller))]
 
-ghost use Rattle.std.specs.Prelude.{◌&&◌, ◌-◌, ◌<◌, ◌==◌, ◌↔◌, ◌≡◌, ◌≤◌, IfOk, IfSome, IsFalse, IsNone, IsTrue, List, None, Option, Some, filter, fold, if◌then◌else◌, is_none, length, map, max, nat_eq, nat_lt, position, slice_get, ℕ, []};
+ghost use Rattle.std.specs.Prelude.{◌-◌, ◌<◌, ◌==◌, ◌↔◌, ◌≡◌, ◌≤◌, IfOk, IfSome, IsFalse, IsNone, IsTrue, List, None, Option, Some, filter, fold, length, map, max, nat_eq, nat_lt, position, slice_get, ℕ, []};
 ghost use Rattle.std.specs.List.{All, Contains, find, range_with_len, reduce};
 ghost use Rattle.std.specs.Map.{keys_of, values_of};
 ghost use Rattle.std.specs.Map.Iter.{deref_pair};
 ghost use Rattle.std.specs.Option.{option_and_then, option_copied, option_map, option_or};
 ghost use Rattle.std.specs.Set.{is_member};
-ghost use Rattle.micromap.specs.Operations.{difference, union};
+ghost use Rattle.micromap.specs.Operations.{union};
 ghost use Rattle.micromap.specs.Pairs.{at};
 
 use micromap::{Map, Set};
@@ -16,7 +16,9 @@ use std::alloc::{AllocError, Global};
 /// Finds the greatest value.
 /// It returns `None` if the map is empty. The least goes the same way by `min()`, a key by `iter().map(|(k, _)| *k)`,
 /// and what passes a test by `filter` before `map`. By `copied()` in the place of `map` the search doesn't find it. Of
-/// signed values it finds neither `max()` nor `min()`: take `max_by_key` or `min_by_key`.
+/// signed values it finds neither `max()` nor `min()`: take `max_by_key` or `min_by_key`. What is made of each goes the
+/// same way: `names.keys().map(|k| k.len()).max()` is how long the longest `&str` key is, as
+/// `reduce max (map (λ k. length k.now) (keys_of names.now))`.
 pub fn greatest<const N: usize>(pairs: &Map<u8, u32, N>) -> Option<u32>
     ensures { result ≡ reduce max (values_of pairs.now) }
 {
@@ -36,15 +38,6 @@ pub fn cheapest<const N: usize>(prices: &Map<u8, u32, N>) -> Option<(u8, u32)>
     Some((*key, *price))
 }
 
-/// Finds the greatest member of an operation on two sets, or 0.
-#[tactic(auto)]
-pub fn greatest_alone(a: &Set<u8, 16>, b: &Set<u8, 16>) -> u8
-    ensures { result ≡ fold max 0 (difference nat_eq a.now b.now) }
-{
-    a.difference(b)
-        .fold(0, |most, x| if most < *x { *x } else { most })
-}
-
 /// Finds the first key that passes a test.
 /// It returns `None` if none does.
 pub fn first_key_above<const N: usize>(pairs: &Map<u8, u32, N>, limit: u8) -> Option<&u8>
@@ -53,24 +46,9 @@ pub fn first_key_above<const N: usize>(pairs: &Map<u8, u32, N>, limit: u8) -> Op
     pairs.keys().find(|k| **k > limit)
 }
 
-/// Finds the first pair whose value passes a test.
-/// It returns `None` if none does. The pair's key alone goes the same way.
-#[tactic(auto)]
-pub fn first_pair_above<const N: usize>(pairs: &Map<u8, u32, N>, limit: u32) -> Option<(u8, u32)>
-    ensures { result ≡ fold
-        (λ (found : Option (ℕ × ℕ)) (p : ℕ × ℕ). if is_none found && nat_lt limit p.1 then Some p else found) None pairs.now }
-{
-    pairs.iter().fold(None, |found: Option<(u8, u32)>, (k, v)| {
-        if found.is_none() && *v > limit {
-            Some((*k, *v))
-        } else {
-            found
-        }
-    })
-}
-
 /// Finds the first pair that passes a test, by reference.
-/// It returns `None` if none does. A `find` over pairs needs an answer, which is one law.
+/// It returns `None` if none does. A `find` over pairs needs an answer, which is one law. A loop finds the pair by
+/// value, as `first_over` does in `over`.
 #[tactic(auto)]
 pub fn pair_above<const N: usize>(pairs: &Map<u8, u32, N>, limit: u32) -> Option<(&u8, &u32)>
     ensures { option_map deref_pair result ≡ find (λ p. nat_lt limit p.1) pairs.now }
@@ -135,16 +113,9 @@ pub fn position_of<const N: usize>(pairs: &Map<u8, u32, N>, x: u32) -> Option<us
     pairs.values().position(|v| *v == x)
 }
 
-/// Finds the pair at an index.
-/// It returns `None` if there are not so many pairs.
-pub fn pair_at<const N: usize>(pairs: &Map<u8, u32, N>, index: usize) -> Option<(&u8, &u32)>
-    ensures { option_map deref_pair result ≡ slice_get pairs.now index }
-{
-    pairs.iter().nth(index)
-}
-
 /// Finds the first key and the last value.
-/// The items at both ends of a set go the same way, by `set.first().copied()` and `set.last().copied()`.
+/// The items at both ends of a set go the same way, by `set.first().copied()` and `set.last().copied()`. The pair at an
+/// index is `readings.iter().nth(index)`: `option_map deref_pair result ≡ slice_get readings.now index`.
 pub fn oldest_and_newest<const N: usize>(readings: &Map<u8, u16, N>) -> (Option<u8>, Option<u16>)
     ensures oldest { result.0 ≡ option_map (λ p. p.0) (slice_get readings.now 0) }
     ensures newest { result.1 ≡ option_map (λ p. p.1) (slice_get readings.now (length readings.now - 1)) }
@@ -179,7 +150,8 @@ pub fn follow(next: &Map<u8, u8, 16>, start: u8, steps: u8) -> Option<u8>
 }
 
 /// Lists the keys whose value passes a test in a `Vec`.
-/// All keys go the same way by `keys().copied()`, and a set's items by `set.iter().copied()`.
+/// All keys go the same way by `keys().copied()`, and a set's items by `set.iter().copied()`. All pairs of a map by
+/// value are `pairs.into_iter().collect(alloc)`, if its capacity is a number or a constant, and `v.items ≡ pairs`.
 pub fn list_of_keys_above<const N: usize>(
     alloc: Global,
     pairs: &Map<u8, u32, N>,
@@ -191,13 +163,6 @@ pub fn list_of_keys_above<const N: usize>(
         .filter(|(_, v)| **v > 9)
         .map(|(k, _)| *k)
         .collect(alloc)
-}
-
-/// Lists the pairs of a map by value in a `Vec`.
-pub fn list_of_pairs(alloc: Global, pairs: Map<u8, u32, 16>) -> Result<Vec<(u8, u32)>, AllocError>
-    ensures { IfOk result (λ v. v.items ≡ pairs) }
-{
-    pairs.into_iter().collect(alloc)
 }
 
 /// Lists the members of an operation on two sets in a `Vec`.

@@ -1,34 +1,21 @@
 //! Changing one by another.
 #![tactic(auto, using(micromap::proofs::Rules::caller))]
 
-ghost use Rattle.std.specs.Prelude.{◌≡◌, ◌<◌, ◌||◌, ◌↔◌, [], ℕ, IfSome, IsFalse, IsNone, IsTrue, List, OnOk, filter, fold, length, nat_eq, not};
+ghost use Rattle.std.specs.Prelude.{◌≡◌, ◌<◌, ◌||◌, ◌↔◌, [], ℕ, IfSome, IsFalse, IsNone, IsTrue, List, filter, fold, length, nat_eq, not};
 ghost use Rattle.std.specs.Bool.{OnTrue};
 ghost use Rattle.std.specs.Set.{is_member};
 ghost use Rattle.micromap.specs.Build.{put_all};
-ghost use Rattle.micromap.specs.Extend.{put_all_items};
 ghost use Rattle.micromap.specs.Items.{put_item_if_fits, take_item};
 ghost use Rattle.micromap.specs.Operations.{difference, union};
 ghost use Rattle.micromap.specs.Pairs.{fits, put_if_fits};
 ghost use Rattle.micromap.specs.Same.{Same};
 
-use micromap::{Map, Overfull, Set};
-
-/// Puts a map over another, all or nothing.
-/// It returns `true` if all pairs were put. After `false` they don't all fit, and nothing has changed. A set goes the
-/// same way into a set, by `put_all_items`, and two of them by `set.try_extend_from(one)?` before the second.
-pub fn reprice<const N: usize, const M: usize>(
-    prices: &mut Map<u8, u32, N>,
-    new: &Map<u8, u32, M>,
-) -> bool
-    ensures all { OnTrue result (prices.new ≡ put_all nat_eq prices.old new.now) }
-    ensures none { IsFalse result → prices.new ≡ prices.old }
-    ensures refused { IsFalse result → N < length (put_all nat_eq prices.old new.now) }
-{
-    prices.try_extend_from(new).is_ok()
-}
+use micromap::{Map, Set};
 
 /// Puts a map whose keys and values are `Copy` over another, all or nothing.
-/// It returns `true` if all pairs were put. After `false` they don't all fit, and nothing has changed.
+/// It returns `true` if all pairs were put. After `false` they don't all fit, and nothing has changed. Of numbers,
+/// `map.try_extend_from(other).is_ok()` does the same under the ruleset `caller`. A set goes the same way into a set,
+/// by `put_all_items`, and two of them as in `add_words`.
 #[tactic(auto)]
 pub fn put_over<K: Eq + Copy, V: Copy, const N: usize, const M: usize>(
     map: &mut Map<K, V, N>,
@@ -79,28 +66,6 @@ pub fn merged_any<K: Eq + Copy, V: Copy, const N: usize, const M: usize>(
     )
 }
 
-/// Moves the pairs of a map into another.
-/// The first pair that doesn't fit and those after it are dropped.
-pub fn put_drained<const N: usize, const M: usize>(
-    pairs: &mut Map<u8, u8, N>,
-    other: &mut Map<u8, u8, M>,
-) -> Result<(), Overfull>
-    ensures { OnOk result (pairs.new ≡ put_all nat_eq pairs.old other.old) }
-{
-    pairs.try_extend(other.drain())
-}
-
-/// Puts the items of a set into another.
-/// The keys of a map go the same way, by `keys().copied()` and `keys_of`.
-pub fn put_items<const N: usize, const M: usize>(
-    set: &mut Set<u8, N>,
-    other: &Set<u8, M>,
-) -> Result<(), Overfull>
-    ensures { OnOk result (set.new ≡ put_all_items nat_eq set.old other.now) }
-{
-    set.try_extend(other.iter().copied())
-}
-
 // Adds the items of another set. If it returns `true`, the set is the union. If it returns `false`, the union has more
 // than `N` items.
 #[tactic(auto, using(micromap::proofs::Rules::loops))]
@@ -145,27 +110,13 @@ pub fn pour<const N: usize, const M: usize>(from: &mut Set<u8, N>, into: &mut Se
 
 /// Drops the pairs whose key is in a set.
 /// To keep them, leave out the `!`, and the `not`. For a set of any capacity the closure says its answer, as in
-/// `keep_listed`.
+/// `lacking_any`. The pairs whose value is in such a set are kept by `set.contains(value)`, and the closure's answer is
+/// `is_member nat_eq set.entry.now value.old`. Of values of an enum the clauses name its `==` by a word of one's own,
+/// as in `is_held`.
 pub fn exclude<const N: usize>(pairs: &mut Map<u8, u32, N>, set: &Set<u8, 8>)
     ensures { pairs.new ≡ filter (λ p. not (is_member nat_eq set.now p.0)) pairs.old }
 {
     pairs.retain(|key, _| !set.contains(key));
-}
-
-/// Keeps the pairs whose value is in a set of any capacity.
-/// Of an enum with a derived `==` the clauses name that equality by a word of one's own, in the place of `nat_eq`.
-pub fn keep_listed<const N: usize, const M: usize>(
-    holders: &mut Map<u8, u8, N>,
-    listed: &Set<u8, M>,
-)
-    ensures { holders.new ≡ filter (λ p. is_member nat_eq listed.now p.1) holders.old }
-{
-    holders.retain(
-        |_: &u8, held: &mut u8| -> bool
-            ensures answer { result ≡ is_member nat_eq listed.entry.now held.old }
-            ensures same { held.new ≡ held.old }
-        { listed.contains(held) },
-    );
 }
 
 /// Takes the items of a list out of a set by value.

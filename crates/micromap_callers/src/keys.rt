@@ -2,12 +2,12 @@
 #![tactic(auto, using(micromap::proofs::Rules::caller))]
 
 ghost use Rattle.std.specs.Prelude.{◌≡◌, ◌==◌, IsTrue, Some, if◌then◌else◌, nat_eq};
+ghost use Rattle.std.proofs.Common.{rules};
+ghost use Rattle.std.proofs.lemmas.Cmp.{nat_eq_equiv, nat_list_eq_equiv};
+ghost use Rattle.std.specs.Cmp.Rules.{comparing};
 ghost use Rattle.std.specs.Map.{lookup};
 ghost use Rattle.std.specs.Ordering.{on};
-ghost use Rattle.std.specs.Cmp.Rules.{comparing};
-ghost use Rattle.std.proofs.Common.{rules};
 ghost use Rattle.std.specs.Str.{bytes_eq, str_to_ascii_lowercase};
-ghost use Rattle.std.proofs.lemmas.Cmp.{nat_eq_equiv, nat_list_eq_equiv};
 ghost use Rattle.micromap.specs.Pairs.{at, fits};
 ghost use Rattle.micromap.specs.Probe.{alike, equal};
 

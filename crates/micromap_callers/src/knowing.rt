@@ -58,7 +58,8 @@ pub fn each_below<const N: usize>(amounts: &Map<u8, u8, N>, limit: u8) -> bool
 }
 
 /// Tells by `get` that there is no pair with a key.
-/// It moves the value of another key there. If it returns `true`, there was no pair with the new key.
+/// It moves the value of another key there. If it returns `true`, there was no pair with the new key. Whether there is
+/// a pair is also told by `leases.get_key_value(&to).is_some()`, which is `has nat_eq leases.now to`.
 #[tactic(auto, using(micromap::proofs::Rules::caller))]
 pub fn reissue<const N: usize>(leases: &mut Map<u8, u8, N>, from: u8, to: u8) -> bool
     ensures { IsTrue result → pair nat_eq leases.old to ≡ None }
@@ -73,14 +74,6 @@ pub fn reissue<const N: usize>(leases: &mut Map<u8, u8, N>, from: u8, to: u8) ->
         }
         None => false,
     }
-}
-
-/// Tells by `get_key_value` whether a key is stored.
-#[tactic(auto, using(micromap::proofs::Rules::caller))]
-pub fn is_open<const N: usize>(leases: &Map<u8, u8, N>, number: u8) -> bool
-    ensures { result ≡ has nat_eq leases.now number }
-{
-    leases.get_key_value(&number).is_some()
 }
 
 /// Tells that of two equal keys both are stored, or neither.

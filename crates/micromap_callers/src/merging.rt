@@ -23,7 +23,7 @@ fn all_counts<const N: usize>(list: &[u8]) -> Option<Map<u8, usize, N>>
 
 /// Counts how often each item of a list comes.
 /// It returns `None` exactly if there are more than `N` different items. What a function makes of those that pass goes
-/// the same way, by `filter` and another `map`.
+/// the same way, by `filter` and another `map`. The helper counts a list of `&str` the same way, by `str_eq`.
 pub fn counts_or_none<const N: usize>(list: &[u8]) -> Option<Map<u8, usize, N>>
     ensures counted { IfSome result (λ m. m ≡ counts nat_eq list.now) }
     ensures refused { IsNone result ↔ (N < distinct_count nat_eq list.now) }
@@ -50,7 +50,7 @@ pub fn counted(votes: &[u8]) -> Map<u8, u32, 16>
 
 /// Adds each amount of a list to the total of its key.
 /// A total stays at the greatest number. New keys go last, in the order in which each first came. There would be more
-/// than `N` if it returns `false`.
+/// than `N` if it returns `false`. A new map of the totals is made as in `groups_of`.
 pub fn add_amounts<const N: usize>(totals: &mut Map<u8, u32, N>, amounts: &[(u8, u32)]) -> bool
     ensures totals { OnTrue result (totals.new ≡ merged nat_eq saturated_sum totals.old amounts.now) }
     ensures refused { IsFalse result → N < length (merged nat_eq saturated_sum totals.old amounts.now) }
@@ -82,27 +82,10 @@ pub fn add_then_read<const N: usize>(
     Some(totals.get(&number).copied())
 }
 
-/// Makes a map of the total of each key.
-/// It returns `None` exactly if there are more than `N` different keys. A total stays at the greatest number.
-pub fn totals_of<const N: usize>(amounts: &[(u8, u32)]) -> Option<Map<u8, u32, N>>
-    ensures totals { IfSome result (λ totals. totals ≡ merged nat_eq saturated_sum [] amounts.now) }
-    ensures refused { IsNone result ↔ (N < distinct_count nat_eq (keys_of amounts.now)) }
-{
-    let mut totals: Map<u8, u32, N> = Map::new();
-    for (number, amount) in amounts {
-        if !totals.fits(number) {
-            return None;
-        }
-        let total = totals.entry(*number).or_insert(0);
-        *total = total.saturating_add(*amount);
-    }
-    let _content = totals.len();
-    Some(totals)
-}
-
 /// Groups a list: makes a map of the members of each key.
 /// A group has the members for which its set has room. It returns `None` exactly if there are more than `N` different
-/// keys.
+/// keys. A map of the total of each key is made the same way, by `saturated_sum` in the place of `with_member M`, and
+/// in the loop `let total = totals.entry(*number).or_insert(0)` and `*total = total.saturating_add(*amount)`.
 pub fn groups_of<const N: usize, const M: usize>(
     list: &[(u8, u8)],
 ) -> Option<Map<u8, Set<u8, M>, N>>

@@ -1,14 +1,14 @@
 //! Sets as the values of a map.
 #![tactic(auto, using(micromap::proofs::Rules::caller))]
 
-ghost use Rattle.std.specs.List.{list_all};
 ghost use Rattle.std.specs.Prelude.{◌≡◌, ◌&&◌, [], ℕ, List, false, filter, fold, if◌then◌else◌, length, map, nat_eq, nat_le, nat_lt, not, unwrap_or};
+ghost use Rattle.std.specs.List.{list_all};
 ghost use Rattle.std.specs.Map.{values_of};
 ghost use Rattle.std.specs.Option.{option_map_or};
+ghost use Rattle.std.specs.Set.{is_member};
 ghost use Rattle.micromap.specs.Extend.{put_all_items};
 ghost use Rattle.micromap.specs.Items.{item_fits, put_item_if_fits, take_item};
 ghost use Rattle.micromap.specs.Pairs.{at, has, put, take_out};
-ghost use Rattle.std.specs.Set.{is_member};
 
 use micromap::{Map, Set};
 
@@ -59,8 +59,8 @@ pub fn add_items(groups: &mut Map<u8, Set<u16, 8>, 16>, group: u8, items: &Set<u
 }
 
 /// Moves the set of a key into that of another key.
-/// The pair of the first key is removed then. Nothing changes, and it returns `false`, if the two keys are equal, one is missing, or the
-/// items don't all fit.
+/// The pair of the first key is removed then. Nothing changes, and it returns `false`, if the two keys are equal, one
+/// is missing, or the items don't all fit.
 pub fn move_items(groups: &mut Map<u8, Set<u16, 8>, 16>, from: u8, into: u8) -> bool
     ensures answer { result ≡ (not (nat_eq from into) && has nat_eq groups.old from && option_map_or (λ s. nat_le (length (put_all_items nat_eq s (unwrap_or (at nat_eq groups.old from) []))) 8) (at nat_eq groups.old into) false) }
     ensures groups { groups.new ≡ (if result then take_out nat_eq (put nat_eq groups.old into (put_all_items nat_eq (unwrap_or (at nat_eq groups.old into) []) (unwrap_or (at nat_eq groups.old from) []))) from else groups.old) }
@@ -121,7 +121,8 @@ pub fn limit_all<const N: usize, const M: usize>(groups: &mut Map<u8, Set<u8, M>
 }
 
 /// Makes a set of the items of all sets of a map.
-/// What doesn't fit is left out.
+/// What doesn't fit is left out. A slice of sets goes the same way, by `groups.iter()`, with `groups.now` in the place
+/// of `values_of groups.now`.
 #[tactic(auto)]
 pub fn all_members(groups: &Map<u8, Set<u8, 8>, 8>) -> Set<u8, 16>
     ensures { result ≡ fold (λ (all : List ℕ) (group : List ℕ).

@@ -78,6 +78,7 @@ pub fn square_at(places: &Map<&str, Square, 16>, name: &str) -> Option<Square>
 }
 
 /// Returns whether two maps from `&str` to a struct with a derived `==` are the same.
+/// Where the values are `&str` too, `str_eq` stands in both places.
 pub fn are_same_places<'a, const N: usize, const M: usize>(
     one: &Map<&'a str, Square, N>,
     other: &Map<&'a str, Square, M>,

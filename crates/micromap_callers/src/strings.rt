@@ -2,7 +2,7 @@
 #![tactic(auto, using(micromap::proofs::Rules::caller))]
 
 ghost use Rattle.std.specs.Prelude.{◌≡◌, IfOk, None, Some, count_by, filter, if◌then◌else◌, is_some, not};
-ghost use Rattle.std.specs.List.{list_all, list_any};
+ghost use Rattle.std.specs.List.{list_all};
 ghost use Rattle.std.specs.Map.{lookup};
 ghost use Rattle.std.specs.Option.{option_eq, option_map};
 ghost use Rattle.std.specs.Set.{is_member};
@@ -10,20 +10,14 @@ ghost use Rattle.std.specs.Str.{bytes_eq};
 ghost use Rattle.std.specs.String.{string_bytes, string_eq};
 ghost use Rattle.micromap.specs.Items.{find_item, take_item};
 ghost use Rattle.micromap.specs.Pairs.{at, fits, has, pair, put, put_if_fits};
-ghost use Rattle.micromap.specs.Probe.{is_str, is_text};
+ghost use Rattle.micromap.specs.Probe.{is_text};
 ghost use Rattle.micromap.specs.Texts.{item_texts, key_texts, texts};
 
 use micromap::{Map, Set, Text};
 use std::alloc::{AllocError, Global};
 
-/// Reads the value at the text of a `String`.
-pub fn value<const N: usize>(map: &Map<String, u8, N>, name: &str) -> Option<u8>
-    ensures { result ≡ at bytes_eq (key_texts map.now) name.now }
-{
-    map.get_by(&Text(name)).copied()
-}
-
 /// Finds the `String` that is stored, and its value.
+/// The value alone is `map.get_by(&Text(name)).copied()`, and `at bytes_eq (key_texts map.now) name.now`.
 pub fn stored<'a, const N: usize>(
     map: &'a Map<String, u8, N>,
     name: &str,
@@ -69,14 +63,10 @@ pub fn take_word<const N: usize>(words: &mut Set<String, N>, word: &str) -> Opti
     words.take_by(&Text(word))
 }
 
-/// Removes the `String` keys that are in a set.
-pub fn drop_listed(settings: &mut Map<String, String, 32>, names: &Set<&str, 8>)
-    ensures { settings.new ≡ filter (λ p. not (list_any (is_str (string_bytes p.0)) names.now)) settings.old }
-{
-    settings.retain(|name, _| !names.contains_by(&Text(name.as_str())));
-}
-
 /// Removes the `String` keys that are in a list, by a closure that says what it returns.
+/// Where the texts are in a set whose capacity is a number or a constant, the closure needs no clause:
+/// `|name, _| !names.contains_by(&Text(name.as_str()))` leaves
+/// `filter (λ p. not (list_any (is_str (string_bytes p.0)) names.now)) settings.old`.
 pub fn drop_named(settings: &mut Map<String, String, 32>, names: &[&str])
     ensures { settings.new ≡ filter (λ p. list_all (λ name. not (bytes_eq name.now (string_bytes p.0))) names.now) settings.old }
 {
@@ -101,6 +91,8 @@ pub fn count_named(names: &[&str], settings: &Map<String, u32, 16>) -> usize
 }
 
 /// Returns whether a set of `String` has all words of a list, at any capacity.
+/// Of a set of owned texts whose capacity is a number or a constant the closure needs no clause:
+/// `|name| names.contains_by(&Text(*name))` asks `list_all (λ name. is_member bytes_eq names.now name.now) list.now`.
 pub fn knows_all<const N: usize>(words: &[&str], known: &Set<String, N>) -> bool
     ensures { result ≡ list_all (λ w. is_member bytes_eq (item_texts known.now) w.now) words.now }
 {

@@ -1,31 +1,25 @@
-//! `&str` as keys or items.
+//! `&str` as keys or items. Recipes for numbers that serve here too say so. Where keys are compared, `str_eq` stands in
+//! the place of `nat_eq` then.
 #![tactic(auto, using(micromap::proofs::Rules::caller))]
 
-ghost use Rattle.std.specs.Prelude.{◌≡◌, ◌+◌, ◌-◌, ◌<◌, ◌^◌, ◌↔◌, ◌≤◌, [], ℕ, IfErr, IfOk, IfSome, IsFalse, IsTrue, None, OnOk, Option, Some, filter, fold, if◌then◌else◌, is_some, length, map, max, min, nat_lt, not, unwrap_or};
+ghost use Rattle.std.specs.Prelude.{◌≡◌, ◌+◌, ◌-◌, ◌<◌, ◌^◌, ◌≤◌, IfErr, IfOk, IfSome, IsFalse, None, OnOk, Some, filter, if◌then◌else◌, is_some, length, map, min, not, unwrap_or};
 ghost use Rattle.std.specs.Bool.{OnTrue};
-ghost use Rattle.std.specs.List.{list_all, list_any, reduce};
-ghost use Rattle.std.specs.Map.{keys_of, lookup, values_of};
-ghost use Rattle.std.specs.Option.{option_and_then, option_map_or};
+ghost use Rattle.std.specs.List.{list_all};
+ghost use Rattle.std.specs.Map.{lookup, values_of};
+ghost use Rattle.std.specs.Option.{option_map_or};
 ghost use Rattle.std.specs.Str.{bytes_eq};
-ghost use Rattle.micromap.specs.Build.{counts_or_refuse, put_all};
+ghost use Rattle.micromap.specs.Build.{put_all};
 ghost use Rattle.micromap.specs.Extend.{put_all_items};
 ghost use Rattle.micromap.specs.Items.{IsItems};
-ghost use Rattle.micromap.specs.Pairs.{IsContent, at, fits, has, put, put_if_fits, take_out};
+ghost use Rattle.micromap.specs.Pairs.{IsContent, at, fits, put_if_fits};
 ghost use Rattle.micromap.specs.Probe.{is_str};
-ghost use Rattle.micromap.specs.Same.{Same};
 ghost use Rattle.micromap.specs.Texts.{item_strs, key_strs, str_eq};
 
 use micromap::{Map, Overfull, Set, Text};
 use std::alloc::{AllocError, Global};
 
-/// Reads the value at a `&str`.
-pub fn number_of<const N: usize>(numbers: &Map<&str, u8, N>, word: &str) -> Option<u8>
-    ensures { result ≡ at bytes_eq (key_strs numbers.now) word.now }
-{
-    numbers.get_by(&Text(word)).copied()
-}
-
 /// Sets the value at a `&str`, if it fits, and returns the old one.
+/// `numbers.get_by(&Text(word)).copied()` reads it, and is `at bytes_eq (key_strs numbers.now) word.now`.
 pub fn set<'a, const N: usize>(
     numbers: &mut Map<&'a str, u8, N>,
     word: &'a str,
@@ -67,60 +61,6 @@ pub fn count_word<'a, const N: usize>(counts: &mut Map<&'a str, u32, N>, word: &
     }
 }
 
-/// Moves a value from one `&str` to another, which goes to its index or to the end.
-///
-/// It returns `false`, and nothing changes, if there is none.
-pub fn rename<'a, const N: usize>(
-    numbers: &mut Map<&'a str, u8, N>,
-    from: &'a str,
-    to: &'a str,
-) -> bool
-    ensures answer { result ≡ has bytes_eq (key_strs numbers.old) from.now }
-    ensures numbers { key_strs numbers.new ≡ option_map_or (λ v. put bytes_eq (take_out bytes_eq (key_strs numbers.old) from.now) to.now v) (at bytes_eq (key_strs numbers.old) from.now) (key_strs numbers.old) }
-{
-    match numbers.remove(&from) {
-        Some(number) => {
-            numbers.insert(to, number);
-            true
-        }
-        None => false,
-    }
-}
-
-/// Returns whether a `&str` key passes.
-pub fn any_long<const N: usize>(names: &Map<&str, u64, N>) -> bool
-    ensures { result ≡ list_any (λ k. nat_lt 5 (length k.now)) (keys_of names.now) }
-{
-    names.keys().any(|k| k.len() > 5)
-}
-
-/// Finds how many bytes the longest `&str` key has, if any.
-pub fn longest<const N: usize>(names: &Map<&str, u64, N>) -> Option<usize>
-    ensures { result ≡ reduce max (map (λ k. length k.now) (keys_of names.now)) }
-{
-    names.keys().map(|k| k.len()).max()
-}
-
-/// Copies the pairs with `&str` keys whose value passes.
-pub fn large<'a, const N: usize>(names: &Map<&'a str, u64, N>) -> Map<&'a str, u64, N>
-    ensures { result ≡ filter (λ p. nat_lt 5 p.1) names.now }
-{
-    let mut some = names.copied();
-    some.retain(|_, value| *value > 5);
-    some
-}
-
-/// Adds up the values of a list of words, or returns `None` if one is missing or the sum doesn't fit.
-pub fn sum_named(names: &[&str], amounts: &Map<&str, u32, 16>) -> Option<u32>
-    ensures { result ≡ fold (λ (sum : Option ℕ) name. option_and_then (λ s. option_and_then (λ n. if nat_lt (s + n) (2 ^ 32) then Some (s + n) else None) (lookup (is_str name.now) amounts.now)) sum) (Some 0) names.now }
-{
-    names.iter().fold(Some(0), |sum: Option<u32>, name| {
-        let so_far = sum?;
-        let amount = amounts.get_by(&Text(*name))?;
-        so_far.checked_add(*amount)
-    })
-}
-
 /// Changes each value by what another map has at its `&str` key.
 pub fn limit_each<const N: usize>(amounts: &mut Map<&str, u32, N>, limits: &Map<&str, u32, 16>)
     ensures { amounts.new ≡ map (λ p. (p.0, option_map_or (min p.1) (lookup (is_str p.0.now) limits.now) p.1)) amounts.old }
@@ -149,34 +89,6 @@ pub fn unused_words<'a>(
             { bindings.values().all(|used| *used != *word) },
         )
         .collect(alloc)
-}
-
-/// Returns whether two maps with `&str` keys are the same.
-pub fn have_same_settings<'a, const N: usize, const M: usize>(
-    one: &Map<&'a str, &'a str, N>,
-    other: &Map<&'a str, &'a str, M>,
-) -> bool
-    ensures { IsTrue result ↔ Same str_eq str_eq one.now other.now }
-{
-    one.eq_with(other)
-}
-
-/// Counts how often each word of a list comes, or returns `None` if there are too many different ones.
-#[tactic(auto, unfolding(micromap_core::specs::Build::counts_or_refuse))]
-pub fn words_of<'a, const N: usize>(list: &[&'a str]) -> Option<Map<&'a str, usize, N>>
-    ensures { result ≡ counts_or_refuse str_eq N list.now }
-{
-    Map::counts_of(list.iter().map(|x| *x))
-}
-
-/// Makes a map with each word of a list and one value, as far as they fit.
-pub fn named<'a>(words: &[&'a str]) -> Map<&'a str, u32, 16>
-    ensures { result ≡ fold (λ m v. put_if_fits str_eq 16 m v 1) [] words.now }
-{
-    words.iter().fold(Map::new(), |mut m, v| {
-        m.checked_insert(*v, 1);
-        m
-    })
 }
 
 /// Puts a map with `&str` keys over another, all or nothing.
@@ -237,8 +149,8 @@ pub fn words_in<'a, const N: usize>(text: &'a str) -> Result<Set<&'a str, N>, Ov
 }
 
 /// Counts how often each word of a text comes, or returns `None` if there are more than `N` different ones.
-/// The contract says only that no two words are equal and that there are at most `N`. That of `words_of` has the
-/// counts, of a list of words.
+/// The contract says only that no two words are equal and that there are at most `N`. A list of words is counted as in
+/// `counts_or_none`, whose helper has the counts.
 pub fn count_words_in<'a, const N: usize>(text: &'a str) -> Option<Map<&'a str, usize, N>>
     ensures { IfSome result (IsContent str_eq N) }
 {

@@ -1,49 +1,29 @@
-//! Owned texts as keys or items.
+//! Owned texts as keys or items. Recipes for numbers serve here too, with `bytes_eq` in the place of `nat_eq`, and with
+//! `clone()?` in the place of `copied()`.
 #![tactic(auto, using(micromap::proofs::Rules::caller))]
 
-ghost use Rattle.std.specs.Prelude.{◌≡◌, ◌↔◌, ◌<◌, ◌+◌, ◌-◌, ◌^◌, [], IfOk, IsFalse, IsNone, None, Some, filter, length, map, min, nat_eq, nat_lt, string_bytes, unwrap_or};
+ghost use Rattle.std.specs.Prelude.{◌≡◌, ◌↔◌, ◌<◌, ◌+◌, ◌-◌, ◌^◌, [], IfOk, IsFalse, IsNone, filter, length, map, min, nat_eq, unwrap_or};
 ghost use Rattle.std.specs.Bool.{OnTrue};
-ghost use Rattle.std.specs.Fmt.{decimal};
-ghost use Rattle.std.specs.List.{list_all, starts_with};
-ghost use Rattle.std.specs.Map.{keys_of, remove_entry};
-ghost use Rattle.std.specs.Option.{IfSome, option_and_then, option_map_or};
-ghost use Rattle.std.specs.Set.{is_member};
+ghost use Rattle.std.specs.List.{starts_with};
+ghost use Rattle.std.specs.Map.{remove_entry};
+ghost use Rattle.std.specs.Option.{IfSome, option_map_or};
 ghost use Rattle.std.specs.Str.{bytes_eq};
 ghost use Rattle.micromap.specs.Build.{put_all};
 ghost use Rattle.micromap.specs.Extend.{put_all_items};
-ghost use Rattle.micromap.specs.Operations.{difference, union};
+ghost use Rattle.micromap.specs.Operations.{union};
 ghost use Rattle.micromap.specs.Pairs.{at, fits, has, put, put_if_fits};
-ghost use Rattle.micromap.specs.Print.{map_text};
 
 use micromap::{Map, Set, Text, TextBuf};
 use std::alloc::{AllocError, Global};
 
 /// Reads the value at a text.
+/// A text that is found leads on to another map:
+/// `hosts.get_by(&Text(service)).and_then(|host| ports.get(host)).copied()` is
+/// `option_and_then (λ host. at bytes_eq ports.now host) (at bytes_eq hosts.now service.now)`.
 pub fn age_at<const N: usize>(ages: &Map<TextBuf, u8, N>, name: &str) -> Option<u8>
     ensures { result ≡ at bytes_eq ages.now name.now }
 {
     ages.get_by(&Text(name)).copied()
-}
-
-/// Follows a text to another one, and reads the value there.
-pub fn port_of(
-    hosts: &Map<TextBuf, TextBuf, 8>,
-    ports: &Map<TextBuf, u16, 8>,
-    service: &str,
-) -> Option<u16>
-    ensures { result ≡ option_and_then (λ host. at bytes_eq ports.now host) (at bytes_eq hosts.now service.now) }
-{
-    hosts
-        .get_by(&Text(service))
-        .and_then(|host| ports.get(host))
-        .copied()
-}
-
-/// Returns whether a set has all texts of a list.
-pub fn has_all(names: &Set<TextBuf, 16>, list: &[&str]) -> bool
-    ensures { result ≡ list_all (λ name. is_member bytes_eq names.now name.now) list.now }
-{
-    list.iter().all(|name| names.contains_by(&Text(*name)))
 }
 
 /// Sets the value at a text, if it fits, and returns whether it did.
@@ -85,7 +65,9 @@ pub fn count<const N: usize>(
 
 /// Moves a value from one text to another, which goes to its index or to the end.
 ///
-/// It returns `false`, and nothing changes, if there is none.
+/// It returns `false`, and nothing changes, if there is none. Of `&str` keys `remove(&from)` takes the value. What
+/// `key_strs` shows of the map is said the same way, with `take_out bytes_eq (key_strs ages.old) from.now` in the place
+/// of `remove_entry`.
 pub fn rename<const N: usize>(ages: &mut Map<TextBuf, u8, N>, from: &str, to: TextBuf) -> bool
     ensures answer { result ≡ has bytes_eq ages.old from.now }
     ensures ages { ages.new ≡ option_map_or (λ age. put bytes_eq (remove_entry (bytes_eq from.now) ages.old) to age) (at bytes_eq ages.old from.now) ages.old }
@@ -111,28 +93,6 @@ pub fn beginning<const N: usize>(
     Ok(kept)
 }
 
-/// Copies the pairs whose value passes.
-pub fn above<const N: usize>(
-    ages: &Map<TextBuf, u8, N>,
-    limit: u8,
-) -> Result<Map<TextBuf, u8, N>, AllocError>
-    ensures { IfOk result (λ new. new ≡ filter (λ p. nat_lt limit p.1) ages.now) }
-{
-    let mut kept = ages.clone()?;
-    kept.retain(|_, age| *age > limit);
-    Ok(kept)
-}
-
-/// Copies a map of sets of texts.
-/// A clone of a `TextBuf` is the same value, and so is that of a set of them. So the copy is the very same list.
-pub fn plan_of<const N: usize>(
-    needs: &Map<TextBuf, Set<TextBuf, 4>, N>,
-) -> Result<Map<TextBuf, Set<TextBuf, 4>, N>, AllocError>
-    ensures { IfOk result (λ new. new ≡ needs.now) }
-{
-    needs.clone()
-}
-
 /// Copies the texts of a list into a set, or refuses them if there are more than `N` different ones.
 #[tactic(auto, using(micromap::proofs::Rules::loops))]
 pub fn names_of<const N: usize>(
@@ -151,19 +111,9 @@ pub fn names_of<const N: usize>(
     Ok(Some(names))
 }
 
-/// Copies the keys of a map into a set.
-#[tactic(auto, using(micromap::proofs::Rules::loops))]
-pub fn keys<const N: usize>(ages: &Map<TextBuf, u8, N>) -> Result<Set<TextBuf, N>, AllocError>
-    ensures { IfOk result (λ new. new ≡ keys_of ages.now) }
-{
-    let mut names = Set::new();
-    for name in ages.keys() {
-        names.insert(name.clone()?);
-    }
-    Ok(names)
-}
-
 /// Copies the texts of two sets into one, and knows exactly that there are too many.
+/// The texts of one set that another lacks are copied by `names.sub(other)`, which is
+/// `difference bytes_eq names.now other.now`, and those that both have by `bitand`.
 #[tactic(auto, using(micromap::proofs::Rules::loops))]
 pub fn union_of<const N: usize, const M: usize, const L: usize>(
     one: &Set<TextBuf, M>,
@@ -180,18 +130,6 @@ pub fn union_of<const N: usize, const M: usize, const L: usize>(
         names.insert(name.clone()?);
     }
     Ok(Some(names))
-}
-
-/// Copies the texts of one set that another lacks.
-///
-/// Those that both have are `bitand`.
-pub fn beyond<const N: usize, const M: usize>(
-    names: &Set<TextBuf, N>,
-    other: &Set<TextBuf, M>,
-) -> Result<Set<TextBuf, N>, AllocError>
-    ensures { IfOk result (λ new. new ≡ difference bytes_eq names.now other.now) }
-{
-    names.sub(other)
 }
 
 // Puts the pairs of another map over those of a map, up to the first that doesn't fit.
@@ -226,14 +164,4 @@ pub fn merged<const N: usize, const M: usize>(
     }
     let _content = merged.len();
     Ok(Some(merged))
-}
-
-/// Prints a map whose keys are texts.
-pub fn shown<const N: usize>(
-    alloc: Global,
-    ages: &Map<TextBuf, u8, N>,
-) -> Result<String, AllocError>
-    ensures { IfOk result (λ text. map_text (λ name. Some name) (λ age. Some (decimal age)) ages.now ≡ Some (string_bytes text)) }
-{
-    format!(in alloc; "{ages}")
 }
