@@ -5,13 +5,12 @@
 ghost use Rattle.std.specs.Prelude.{◌≡◌, ◌↔◌, ◌<◌, ◌+◌, ◌-◌, ◌^◌, [], IfOk, IsFalse, IsNone, filter, length, map, min, nat_eq, unwrap_or};
 ghost use Rattle.std.specs.Bool.{OnTrue};
 ghost use Rattle.std.specs.List.{starts_with};
-ghost use Rattle.std.specs.Map.{remove_entry};
 ghost use Rattle.std.specs.Option.{IfSome, option_map_or};
 ghost use Rattle.std.specs.Str.{bytes_eq};
 ghost use Rattle.micromap.specs.Build.{put_all};
 ghost use Rattle.micromap.specs.Extend.{put_all_items};
 ghost use Rattle.micromap.specs.Operations.{union};
-ghost use Rattle.micromap.specs.Pairs.{at, fits, has, put, put_if_fits};
+ghost use Rattle.micromap.specs.Pairs.{at, fits, has, put, put_if_fits, take_out};
 
 use micromap::{Map, Set, Text, TextBuf};
 use std::alloc::{AllocError, Global};
@@ -65,12 +64,11 @@ pub fn count<const N: usize>(
 
 /// Moves a value from one text to another, which goes to its index or to the end.
 ///
-/// It returns `false`, and nothing changes, if there is none. Of `&str` keys `remove(&from)` takes the value. What
-/// `key_strs` shows of the map is said the same way, with `take_out bytes_eq (key_strs ages.old) from.now` in the place
-/// of `remove_entry`.
+/// It returns `false`, and nothing changes, if there is none. Of `&str` keys `remove(&from)` takes the value, and
+/// `key_strs ages` stands in the place of the map.
 pub fn rename<const N: usize>(ages: &mut Map<TextBuf, u8, N>, from: &str, to: TextBuf) -> bool
     ensures answer { result ≡ has bytes_eq ages.old from.now }
-    ensures ages { ages.new ≡ option_map_or (λ age. put bytes_eq (remove_entry (bytes_eq from.now) ages.old) to age) (at bytes_eq ages.old from.now) ages.old }
+    ensures ages { ages.new ≡ option_map_or (λ age. put bytes_eq (take_out bytes_eq ages.old from.now) to age) (at bytes_eq ages.old from.now) ages.old }
 {
     match ages.remove_by(&Text(from)) {
         Some(age) => {
