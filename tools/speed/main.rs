@@ -1,4 +1,4 @@
-//! Times the workloads of `crates/micromap_speed` at the Rust crate, at that static library and at `layout`, in turns, and
+//! Times `workloads` at the Rust crate, at the static library that is made of that folder and at `layout`, in turns, and
 //! prints lines of words with tabs between them, for `tools/compare` to make its tables of:
 //!
 //!     time  SUBJECT  WORKLOAD  CAPACITY  NANOSECONDS  RATIO..
@@ -14,20 +14,20 @@
 //! crate's.
 
 // The files of workloads are those of the static library, so that both sides run the same text.
-#[path = "../../crates/micromap_speed/src/both.rt"]
+#[path = "workloads/both.rs"]
 mod both;
-#[path = "../../crates/micromap_speed/src/bytes.rt"]
+#[path = "workloads/bytes.rs"]
 mod bytes;
-#[path = "../../crates/micromap_speed/src/inputs.rt"]
+#[path = "workloads/inputs.rs"]
 mod inputs;
 mod layout;
-#[path = "../../crates/micromap_speed/src/numbers.rt"]
+#[path = "workloads/numbers.rs"]
 mod numbers;
 mod platform;
 mod rust_crate;
-#[path = "../../crates/micromap_speed/src/texts.rt"]
+#[path = "workloads/texts.rs"]
 mod texts;
-#[path = "../../crates/micromap_speed/src/wide.rt"]
+#[path = "workloads/wide.rs"]
 mod wide;
 
 use layout::Columns;

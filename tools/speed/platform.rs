@@ -1,4 +1,4 @@
-//! What the workloads take from the language, in the place of the module of that name in `crates/micromap_speed`.
+//! What the workloads take from the language, in the place of the module of that name in `workloads`.
 
 /// Rust's own allocator, which isn't handed on.
 #[derive(Clone, Copy)]

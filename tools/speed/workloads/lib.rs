@@ -1,10 +1,11 @@
 //! Workloads over this library's map and set, for the driver in `tools/speed` that times them beside the Rust crate's.
+//! `tools/compare` makes a crate of these files, which end in `.rs` since the gate reads every `.rt` file.
 //!
 //! `inputs` and the files of workloads (`both`, `bytes`, `numbers`, `texts` and `wide`) have no clause and are Rust as well:
 //! the driver compiles the same files. `library` has the workloads' calls at this library's types, and `scan`,
 //! `index_map`, `hash_map` and `btree_map` have them at types that a user might take in their place. `builds` has calls beside
 //! the loops that they replace, and `json` is timed alone. A workload is proved to be safe and to end. The driver compares
-//! what it returns.
+//! what it returns. `tests` runs each without proof.
 #![tactic(auto)]
 
 ghost use Rattle.std.specs.Prelude.{◌≤◌};
@@ -21,6 +22,8 @@ mod library;
 pub mod numbers;
 pub mod platform;
 mod scan;
+#[cfg(test)]
+mod tests;
 pub mod texts;
 pub mod wide;
 
