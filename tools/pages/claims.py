@@ -37,8 +37,7 @@ Some rewrite answers, or the loop's invariant, for the wrong body. So an answer 
 It isn't tried whether the search proves the right body there.
 - One goal of each edit is recorded. It may have others.
 - Some bodies are those of an inner function on which the call rests. Then the recorded goal is one of that function's. It belongs to the same \
-clause, or to one that the call's proof uses. This doesn't show that the call's own clause says enough. \
-Four clauses have no other refusal at a goal: `succeeds` of `Map::clone`, `memory` of `map_from_json` and of `set_from_json`, and `into_iter_gives` of a map.
+clause, or to one that the call's proof uses. This doesn't show that the call's own clause says enough.
 - *Written proof* stands before a goal if only a proof that was written by hand refused the body. This shows no more than \
 that the proof doesn't serve the wrong body.
 
@@ -213,7 +212,7 @@ class Claims:
 
     def totals(self):
         """The table of these."""
-        names = ["with an edit that a goal of a contract, an invariant or a call's condition refuses", "of these, by an edit that leaves the proof as it is, at a goal that names no other clause", "of these, only by edits that change the proof too", "of these, recorded only at a goal that names another clause"]
+        names = ["with an edit that a goal of a contract, an invariant or a call's condition refuses", "of these, by an edit that leaves the proof as it is, at a goal that names no other clause", "of these, only by edits that change the proof too", "of these, recorded only at a goal that names another clause; some are in the row above too"]
         names += ["with edits that only a written proof refuses"]
         names += [f"[without an edit](#{anchor(WITHOUT)}), but of a call of which `rt plant`, a tool of the kit, had a wrong body refused", "with none of these", "all"]
         yield "| The library's clauses | |\n|---|---|"
