@@ -5,11 +5,11 @@ use Rattle.micromap_core.proofs.Laws.ComparisonLaws.{same_laws}
 use Rattle.micromap_core.proofs.Laws.CountLaws.{count_laws}
 use Rattle.micromap_core.proofs.Laws.LoopLaws.{closure_laws, each_left_map, loop_laws, sum_laws, walk_laws}
 use Rattle.micromap_core.proofs.Laws.MapLaws.{map_laws}
-use Rattle.micromap_core.proofs.Laws.TextLaws.{extended_texts, text_laws, texts_clone}
+use Rattle.micromap_core.proofs.Laws.TextLaws.{extended_texts, text_laws}
 use Rattle.micromap.proofs.Laws.ChainLaws.{chain_laws}
 use Rattle.micromap.proofs.Laws.SetLaws.{set_laws}
 use Rattle.micromap.proofs.Laws.SetLoopLaws.{item_counts, set_loop_laws}
-use Rattle.micromap.proofs.Laws.SetTextLaws.{each_item_str, each_item_text, each_str_item, each_text_item, extended_item_texts, set_text_laws, set_text_operations}
+use Rattle.micromap.proofs.Laws.SetTextLaws.{extended_item_texts, set_text_laws}
 
 -- what most functions need: changes of a map or a set, texts, sums, closures, chains of iterators, and lists that are put,
 -- counted or merged
@@ -32,16 +32,8 @@ pub ruleset caller = (
 -- loops that build or change a map or a set
 pub ruleset loops = (loop_laws, set_loop_laws, each_left_map)
 
--- two maps or two sets that are the same, within each other or apart, and clones
-pub ruleset comparison = (
-  same_laws,
-  texts_clone,
-  each_item_text,
-  each_text_item,
-  each_item_str,
-  each_str_item,
-  set_text_operations,
-)
+-- two maps that are the same, once both are changed
+pub ruleset comparison = (same_laws)
 
 -- what a search needs beside `caller` where a closure computes with signed numbers
 pub ruleset signed = (ints, to_z-of_z)

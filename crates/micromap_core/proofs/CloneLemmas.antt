@@ -10,7 +10,7 @@ use Rattle.std.proofs.lemmas.Bool.{false≢true}
 use Rattle.std.proofs.lemmas.List.Elements.{All-get_or, all_zip_more, length_all_zip}
 use Rattle.std.proofs.lemmas.Option.{get_or_from_slice_get, slice_get_within}
 use Rattle.micromap_core.specs.Clones.{IsPairClone}
-use Rattle.micromap_core.specs.Pairs.{IsContent, IsUnique}
+use Rattle.micromap_core.specs.Pairs.{IsUnique}
 
 -- what holds of all holds of the one at an index
 pub all_at : {X : Type 0} (P : X → Type 0) (xs : List X) (i : ℕ) (x : X) → slice_get xs i ≡ Some x
@@ -90,14 +90,3 @@ module _ {K V : Type 0} (eq : K → K → Bool) (laws : IsEquivalence eq) (C : K
     apart_all p.0 q.0 clones.0.0 i ps qs clones.1 unique.0,
     unique_clones i ps qs clones.1 unique.1,
   )
-
-  -- the clones of what a map may hold are what a map may hold
-  pub IsContent-clones : (N : ℕ) (ps qs : List (K × V)) → AllZip (IsPairClone C D) ps qs
-      → IsContent eq N ps → IsContent eq N qs
-  IsContent-clones N ps qs clones content = record {
-    unique = unique_clones (length ps) ps qs
-        (subst (λ l. AllZip (IsPairClone C D) l qs) (sym (take_all (length ps) ps (omega arith)))
-        clones) content.unique;
-    bounded = subst (λ n. n ≤ N) (length_all_zip (IsPairClone C D) ps qs clones) content.bounded;
-    lawful = content.lawful;
-  }

@@ -8,7 +8,7 @@ use Rattle.std.specs.Fn.{Mut}
 use Rattle.std.specs.List.{swap, FoldsTo, enumerate_from, list_any, fold, items_where_true}
 use Rattle.std.specs.Map.Calls.{CallableOnEachPair, RetainsPairs}
 use Rattle.std.specs.Option.{IfSome, option_map_or}
-use Rattle.std.proofs.lemmas.List.{drop-set-lt, drop_all, length-set, take-set-le, map-id, take-append-drop, take_more, take_more_set, map_push, take_all}
+use Rattle.std.proofs.lemmas.List.{drop-set-lt, drop_all, length-set, take-set-le, take-append-drop, take_more, take_more_set, map_push, take_all}
 use Rattle.std.proofs.lemmas.List.Edits.{length-swap}
 use Rattle.std.proofs.lemmas.Option.{slice_get_within, get_or_from_slice_get, slice_get-get_or}
 use Rattle.micromap_core.specs.Closures.{AcceptsPair, CalledOnPair, VisitsAt, AcceptsValue, AtEachTurn, CalledOnValue}
@@ -303,17 +303,6 @@ module _ {F K V R A : Type 0}
         ap (map see) turn.3 ∙ map_push see now (p.0, turn.1)
             ∙ (λ i. before i ++ said.0 i ∷ []) ∙ sym (map_push (λ p. h (see p)) done p),
       )) pairs [] (last, new) refl turns
-
--- `update_all` by a function of key and value
-pub updated_by : {F K V R : Type 0}
-    {g : Mut F (Bor K × (MutBor V × Unit {0})) (R × (MutBor V × Unit {0}))} {f : F}
-    {pairs new : List (K × V)} (h : K → V → V) → UpdatesAll g f pairs new
-    → ((k : K) (v : V) (r : R) (w : V) (t : F) → CalledOnPair g f k v r w t → (w ≡ h k v) × (t ≡ f))
-    → new ≡ map (λ p. (p.0, h p.0 p.1)) pairs
-updated_by {g = g} {f = f} {pairs = pairs} {new = new} h updates pure =
-    sym (map-id new) ∙ seen g f updates.last pairs new (λ p. p)
-    (λ p. (p.0, h p.0 p.1)) updates.turns (λ k v r w t said. let is = pure k v r w t said in
-    ((λ i. (k, is.0 i)), is.1))
 
 -- `update_disjoint` by a function of position and value
 pub updated_at_keys : {F K V R : Type 0} {eq : K → K → Bool}

@@ -1,12 +1,10 @@
 -- What the words of lists make of a list of which each element is seen by a function.
-use Rattle.std.proofs.Common.{◌≡◌, ℕ, Bool, false, ◌&&◌, ◌||◌, inl, inr, IsTrue, List, [], ◌∷◌, Option, Some, filter}
-use Rattle.std.proofs.Common.{map, slice_get, refl, ap, ◌∙◌, arith, option_map}
+use Rattle.std.proofs.Common.{◌≡◌, ℕ, Bool, false, ◌&&◌, ◌||◌, List, [], ◌∷◌, Option, Some}
+use Rattle.std.proofs.Common.{map, refl, ap, ◌∙◌, arith, option_map}
 use Rattle.std.specs.Fmt.{◌++?◌, comma_space, debug_items}
 use Rattle.std.specs.List.{AllByRecursion, AllZip, IsDistinct, find, list_all, list_any}
 use Rattle.std.specs.Ordering.{on}
 use Rattle.std.specs.Set.{remove_key, swap_key}
-use Rattle.std.proofs.lemmas.Bool.{cases_Bool}
-use Rattle.std.proofs.lemmas.Grind.{common_steps}
 use Rattle.std.proofs.lemmas.List.Folds.{list_all-map}
 use Rattle.micromap_core.specs.Same.{have_equal_items}
 
@@ -21,10 +19,6 @@ module _ {X Y : Type 0} (f : X → Y) where
     find-map [] = refl
     find-map (x ∷ xs) = grind (arith, find-map xs)
 
-    pub filter-map : (xs : List X) → map f (filter (λ x. test (f x)) xs) ≡ filter test (map f xs)
-    filter-map [] = refl
-    filter-map (x ∷ xs) = grind (arith, common_steps, filter-map xs)
-
     pub remove_key-map : (xs : List X)
         → map f (remove_key (λ x. test (f x)) xs) ≡ remove_key test (map f xs)
     remove_key-map [] = refl
@@ -34,10 +28,6 @@ module _ {X Y : Type 0} (f : X → Y) where
         → map f (swap_key (λ x. test (f x)) xs y) ≡ swap_key test (map f xs) (f y)
     swap_key-map [] y = refl
     swap_key-map (x ∷ xs) y = grind (arith, swap_key-map xs y)
-
-  pub front-map : (xs : List X) → slice_get (map f xs) 0 ≡ option_map f (slice_get xs 0)
-  front-map [] = refl
-  front-map (x ∷ xs) = refl
 
   -- by an equality of what is seen
   module _ (eq : Y → Y → Bool) where
@@ -86,12 +76,3 @@ module _ {X Y : Type 0} (f : X → Y) where
   printed-map text lead [] = refl
   printed-map text lead (x ∷ xs) =
       ap (λ rest. Some lead ++? text (f x) ++? rest) (printed-map text comma_space xs)
-
--- either no item passes a test, or one does
-pub by_items : {T : Type 0} (test : T → Bool) (items : List T) (P : Type 0)
-    → (list_any test items ≡ false → P) → ((x : T) → IsTrue (test x) → P) → P
-by_items test [] P none some = none refl
-by_items test (x ∷ items) P none some = elim (cases_Bool (test x)) [
-  | inl passes ↦ some x passes
-  | inr fails ↦ by_items test items P (λ rest. none (grind (arith, fails, rest))) some
-]

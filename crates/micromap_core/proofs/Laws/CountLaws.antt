@@ -1,24 +1,20 @@
 -- For callers: what a map has into which a loop merges values (`merged`): after one item more, at each key, and how many
--- keys there are; how many distinct keys a list has with one more, how many keys a map has after a list is put into it,
--- and what a counter has. The ruleset `caller` of `Rules` has those that a search needs.
+-- keys there are; how many keys a map has after a list is put into it, and what a counter has. The ruleset `caller` of `Rules` has those that a search needs.
 use Rattle.std.proofs.Common.{◌≡◌, ℕ, ◌+◌, ◌<◌, ◌≤◌, ◌||◌, Bool, true, false, List, [], ◌∷◌, ◌++◌, filter, length}
-use Rattle.std.proofs.Common.{map, get_or, take, Option, Some, refl, ap, sym, ◌∙◌, arith, unwrap_or, fold, drop, cond}
-use Rattle.std.proofs.Common.{if◌then◌else◌, subst, append_assoc}
+use Rattle.std.proofs.Common.{map, get_or, take, Option, Some, refl, ap, sym, ◌∙◌, arith, unwrap_or, fold, cond}
 use Rattle.std.specs.List.{count_by, fold, list_any}
 use Rattle.std.specs.Map.{keys_of, values_of}
-use Rattle.std.specs.Set.{distinct_count, is_member}
-use Rattle.std.proofs.Math.Bool.{or-false}
+use Rattle.std.specs.Set.{distinct_count}
 use Rattle.std.proofs.lemmas.Grind.{common_steps}
-use Rattle.std.proofs.lemmas.List.{map-append, nil_from_length, take_all, append-nil, length-map, length-take, map-id}
-use Rattle.std.proofs.lemmas.List.{take-append-drop, take-map}
-use Rattle.std.proofs.lemmas.List.Folds.{fold-map, list_any-append}
-use Rattle.std.proofs.lemmas.List.Sums.{fold-append, fold_more, fold_push, count_by-le-length}
+use Rattle.std.proofs.lemmas.List.{map-append, nil_from_length, take_all, length-take, map-id}
+use Rattle.std.proofs.lemmas.List.Folds.{fold-map}
+use Rattle.std.proofs.lemmas.List.Sums.{fold_more, fold_push, count_by-le-length}
 use Rattle.std.proofs.lemmas.Map.Entries.{length-keys_of}
-use Rattle.std.proofs.lemmas.Map.Made.{is_some-lookup, length-from_keys}
-use Rattle.micromap_core.specs.Build.{count_one, counts, merge_pair, merged, build, put_all}
+use Rattle.std.proofs.lemmas.Map.Made.{is_some-lookup}
+use Rattle.micromap_core.specs.Build.{count_one, counts, merge_pair, merged, put_all}
 use Rattle.micromap_core.specs.Equalities.{Lawful}
 use Rattle.micromap_core.specs.Pairs.{at, fits, has, IsUnique, put}
-use Rattle.micromap_core.proofs.BuildLemmas.{distinct-fold, fold_beyond, fold_grows, length-fold, member-fold}
+use Rattle.micromap_core.proofs.BuildLemmas.{distinct-fold, fold_beyond, length-fold, member-fold}
 use Rattle.micromap_core.proofs.BuildLemmas.{puts_keyed, IsKeyed, length-built}
 use Rattle.micromap_core.proofs.Lists.{all_read, taken_read}
 use Rattle.micromap_core.proofs.Laws.Equalities.{of_lawful}
@@ -34,11 +30,6 @@ module _ {K V W : Type 0} (eq : K → K → Bool) (step : Option V → W → V) 
       → merged eq step pairs (item ∷ items) ≡ merged eq step (merge_pair eq step pairs item) items
   unfolding merged
   merged_first pairs item items = refl
-
-  pub merged_append : (pairs : List (K × V)) (items others : List (K × W))
-      → merged eq step pairs (items ++ others) ≡ merged eq step (merged eq step pairs items) others
-  unfolding merged
-  merged_append pairs items others = fold-append (merge_pair eq step) pairs items others
 
   pub merged_push : (pairs : List (K × V)) (items : List (K × W)) (item : K × W)
       → merged eq step pairs (items ++ item ∷ [])
@@ -96,19 +87,6 @@ module _ {K V W : Type 0} (eq : K → K → Bool) (step : Option V → W → V) 
   unfolding merged
   length_merged pairs items laws unique = sym (length-keys_of (merged eq step pairs items))
       ∙ length-fold (of_lawful eq laws) merges_keyed pairs items unique
-
-  -- with more items there are no fewer
-  pub merged_grows : (pairs : List (K × V)) (items : List (K × W)) (i : ℕ) → Lawful eq
-      → IsUnique eq pairs → length (merged eq step pairs (take i items)) ≤ length
-      (merged eq step pairs items)
-  unfolding merged
-  merged_grows pairs items i laws unique =
-      omega (
-        arith,
-        fold_grows (of_lawful eq laws) merges_keyed pairs items i unique,
-        length-keys_of (merged eq step pairs (take i items)),
-        length-keys_of (merged eq step pairs items),
-      )
 
   -- an item that is merged when its key is new is one more
   pub merged_beyond : (pairs : List (K × V)) (items : List (K × W)) (i : ℕ) (d : K × W)
@@ -216,60 +194,13 @@ module _ {K : Type 0} (eq : K → K → Bool) where
   unfolding merged counts
   merged_counts items = sym (fold-map (count_one eq) (λ item. item.0) [] items)
 
-module _ {K : Type 0} (eq : K → K → Bool) where
-  -- one key more counts if none before it is equal to it
-  pub distinct_push : (xs : List K) (x : K) → Lawful eq
-      → distinct_count eq (xs ++ x ∷ [])
-      ≡ (if list_any (eq x) xs then distinct_count eq xs else distinct_count eq xs + 1)
-  distinct_push [] x laws = refl
-  distinct_push (y ∷ ys) x laws =
-      let e = of_lawful eq laws in
-      let more : is_member eq (ys ++ x ∷ []) y ≡ (is_member eq ys y || eq y x) =
-      list_any-append (eq y) ys (x ∷ [])
-      ∙ ap (λ b. is_member eq ys y || b) (or-false (eq y x)) in
-      let alike : eq y x ≡ true
-      → is_member eq ys y ≡ is_member eq ys x =
-      λ same. ap (λ test. list_any test ys) (λ i k. e.congr y x k same i) in
-      grind (arith, more, alike, e.symm x y, distinct_push ys x laws)
-
-  -- a beginning of a list has at most as many distinct keys
-  pub distinct_grows : (xs ys : List K) → Lawful eq
-      → distinct_count eq xs ≤ distinct_count eq (xs ++ ys)
-  distinct_grows xs [] laws = rw (append-nil xs) (omega arith)
-  distinct_grows xs (y ∷ ys) laws =
-      grind (
-        arith,
-        append_assoc xs (y ∷ []) ys,
-        distinct_push xs y laws,
-        distinct_grows (xs ++ y ∷ []) ys laws,
-      )
-
-  pub distinct_prefix : (xs : List K) (i : ℕ) → Lawful eq
-      → distinct_count eq (take i xs) ≤ distinct_count eq xs
-  distinct_prefix xs i laws =
-      subst (λ l. distinct_count eq (take i xs) ≤ distinct_count eq l) (take-append-drop i xs)
-      (distinct_grows (take i xs) (drop i xs) laws)
-
--- how many keys a map has
+-- a list of pairs that is put
 module _ {K V : Type 0} (eq : K → K → Bool) where
-  -- if its keys are those of a list, as many as are distinct there
-  pub length_keys : (pairs : List (K × V)) (xs : List K) → Lawful eq → IsUnique eq pairs
-      → ((q : K) → has eq pairs q ≡ list_any (eq q) xs) → length pairs ≡ distinct_count eq xs
-  length_keys pairs xs laws unique keys = sym (length-keys_of pairs)
-      ∙ length-from_keys (of_lawful eq laws) _ xs unique (λ q. sym (is_some-lookup (eq q) pairs)
-      ∙ keys q)
-
-  -- and after items are put
+  -- how many keys there are then
   pub length_put_all : (pairs items : List (K × V)) → Lawful eq → IsUnique eq pairs
       → length (put_all eq pairs items) ≡ distinct_count eq (keys_of pairs ++ keys_of items)
   unfolding merged
   length_put_all = length_merged eq (λ o v. v)
-
-  -- with more items there are no fewer
-  pub put_all_grows : (pairs items : List (K × V)) (i : ℕ) → Lawful eq → IsUnique eq pairs
-      → length (put_all eq pairs (take i items)) ≤ length (put_all eq pairs items)
-  unfolding merged
-  put_all_grows = merged_grows eq (λ o v. v)
 
   pub each_put_all_take : (pairs items : List (K × V)) (i : ℕ) → Lawful eq → IsUnique eq pairs
       → (put_all eq pairs (take i items) ≡ put_all eq pairs (take i items))
@@ -304,18 +235,6 @@ module _ {K V : Type 0} (eq : K → K → Bool) where
   each_put_all_take_map read pairs items i laws unique =
       let all = each_merged_take_map eq (λ o v. v) read pairs items i in
       (refl, all.1, all.2, all.3 laws unique)
-
-  pub each_build_take_map : {X : Type 0} (read : X → K × V) (items : List X) (i : ℕ) → Lawful eq
-      → (build eq (map read (take i items)) ≡ build eq (map read (take i items)))
-      × (length items ≤ i → build eq (map read (take i items)) ≡ build eq (map read items))
-      × ((d : X) → i < length items
-      → build eq (map read (take (i + 1) items)) ≡ put eq (build eq (map read (take i items)))
-      (read (get_or items i d)).0 (read (get_or items i d)).1)
-      × ((d : X) → i < length items
-      → has eq (build eq (map read (take i items))) (read (get_or items i d)).0 ≡ false
-      → length (build eq (map read (take i items))) < length (build eq (map read items)))
-  each_build_take_map read items i laws =
-      each_put_all_take_map read [] items i laws (unique_empty V eq)
 
 -- a counter
 module _ {K : Type 0} (eq : K → K → Bool) where
@@ -420,34 +339,10 @@ module _ {K : Type 0} (eq : K → K → Bool) where
     λ d within new. counts_beyond items i d within laws new,
   )
 
-  -- of the first so many items that a function reads
-  pub each_counts_take_map : {X : Type 0} (read : X → K) (items : List X) (i : ℕ) → Lawful eq
-      → (counts eq (map read (take i items)) ≡ counts eq (map read (take i items)))
-      × (length items ≤ i → counts eq (map read (take i items)) ≡ counts eq (map read items))
-      × ((q : K) → unwrap_or (at eq (counts eq (map read (take i items))) q) 0 ≤ length items)
-      × ((d : X) → i < length items
-      → counts eq (map read (take (i + 1) items))
-      ≡ count_one eq (counts eq (map read (take i items))) (read (get_or items i d)))
-      × ((d : X) → i < length items
-      → has eq (counts eq (map read (take i items))) (read (get_or items i d)) ≡ false
-      → length (counts eq (map read (take i items))) < distinct_count eq (map read items))
-  each_counts_take_map read items i laws =
-      let all = each_counts_take (map read items) i laws in (
-        refl,
-        all_read read items i (λ l. counts eq l ≡ counts eq (map read items)) all.1,
-        λ q. grind (arith, common_steps, all.2 q, take-map read i items, length-map items read),
-        taken_read read items i
-            (λ first more x. counts eq more ≡ count_one eq (counts eq first) x) all.3,
-        taken_read read items i
-            (λ first more x. has eq (counts eq first) x ≡ false
-            → length (counts eq first) < distinct_count eq (map read items)) all.4,
-      )
-
 pub ruleset count_laws = (
   merged_none,
   merged_first,
   merged_beyond_first,
-  merged_append,
   merged_push,
   merged_push_map,
   each_merged,
@@ -458,9 +353,7 @@ pub ruleset count_laws = (
   counts_none,
   each_counts,
   each_counts_take,
-  each_counts_take_map,
   each_put_all_take,
   each_put_all_take_map,
-  each_build_take_map,
   merged_counts,
 )

@@ -1,8 +1,8 @@
 -- For callers: loops over a map that build another one, or put its pairs into another; the sum of a map's values after a
 -- change, and the sum of what a function makes of each value; and what a closure that changes no capture leaves of a map,
 -- and of a list of items. The ruleset `loops` of `Rules` has what a loop needs, and `caller` what the others need.
-use Rattle.std.proofs.Common.{◌≡◌, ℕ, suc, ◌+◌, ◌<◌, ◌≤◌, Bool, true, false, ◌||◌, List, [], ◌∷◌, ◌++◌, drop, get_or}
-use Rattle.std.proofs.Common.{length, map, is_some, refl, ap, sym, subst, ◌∙◌, add-one, append_assoc, arith}
+use Rattle.std.proofs.Common.{◌≡◌, ℕ, ◌+◌, ◌<◌, ◌≤◌, Bool, true, false, ◌||◌, List, [], ◌∷◌, ◌++◌, drop, get_or}
+use Rattle.std.proofs.Common.{length, map, refl, ap, sym, subst, ◌∙◌, add-one, append_assoc, arith}
 use Rattle.std.proofs.Common.{drop-cons, lt-ltb, Option, unwrap_or, sum, sum_by, option_map, Bor, MutBor, filter}
 use Rattle.std.specs.Fn.{Mut}
 use Rattle.std.specs.List.{IsDistinct, FoldsTo, enumerate_from, items_where_true}
@@ -25,7 +25,7 @@ use Rattle.micromap_core.proofs.ClosureLemmas.{seen, updated_at_keys}
 use Rattle.micromap_core.proofs.DistinctLemmas.{new_behind}
 use Rattle.micromap_core.proofs.StreamLemmas.{built_in_turn}
 use Rattle.micromap_core.proofs.Laws.Equalities.{equalities, of_lawful}
-use Rattle.micromap_core.proofs.Laws.MapLaws.{at_first, length_put, not_fits, put_new}
+use Rattle.micromap_core.proofs.Laws.MapLaws.{length_put, not_fits, put_new}
 use Rattle.std.proofs.Common.{Some}
 use Rattle.std.specs.List.{list_all}
 use Rattle.std.specs.Option.{option_eq}
@@ -36,16 +36,6 @@ use Rattle.std.proofs.lemmas.Option.{slice_get-get_or}
 use Rattle.micromap_core.specs.Same.{has_value}
 
 module _ {K V : Type 0} (eq : K → K → Bool) where
-  -- the first pair, and those behind it
-  pub has_first : (p : K × V) (behind : List (K × V)) → Lawful eq → has eq (p ∷ behind) p.0 ≡ true
-  has_first p behind laws = ap is_some (at_first eq p behind laws)
-
-  -- a missing key is missing behind the first pair too
-  pub has_drop : (pairs : List (K × V)) (k : K) → has eq pairs k ≡ false
-      → has eq (drop 1 pairs) k ≡ false
-  has_drop [] k missing = missing
-  has_drop (p ∷ behind) k missing = grind (arith, missing)
-
   -- with room each key fits
   pub fits_room : (N : ℕ) (pairs : List (K × V)) (k : K) → length pairs < N
       → fits eq N pairs k ≡ true
@@ -70,16 +60,6 @@ module _ {K V : Type 0} (eq : K → K → Bool) where
       → IsUnique eq (done ++ (k, v) ∷ rest) → put eq done k v ++ rest ≡ done ++ (k, v) ∷ rest
   copied_next done rest k v laws unique =
       put_first_of_rest done rest k v (has_done done rest (k, v) laws unique)
-
-  -- pairs whose values alone are mapped have unequal keys still
-  keys_map : {W : Type 0} (f : K × V → K × W) (pairs : List (K × V)) → ((p : K × V) → (f p).0 ≡ p.0)
-      → keys_of (map f pairs) ≡ keys_of pairs
-  keys_map f [] kept = refl
-  keys_map f (p ∷ pairs) kept = λ i. kept p i ∷ keys_map f pairs kept i
-
-  pub unique_map : {W : Type 0} (f : K × V → K × W) (pairs : List (K × V))
-      → ((p : K × V) → (f p).0 ≡ p.0) → IsUnique eq pairs → IsUnique eq (map f pairs)
-  unique_map f pairs kept unique = subst (IsDistinct eq) (sym (keys_map f pairs kept)) unique
 
   -- pairs with unequal keys are built as they are
   pub build_unique : (pairs : List (K × V)) → Lawful eq → IsUnique eq pairs → build eq pairs ≡ pairs
@@ -110,12 +90,9 @@ module _ {X : Type 0} (items : List X) (i : ℕ) where
   )
 
 pub ruleset loop_laws = (
-  has_first,
-  has_drop,
   fits_room,
   not_fits,
   copied_next,
-  unique_map,
   IsDistinct-keys_filter,
   build_unique,
   length_put,

@@ -8,7 +8,7 @@ use Rattle.std.proofs.lemmas.Map.{keys-set_value}
 use Rattle.micromap_core.specs.Equalities.{Lawful, Probes}
 use Rattle.micromap_core.specs.Pairs.{without_at, IsUnique}
 use Rattle.micromap_core.specs.Probe.{is_text}
-use Rattle.micromap_core.proofs.Laws.Equalities.{of_lawful, of_probes, same_test, probes_text}
+use Rattle.micromap_core.proofs.Laws.Equalities.{of_lawful, of_probes, probes_text}
 use Rattle.micromap_core.proofs.MapLemmas.{by_test, keys_removed, lookup-removed, no_value, IsUnique-remove}
 
 module _ {K V : Type 0} (test : K → Bool) (pairs : List (K × V)) where
@@ -19,11 +19,6 @@ module _ {K V : Type 0} (test : K → Bool) (pairs : List (K × V)) where
   remove_entry_missing none = (no_value test pairs none).taken
 
   module _ (eq : K → K → Bool) where
-    -- at the key that matches each change is the plain call's
-    pub matched_test : (k : K) → Probes eq test → test k ≡ true → test ≡ eq k
-    matched_test k probes passes = let p = of_probes eq test probes in
-        same_test eq test p.alike_keys p.equal_keys k passes
-
     pub keys_remove_entry : Probes eq test → IsUnique eq pairs
         → keys_of (remove_entry test pairs) ≡ filter (λ q. not (test q)) (keys_of pairs)
     keys_remove_entry probes unique = keys_removed eq test (of_probes eq test probes) pairs unique

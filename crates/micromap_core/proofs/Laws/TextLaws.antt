@@ -1,29 +1,27 @@
 -- For callers: what each change of a map with texts as keys does to the list that has the keys' bytes. The laws hold for
 -- `String` and for `&str`, and for any way `read` of seeing a value: `key_texts` and `key_strs` see values as they are,
 -- `texts` and `strs` by their bytes. `ComparesBy see eq` says that `eq x y ≡ bytes_eq (see x) (see y)` for all `x` and `y`.
-use Rattle.std.proofs.Common.{◌≡◌, ℕ, true, List, [], ◌∷◌, Option, Some, None, is_some, codes, refl, Bool, IsTrue}
-use Rattle.std.proofs.Common.{◌++◌, Bor, drop, length, slice_get, String, ap, sym, subst, ◌∙◌, string_bytes, arith}
+use Rattle.std.proofs.Common.{◌≡◌, ℕ, true, List, [], ◌∷◌, Option, Some, None, is_some, codes, refl, Bool}
+use Rattle.std.proofs.Common.{◌++◌, Bor, length, String, ap, sym, subst, ◌∙◌, string_bytes, arith}
 use Rattle.std.proofs.Common.{bytes_eq, string_eq}
 use Rattle.std.specs.Fmt.{◌++?◌, debug_items, comma_space}
-use Rattle.std.specs.List.{AllZip, IsDistinct}
-use Rattle.std.specs.Map.{keys_of, lookup, lookup_entry, remove_entry, set_value, values_of}
-use Rattle.std.specs.Option.{option_eq, option_map}
+use Rattle.std.specs.List.{IsDistinct}
+use Rattle.std.specs.Map.{keys_of, lookup, lookup_entry, remove_entry, set_value}
+use Rattle.std.specs.Option.{option_map}
 use Rattle.std.specs.Ordering.{on}
 use Rattle.std.proofs.lemmas.Bool.{false≢true}
-use Rattle.std.proofs.lemmas.List.{drop-map, length-map, map-append}
+use Rattle.std.proofs.lemmas.List.{length-map, map-append}
 use Rattle.std.proofs.lemmas.Simd.{map-map}
 use Rattle.std.proofs.lemmas.Slice.Eq.{bytes_eq-Decides}
 use Rattle.micromap_core.specs.Build.{put_all}
 use Rattle.micromap_core.specs.Pairs.{at, has, pair, put, take_out, IsUnique}
 use Rattle.micromap_core.specs.Print.{set_text, pair_text, map_text}
 use Rattle.micromap_core.specs.Probe.{is_str, is_text}
-use Rattle.micromap_core.specs.Same.{first_difference, first_missing, first_unequal, is_same, same_at}
-use Rattle.micromap_core.specs.Texts.{items_by, key_strs, key_texts, str_eq, texts, texts_by}
-use Rattle.micromap_core.proofs.MapLemmas.{by_test, lookup-entry}
-use Rattle.micromap_core.proofs.Views.{clones-map, distinct-map, equal_items-map, front-map, printed-map}
-use Rattle.micromap_core.proofs.Laws.Equalities.{probes_by}
+use Rattle.micromap_core.specs.Same.{is_same}
+use Rattle.micromap_core.specs.Texts.{items_by, texts_by}
+use Rattle.micromap_core.proofs.MapLemmas.{lookup-entry}
+use Rattle.micromap_core.proofs.Views.{distinct-map, equal_items-map, printed-map}
 use Rattle.micromap_core.proofs.Laws.MapLaws.{pair_key}
-use Rattle.micromap_core.proofs.Laws.ProbedLaws.{matched_test}
 
 both_known : (a b : Option (List ℕ)) → is_some a ≡ true → is_some b ≡ true
     → is_some (a ++? b) ≡ true
@@ -41,12 +39,6 @@ module _ {X : Type 0} (text : X → Option (List ℕ)) (known : (x : X) → is_s
   pub set_text_known : (items : List X) → is_some (set_text text items) ≡ true
   set_text_known items = both_known (Some (codes "{")) _ refl
       (both_known _ (Some (codes "}")) (items_known [] items) refl)
-
--- by the word alone, for a search
-pub each_set_text : {X : Type 0} (text : X → Option (List ℕ)) (items : List X)
-    → (set_text text items ≡ set_text text items)
-    × (((x : X) → is_some (text x) ≡ true) → is_some (set_text text items) ≡ true)
-each_set_text text items = (refl, λ known. set_text_known text known items)
 
 module _ {K V : Type 0} (key_text : K → Option (List ℕ)) (value_text : V → Option (List ℕ))
     (keys : (k : K) → is_some (key_text k) ≡ true)
@@ -182,28 +174,9 @@ module _ {K V W : Type 0} (see : K → List ℕ) (read : V → W) where
     unique_texts unique = subst (IsDistinct bytes_eq) (sym keys_texts)
         (distinct-map see bytes_eq (keys_of pairs) unique)
 
-    -- the first pair, and those behind it
-    pub texts_front : slice_get (texts_by see read pairs) 0
-        ≡ option_map (λ (p : K × V). (see p.0, read p.1)) (slice_get pairs 0)
-    unfolding texts_by
-    texts_front = front-map _ pairs
-
-    pub texts_drop : texts_by see read (drop 1 pairs) ≡ drop 1 (texts_by see read pairs)
-    unfolding texts_by
-    texts_drop = sym (drop-map _ 1 pairs)
-
     pub length_texts : length (texts_by see read pairs) ≡ length pairs
     unfolding texts_by
     length_texts = length-map pairs _
-
-    -- clones of pairs have the same texts: a `String`'s clone has its bytes, and so has a value's if `read` sees bytes. A
-    -- search that has this law tries it at each two lists of texts, so the ruleset `comparison` alone has it
-    pub texts_clone : (copy : List (K × V))
-        → AllZip (λ (p q : K × V). (see q.0 ≡ see p.0) × (read q.1 ≡ read p.1)) pairs copy
-        → texts_by see read copy ≡ texts_by see read pairs
-    unfolding texts_by
-    texts_clone copy clones =
-        clones-map _ _ (λ p q alike i. (alike.0 i, alike.1 i)) pairs copy clones
 
   -- the pairs once these are put
   pub texts_put_all : (eq : K → K → Bool) (pairs items : List (K × V)) → ComparesBy see eq
@@ -242,10 +215,6 @@ module _ {K V : Type 0} (see : K → List ℕ) (pairs : List (K × V)) where
       → at bytes_eq (texts_by see (λ v. v) pairs) bs ≡ lookup (λ k. bytes_eq bs (see k)) pairs
   at_key_texts bs = grind (arith, at_texts see (λ v. v) bs pairs)
 
-  pub values_texts : values_of (texts_by see (λ v. v) pairs) ≡ values_of pairs
-  unfolding texts_by
-  values_texts = map-map _ _ pairs
-
   -- the pair that a text finds has that text as its key, and the value that the text finds
   matched : (bs : List ℕ) → (lookup_entry (λ k. bytes_eq bs (see k)) pairs
       ≡ lookup_entry (λ k. bytes_eq bs (see k)) pairs)
@@ -281,90 +250,6 @@ module _ {K V W : Type 0} (see : K → List ℕ) (read : V → W) (same : W → 
   unfolding texts_by
   same_texts = equal_items-map (λ (p : K × V). (see p.0, read p.1)) _ a b
 
-  -- what the two have at a text is what they have at a key that has the text
-  found_both : (bs : List ℕ)
-      → same_at bytes_eq same (texts_by see read a)
-      (texts_by see read b) bs ≡ option_eq (λ v w. same (read v) (read w))
-      (lookup (λ k. bytes_eq bs (see k)) a) (lookup (λ k. bytes_eq bs (see k)) b)
-  found_both bs = grind (arith, at_texts see read bs a, at_texts see read bs b)
-
-  found_at_key : (bs : List ℕ) (k : K) → bytes_eq bs (see k) ≡ true
-      → same_at (on see bytes_eq) (λ v w. same (read v) (read w)) a b k ≡ true
-      → option_eq (λ v w. same (read v) (read w)) (lookup (λ k. bytes_eq bs (see k)) a)
-      (lookup (λ k. bytes_eq bs (see k)) b) ≡ true
-  found_at_key bs k matches are =
-      subst (λ test. option_eq (λ v w. same (read v) (read w)) (lookup test a) (lookup test b)
-      ≡ true) (sym (matched_test (λ k. bytes_eq bs (see k)) a (on see bytes_eq) k
-      (probes_by see bs) matches)) are
-
-  at_each_text : ((k : K) → IsTrue
-      (same_at (on see bytes_eq) (λ v w. same (read v) (read w)) a b k)) → (bs : List ℕ)
-      → IsTrue (same_at bytes_eq same (texts_by see read a) (texts_by see read b) bs)
-  at_each_text each bs =
-      let test = λ (k : K). bytes_eq bs (see k) in
-      found_both bs ∙ by_test test a _
-      (λ n. by_test test b _ (λ m. grind (arith, n.value, m.value))
-      (λ i f. found_at_key bs f.pair.0 f.passes (each f.pair.0)))
-      (λ i f. found_at_key bs f.pair.0 f.passes (each f.pair.0))
-
-  at_each_key : ((bs : List ℕ)
-      → IsTrue (same_at bytes_eq same (texts_by see read a) (texts_by see read b) bs)) → (k : K)
-      → IsTrue (same_at (on see bytes_eq) (λ v w. same (read v) (read w)) a b k)
-  at_each_key each k = sym (found_both (see k)) ∙ each (see k)
-
--- which a search finds for `String` and `&str` as keys, with values as they are, and for `String` as both
-module _ {V : Type 0} (same : V → V → Bool) where
-  module _ {Z : Type 0} (a b : List (String Z × V)) where
-    pub each_text : ((k : String Z) → IsTrue (same_at string_eq same a b k)) → (bs : List ℕ)
-        → IsTrue (same_at bytes_eq same (key_texts a) (key_texts b) bs)
-    each_text each = at_each_text string_bytes (λ v. v) same a b each
-
-    pub each_key : ((bs : List ℕ) → IsTrue (same_at bytes_eq same (key_texts a) (key_texts b) bs))
-        → (k : String Z) → IsTrue (same_at string_eq same a b k)
-    each_key each = at_each_key string_bytes (λ v. v) same a b each
-
-  module _ (a b : List (Bor (List ℕ) × V)) where
-    pub each_str_text : ((k : Bor (List ℕ)) → IsTrue (same_at str_eq same a b k)) → (bs : List ℕ)
-        → IsTrue (same_at bytes_eq same (key_strs a) (key_strs b) bs)
-    each_str_text each = at_each_text (λ s. s.now) (λ v. v) same a b each
-
-    pub each_str : ((bs : List ℕ) → IsTrue (same_at bytes_eq same (key_strs a) (key_strs b) bs))
-        → (k : Bor (List ℕ)) → IsTrue (same_at str_eq same a b k)
-    each_str each = at_each_key (λ s. s.now) (λ v. v) same a b each
-
-module _ {Y Z : Type 0} (a b : List (String Y × String Z)) where
-  pub each_both_text : ((k : String Y) → IsTrue (same_at string_eq string_eq a b k)) → (bs : List ℕ)
-      → IsTrue (same_at bytes_eq bytes_eq (texts a) (texts b) bs)
-  each_both_text each = at_each_text string_bytes string_bytes bytes_eq a b each
-
-  pub each_both_key : ((bs : List ℕ) → IsTrue (same_at bytes_eq bytes_eq (texts a) (texts b) bs))
-      → (k : String Y) → IsTrue (same_at string_eq string_eq a b k)
-  each_both_key each = at_each_key string_bytes string_bytes bytes_eq a b each
-
--- the key at which two maps differ first, by its text
-module _ {K V W : Type 0} (see : K → List ℕ) (read : V → W) (same : W → W → Bool) where
-  unequal_texts : (a b : List (K × V))
-      → first_unequal bytes_eq same (texts_by see read a)
-      (texts_by see read b) ≡ option_map see
-      (first_unequal (on see bytes_eq) (λ v w. same (read v) (read w)) a b)
-  unfolding texts_by
-  unequal_texts [] b = refl
-  unequal_texts (p ∷ a) b = grind (arith, unequal_texts a b, at_texts see read (see p.0) b)
-
-  missing_texts : (a b : List (K × V))
-      → first_missing bytes_eq same (texts_by see read b)
-      (texts_by see read a) ≡ option_map see
-      (first_missing (on see bytes_eq) (λ v w. same (read v) (read w)) b a)
-  unfolding texts_by
-  missing_texts a [] = refl
-  missing_texts a (p ∷ b) = grind (arith, missing_texts a b, at_texts see read (see p.0) a)
-
-  pub differs_texts : (a b : List (K × V))
-      → first_difference bytes_eq same (texts_by see read a)
-      (texts_by see read b) ≡ option_map see
-      (first_difference (on see bytes_eq) (λ v w. same (read v) (read w)) a b)
-  differs_texts a b = grind (arith, unequal_texts a b, missing_texts a b)
-
 -- what is printed of texts: the text that a map prints is that of its texts, and is known if its values' texts are
 module _ {K V W : Type 0} (see : K → List ℕ) (read : V → W) (value_text : W → Option (List ℕ))
     (pairs : List (K × V)) where
@@ -380,7 +265,6 @@ module _ {K V W : Type 0} (see : K → List ℕ) (read : V → W) (value_text : 
   )
 
 pub ruleset text_laws = (
-  each_set_text,
   each_map_text,
   texts_empty,
   at_key_texts,
@@ -396,17 +280,7 @@ pub ruleset text_laws = (
   at_made,
   at_made_by,
   unique_texts,
-  texts_front,
-  texts_drop,
   length_texts,
   same_texts,
-  differs_texts,
-  each_text,
-  each_key,
-  each_str_text,
-  each_str,
-  each_both_text,
-  each_both_key,
   text_of_texts,
-  values_texts,
 )
