@@ -1,4 +1,6 @@
-"""The names that callers rest on, beside those of the first copy that said 0.3.0-1. What is gone has a row in CHANGELOG.md."""
+"""The names that callers rest on, beside those of the first copy that said 0.3.0-1. What is gone, or says something else, has
+a row in CHANGELOG.md, with the old name in its first column. A row that says `each law of` a file is one for all of its laws,
+if they say something else or the whole file is gone."""
 import glob
 import hashlib
 import os

@@ -1,4 +1,5 @@
-//! Chooses calls, at random but always the same, so that maps and sets are neither empty nor full for long.
+//! Chooses calls, at random but always the same, so that maps and sets are neither empty nor full for long. So each kind of
+//! call meets empty, full and partly filled ones, and equal keys with different marks.
 
 use crate::words::{Key, Stored};
 use std::collections::HashMap;
