@@ -67,30 +67,48 @@ fn hints_of_sets_that_share_an_item(rt: HostRuntime) {
 }
 
 #[test]
-fn clones_go_on_from_the_same_item(rt: HostRuntime) -> Result<(), AllocError> {
+fn a_cloned_difference_goes_on_from_the_same_item(rt: HostRuntime) -> Result<(), AllocError> {
     let a = Set::from([1, 2, 3]);
     let b = Set::from([3, 4]);
     let mut difference: Difference<'_, '_, i32, 2> = a.difference(&b);
     difference.next();
     assert!(rt; hints(difference.clone()?, &[2], &[(0, 2), (0, 1)]));
     assert!(rt; hints(difference, &[2], &[(0, 2), (0, 1)]));
+    Ok(())
+}
+
+#[test]
+fn a_cloned_intersection_goes_on_from_the_same_item(rt: HostRuntime) -> Result<(), AllocError> {
+    let a = Set::from([1, 2, 3]);
+    let b = Set::from([3, 4]);
     let mut intersection: Intersection<'_, i32, 3> = b.intersection(&a);
     intersection.next();
     assert!(rt; hints(intersection.clone()?, &[], &[(0, 1)]));
     assert!(rt; hints(intersection, &[], &[(0, 1)]));
+    Ok(())
+}
+
+#[test]
+fn a_cloned_union_goes_on_from_the_same_item(rt: HostRuntime) -> Result<(), AllocError> {
+    let a = Set::from([1, 2, 3]);
+    let b = Set::from([3, 4]);
     let mut union: Union<'_, i32, 2> = a.union(&b);
     union.next();
-    assert!(rt;
-        hints(
-            union.clone()?,
-            &[4, 1, 2],
-            &[(2, 4), (1, 3), (0, 2), (0, 1)]
-        )
-    );
+    let left = [(2, 4), (1, 3), (0, 2), (0, 1)];
+    assert!(rt; hints(union.clone()?, &[4, 1, 2], &left));
     union.next();
     union.next();
     assert!(rt; hints(union.clone()?, &[2], &[(0, 2), (0, 1)]));
     assert!(rt; hints(union, &[2], &[(0, 2), (0, 1)]));
+    Ok(())
+}
+
+#[test]
+fn a_cloned_symmetric_difference_goes_on_from_the_same_item(
+    rt: HostRuntime,
+) -> Result<(), AllocError> {
+    let a = Set::from([1, 2, 3]);
+    let b = Set::from([3, 4]);
     let mut symmetric: SymmetricDifference<'_, i32, 3, 2> = a.symmetric_difference(&b);
     symmetric.next();
     assert!(rt; hints(symmetric.clone()?, &[2, 4], &[(0, 4), (0, 3), (0, 0)]));
