@@ -1,5 +1,6 @@
 -- For callers: what a map has into which a loop merges values (`merged`): after one item more, at each key, and how many
--- keys there are; how many keys a map has after a list is put into it, and what a counter has. The ruleset `caller` of `Rules` has those that a search needs.
+-- keys there are; how many keys a map has after a list is put into it, and what a counter has. The ruleset `caller` of
+-- `Rules` has those that a search needs.
 use Rattle.std.proofs.Common.{◌≡◌, ℕ, ◌+◌, ◌<◌, ◌≤◌, ◌||◌, Bool, true, false, List, [], ◌∷◌, ◌++◌, filter, length}
 use Rattle.std.proofs.Common.{map, get_or, take, Option, Some, refl, ap, sym, ◌∙◌, arith, unwrap_or, fold, cond}
 use Rattle.std.specs.List.{count_by, fold, list_any}
