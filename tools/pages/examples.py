@@ -1,8 +1,9 @@
 """The example of each section of API.md: a proved caller, as its file has it."""
 import os
 import re
+import textwrap
 
-from pages.sources import read
+from pages.sources import read, sentences
 
 HOME = "micromap's own repository"  # what a copied document says of a file that isn't copied
 # The sections with an example of a file, by the file and the first words of the caller. Others have one in a comment.
@@ -31,16 +32,22 @@ EXAMPLES = {
 
 
 def caller(path, begins):
-    """A caller with the comment and the attributes above it, by its first words, or nothing if the file has none."""
+    """A caller with the first sentence of its comment and its attributes, by its first words, or nothing if the file has none."""
     lines = read(f"crates/{path}").split("\n") if os.path.exists(f"crates/{path}") else []
     first = next((at for at, it in enumerate(lines) if re.match(rf" *{re.escape(begins)}\b", it)), None)
     if first is None:
         return ""
     indent = re.match(" *", lines[first])[0]
     last = lines.index(indent + "}", first)
-    while first > 0 and re.match(r" *(?:///? |#\[)", lines[first - 1]):
-        first -= 1
-    return "\n".join(it.removeprefix(indent) for it in lines[first : last + 1])
+    above = first
+    while above > 0 and re.match(r" *(?:///?(?: |$)|#\[)", lines[above - 1]):
+        above -= 1
+    notes = [it.strip() for it in lines[above:first] if not it.lstrip().startswith("#[")]
+    words = re.sub(r"^///? ?", "", "\n".join(notes), flags=re.M)
+    mark = re.match(r"///?", notes[0])[0] if notes else ""
+    said = textwrap.wrap(sentences(words)[0] + ".", 120, initial_indent=f"{mark} ", subsequent_indent=f"{mark} ", break_on_hyphens=False) if notes else []
+    attributes = [it for it in lines[above:first] if it.lstrip().startswith("#[")]
+    return "\n".join([*said, *(it.removeprefix(indent) for it in attributes + lines[first : last + 1])])
 
 
 def tactic(path):

@@ -5,7 +5,7 @@ import os
 import re
 
 from pages.examples import tactic
-from pages.sources import anchor, doc_of, read
+from pages.sources import anchor, doc_of, read, sentences
 
 RECIPES, CRATE, WHOLE = "crates/micromap/RECIPES.md", "micromap_callers", "micromap_uses"
 # The files, in the order of the page.
@@ -18,10 +18,10 @@ INTRO = """# Recipes
 A recipe is a small function over a map or a set, with a contract. Each is proved as it stands here. Take its block, and put
 your own types and tests in the place of its own. Another type of keys may need another equality in the clauses ([words](CALLING.md#words)). [CALLING](CALLING.md#when-a-check-fails) has what to do when a check fails.
 
-- Write the line `tactic` as `#[..]` at your function, or as `#![..]` at the head of your file.
+- Write the line `tactic` as `#[..]` at each function of the block that has none, or as `#![..]` at the head of your file.
 - The imports are those of the words in the clauses. [CALLING](CALLING.md#callers) has those of types.
 - A block `antt` is a file of definitions, of a loop's [invariant](PROVING.md#an-invariant), or of *answers*, which are proofs of single goals. It has
-the path of its function: that of `total` of `src/walks.rt` is `proofs/walks/total/Invariants.antt`, and in `main.rt` or `lib.rt` `proofs/total/Invariants.antt`. `my_crate` stands for your crate, and what follows `proofs.`, as `counting`, for your file.
+the path of its function: that of `total` of `src/walks.rt` is `proofs/walks/total/Invariants.antt`, and in `main.rt` or `lib.rt` `proofs/total/Invariants.antt`. `my_crate` stands for your crate, and what follows `proofs.`, `contracts.` or `declared.`, as `counting`, for your file.
 - The line of your crate in `crates.txt` is `name: micromap micromap_core`.
 - The proof of a recursive function `f` is in the folder `+f`. It says what falls at each call.
 - Many contracts say only what an `Ok`, a `Some` or a `true` means. Under such a contract nothing is known of the map after a refusal.
@@ -33,7 +33,8 @@ and laws of their own:
 # What one may look for, and the headings that have it.
 WANTS = {
     "merge or join two maps": ["Puts a map whose keys and values are `Copy` over another, all or nothing", "Makes a map of the pairs of two maps",
-        "Puts a map with `&str` keys over another, all or nothing", "Adds the amounts of another map to the totals of a map"],
+        "Puts a map with `&str` keys over another, all or nothing", "Adds the amounts of another map to the totals of a map",
+        "Copies settings with others put over them, or returns `None` if they don't all fit"],
     "settings in layers": ["Finds a key's value in the first of several maps with it",
         "Copies settings with others put over them, or returns `None` if they don't all fit"],
     "the words of a text": ["Makes a set of the words of a text, or an error if there are more than `N` different ones",
@@ -57,6 +58,15 @@ WANTS = {
     "move the pairs of a map into another": ["Puts pairs into a map, up to the first that doesn't fit"],
     "how many pairs were dropped": ["Keeps the pairs that pass"],
     "a copy with other values": ["Copies the pairs that pass", "Copies the pairs that pass, with other values, or returns `None`"],
+    "whether all keys of a map are in another": ["Returns whether all items of a list are in a set"],
+    "how many items two sets share": ["Adds up the members of an operation on two sets"],
+    "what one set has and another lacks": ["Makes a set of the union of two sets", "Copies the texts of two sets into one, and knows exactly that there are too many"],
+    "all pairs in a `Vec`": ["Lists the keys whose value passes a test in a `Vec`"],
+    "keep the pairs whose value is in a set": ["Drops the pairs whose key is in a set"],
+    "compare maps with `&str` keys": ["Returns whether two maps from `&str` to a struct with a derived `==` are the same"],
+    "a key at which two maps differ": ["Reads two maps at a key where they differ"],
+    "leave pairs out of a copy": ["Copies the pairs that pass"],
+    "evict a pair of a full map": ["Finds a key with the least value, and that value"],
     "invert a map": ["Makes a map with key and value exchanged"],
     "group by a key": ["Groups a list: makes a map of the members of each key"],
     "the total of each key": ["Adds each amount of a list to the total of its key", "Groups a list: makes a map of the members of each key"],
@@ -68,12 +78,6 @@ ITEM = rf"^((?:(?://|#\[).*\n)*)((?:pub(?:\(\w+\))? )?(?:(?:(?:const )?fn|struct
 NAME = r"(?:pub(?:\(\w+\))? )?(?:impl(?:<.*?>)? (?:.* for )?|(?:const )?fn |struct |enum |type |const )(\w+)"
 Item = collections.namedtuple("Item", "name above code")
 Recipe = collections.namedtuple("Recipe", "name path heading rest items")
-
-
-def sentences(comment):
-    """The first sentence of a comment without its full stop, and the rest of the comment."""
-    first, rest = re.match(r"((?:`[^`]*`|[^`])*?)(?:\.(?:\s+|$)(.*))?$", comment.strip(), re.S).groups("")
-    return " ".join(first.split()), rest.strip()
 
 
 def title_of(path):

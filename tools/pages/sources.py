@@ -183,3 +183,9 @@ def anchor(heading):
 def link(path, document, name=""):
     named = name or os.path.basename(path).removesuffix(".antt")
     return f"[`{named}`]({os.path.relpath(path, os.path.dirname(document))})"
+
+
+def sentences(comment):
+    """The first sentence of a comment without its full stop, and the rest of the comment."""
+    first, rest = re.match(r"((?:`[^`]*`|[^`])*?)(?:\.(?:\s+|$)(.*))?$", comment.strip(), re.S).groups("")
+    return " ".join(first.split()), rest.strip()

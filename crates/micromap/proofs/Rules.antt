@@ -11,8 +11,8 @@ use Rattle.micromap.proofs.Laws.SetLaws.{set_laws}
 use Rattle.micromap.proofs.Laws.SetLoopLaws.{item_counts, set_loop_laws}
 use Rattle.micromap.proofs.Laws.SetTextLaws.{extended_item_texts, set_text_laws}
 
--- what most functions need: changes of a map or a set, texts, sums, closures, chains of iterators, and lists that are put,
--- counted or merged
+-- what most functions need: changes of a map or a set, texts, sums, closures, chains of iterators, and loops that find,
+-- count, add up or merge, or whose invariants say what is done
 pub ruleset caller = (
   map_laws,
   set_laws,
@@ -29,11 +29,11 @@ pub ruleset caller = (
   item_counts,
 )
 
--- loops that build or change a map or a set
+-- loops that build or change a map or a set, and whose invariants say what is still to come
 pub ruleset loops = (loop_laws, set_loop_laws, each_left_map)
 
 -- two maps that are the same, once both are changed
 pub ruleset comparison = (same_laws)
 
--- what a search needs beside `caller` where a closure computes with signed numbers
+-- what a search needs beside `caller` where a function or a closure computes with signed numbers
 pub ruleset signed = (ints, to_z-of_z)

@@ -74,7 +74,8 @@ pub fn are_groups_equal<const N: usize, const M: usize>(
 
 /// Returns whether one set of a map has all items of another.
 /// It is `false` if the map lacks either key. Whether two such sets have no item in common goes the same way, by
-/// `is_disjoint`, and `IsDisjoint` in the place of `IsSubset`.
+/// `is_disjoint`, with `list_all (λ x. not (is_member nat_eq s x)) t` in the clause `answer`, and `IsDisjoint` in the
+/// place of `IsSubset`.
 pub fn covers<const N: usize, const M: usize>(
     groups: &Map<u8, Set<u8, M>, N>,
     group: u8,

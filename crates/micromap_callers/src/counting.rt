@@ -16,7 +16,7 @@ use micromap::{Map, Set};
 /// Values alone go the same way by `values()`, a set's items by `set.iter()`, and the pairs of a map by value by
 /// `into_iter()`, if its capacity is a number or a constant. With their index the values go by `values().enumerate()`:
 /// `|(i, v)| *i == **v as usize` counts those that are their own index, as `λ p. p.0 == p.1` over
-/// `enumerate_from 0 (values_of pairs.now)`.
+/// `enumerate_from 0 (values_of pairs.now)`, a word of `Rattle.std.specs.List`.
 pub fn count_pairs<const N: usize>(pairs: &Map<u8, u32, N>, limit: u32) -> usize
     ensures { result ≡ count_by (λ p. nat_lt limit p.1 && nat_lt p.0 9) pairs.now }
 {
@@ -39,7 +39,7 @@ pub fn values_over<const N: usize>(map: &Map<u8, u8, N>, limit: u8) -> usize
 }
 
 /// Counts the items of a set that are in another.
-/// The items of a list go the same way, by `list.iter()`. The capacities are constants. For any capacity the closure
+/// The items of a list go the same way, by `list.iter()`. The capacities are numbers. For any capacity the closure
 /// says what it returns, as in `count_unlisted`.
 #[tactic(auto)]
 pub fn count_known(a: &Set<u8, 16>, b: &Set<u8, 8>) -> usize
@@ -70,7 +70,7 @@ pub fn count_unlisted<const N: usize, const M: usize, const L: usize>(
 }
 
 /// Counts the empty sets of a map.
-/// The capacity of these sets is a constant, and the chain goes over `iter()`, so the closure needs no clause.
+/// The capacity of these sets is a number, and the chain goes over `iter()`, so the closure needs no clause.
 #[tactic(auto)]
 pub fn count_empty<const N: usize>(groups: &Map<u8, Set<u8, 8>, N>) -> usize
     ensures { result ≡ count_by (λ p. nat_eq (length p.1) 0) groups.now }
@@ -156,7 +156,8 @@ pub fn total_of_union<const N: usize, const M: usize>(a: &Set<u8, N>, b: &Set<u8
 
 /// Adds up what a map has for each key of a list.
 /// It returns `None` if a key is missing or the sum doesn't fit. Under the ruleset `caller` a list of words goes the
-/// same way, by `amounts.get_by(&Text(*name))?` and `lookup (is_str name.now) amounts.now`.
+/// same way, by `amounts.get_by(&Text(*name))?`. In the clause `name`, without a type, stands in the place of `(k : ℕ)`,
+/// and `lookup (is_str name.now) amounts.now` in that of `at nat_eq prices.now k`.
 #[tactic(auto)]
 pub fn price_of(prices: &Map<u8, u32, 16>, basket: &[u8]) -> Option<u32>
     ensures { result ≡ fold

@@ -75,7 +75,8 @@ pub fn group_of<const N: usize, const M: usize>(
 
 /// Finds a pair that passes a test, which `get` finds too.
 /// The contract says nothing of `None`. Keys of any type go the same way, by `K.eq` in the contract and
-/// `g.K.PartialEq.eq` in the invariant. A key alone is known to be stored by `has nat_eq` in both.
+/// `g.K.PartialEq.eq` in the invariant. That a key is stored goes the same way, by a loop over `map.keys()`, with
+/// `has nat_eq map.now` in the contract and `list_all (has nat_eq l.map) l.key-iterator` in the invariant.
 pub fn pair_over<const N: usize>(map: &Map<u8, u8, N>, limit: u8) -> Option<(u8, u8)>
     ensures found { IfSome result (λ p. at nat_eq map.now p.0 ≡ Some p.1) }
     ensures over { IfSome result (λ p. limit < p.1) }

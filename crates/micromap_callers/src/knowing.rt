@@ -58,8 +58,8 @@ pub fn each_below<const N: usize>(amounts: &Map<u8, u8, N>, limit: u8) -> bool
 }
 
 /// Tells by `get` that there is no pair with a key.
-/// It moves the value of another key there. If it returns `true`, there was no pair with the new key. Whether there is
-/// a pair is also told by `leases.get_key_value(&to).is_some()`, which is `has nat_eq leases.now to`.
+/// It moves the value of another key there. If it returns `true`, there was no pair with the new key. Of a `&Map`,
+/// whether there is a pair is also told by `leases.get_key_value(&to).is_some()`, which is `has nat_eq leases.now to`.
 #[tactic(auto, using(micromap::proofs::Rules::caller))]
 pub fn reissue<const N: usize>(leases: &mut Map<u8, u8, N>, from: u8, to: u8) -> bool
     ensures { IsTrue result → pair nat_eq leases.old to ≡ None }
@@ -124,8 +124,8 @@ pub fn has_no_difference<const N: usize>(one: &Map<u8, u8, N>, other: &Map<u8, u
 }
 
 /// Compares three maps by two comparisons.
-/// If it returns `true`, the first and the third are the same, and equally long. Sets go the same way, by the law
-/// `sameness_of_items`.
+/// If it returns `true`, the first and the third are the same, and equally long. Sets are the same in this way by the
+/// law `sameness_of_items`. No law says that they are equally long.
 pub fn are_same<const N: usize>(
     first: &Map<u8, u8, N>,
     second: &Map<u8, u8, N>,
@@ -150,7 +150,8 @@ pub fn has_more<const N: usize, const M: usize>(
 }
 
 /// Tells by length and one side that two sets are equal.
-/// If it returns `true`, they have the same items. Maps go the same way, by the law `same_from_one_side`.
+/// If it returns `true`, they have the same items. Maps go the same way, by the law `same_from_one_side`, with a chain in
+/// the place of `is_subset`, as in `changes_nothing`.
 pub fn have_same_items<const N: usize, const M: usize>(
     first: &Set<u8, N>,
     second: &Set<u8, M>,

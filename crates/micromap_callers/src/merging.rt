@@ -50,7 +50,7 @@ pub fn counted(votes: &[u8]) -> Map<u8, u32, 16>
 
 /// Adds each amount of a list to the total of its key.
 /// A total stays at the greatest number. New keys go last, in the order in which each first came. There would be more
-/// than `N` if it returns `false`. A new map of the totals is made as in `groups_of`.
+/// than `N` keys if it returns `false`. A new map of the totals is made as in `groups_of`.
 pub fn add_amounts<const N: usize>(totals: &mut Map<u8, u32, N>, amounts: &[(u8, u32)]) -> bool
     ensures totals { OnTrue result (totals.new ≡ merged nat_eq saturated_sum totals.old amounts.now) }
     ensures refused { IsFalse result → N < length (merged nat_eq saturated_sum totals.old amounts.now) }

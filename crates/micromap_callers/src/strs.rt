@@ -19,7 +19,7 @@ use micromap::{Map, Overfull, Set, Text};
 use std::alloc::{AllocError, Global};
 
 /// Sets the value at a `&str`, if it fits, and returns the old one.
-/// `numbers.get_by(&Text(word)).copied()` reads it, and is `at bytes_eq (key_strs numbers.now) word.now`.
+/// Of a `&Map`, `numbers.get_by(&Text(word)).copied()` reads it, and is `at bytes_eq (key_strs numbers.now) word.now`.
 pub fn set<'a, const N: usize>(
     numbers: &mut Map<&'a str, u8, N>,
     word: &'a str,

@@ -16,7 +16,7 @@ use micromap::{Map, Set, Text, TextBuf};
 use std::alloc::{AllocError, Global};
 
 /// Reads the value at a text.
-/// A text that is found leads on to another map:
+/// A text that is found leads on to another map, if the capacities are numbers or constants:
 /// `hosts.get_by(&Text(service)).and_then(|host| ports.get(host)).copied()` is
 /// `option_and_then (λ host. at bytes_eq ports.now host) (at bytes_eq hosts.now service.now)`.
 pub fn age_at<const N: usize>(ages: &Map<TextBuf, u8, N>, name: &str) -> Option<u8>
@@ -64,8 +64,9 @@ pub fn count<const N: usize>(
 
 /// Moves a value from one text to another, which goes to its index or to the end.
 ///
-/// It returns `false`, and nothing changes, if there is none. Of `&str` keys `remove(&from)` takes the value, and
-/// `key_strs ages` stands in the place of the map.
+/// It returns `false`, and nothing changes, if there is none. Of `&str` keys `remove(&from)` takes the value. Both texts
+/// are `&'a str` then, `to.now` stands in the place of `to`, and `key_strs ages.old` and `key_strs ages.new` in that of
+/// the map.
 pub fn rename<const N: usize>(ages: &mut Map<TextBuf, u8, N>, from: &str, to: TextBuf) -> bool
     ensures answer { result ≡ has bytes_eq ages.old from.now }
     ensures ages { ages.new ≡ option_map_or (λ age. put bytes_eq (take_out bytes_eq ages.old from.now) to age) (at bytes_eq ages.old from.now) ages.old }
@@ -110,7 +111,7 @@ pub fn names_of<const N: usize>(
 }
 
 /// Copies the texts of two sets into one, and knows exactly that there are too many.
-/// The texts of one set that another lacks are copied by `names.sub(other)`, which is
+/// Under the ruleset `caller` the texts of one set that another lacks are copied by `names.sub(other)`, which is
 /// `difference bytes_eq names.now other.now`, and those that both have by `bitand`.
 #[tactic(auto, using(micromap::proofs::Rules::loops))]
 pub fn union_of<const N: usize, const M: usize, const L: usize>(

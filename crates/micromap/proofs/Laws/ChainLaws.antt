@@ -123,7 +123,7 @@ member_find eq test [] x laws found = grind (arith, found)
 member_find eq test (y ∷ items) x laws found =
     grind (arith, found, member_find eq test items x laws, (of_lawful eq laws).refl x)
 
--- of a set of numbers: where no item passes no member does, and where all pass each does
+-- of a set of numbers: where no item passes no member does
 module _ (test : ℕ → Bool) where
   number_fails : (items : List ℕ) (x : ℕ) → find test items ≡ None → is_member nat_eq items x ≡ true
       → test x ≡ false
@@ -142,6 +142,7 @@ module _ (test : ℕ → Bool) where
   number_passes (y ∷ items) x all member =
       grind (arith, nat_tests, all, member, number_passes items x)
 
+  -- where all pass each member does
   pub each_member : (items : List ℕ)
       → (list_all test items ≡ list_all test items)
       × (list_all test items ≡ true → (x : ℕ) → is_member nat_eq items x ≡ true → test x ≡ true)

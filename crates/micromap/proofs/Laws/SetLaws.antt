@@ -1,7 +1,7 @@
--- For callers: what each change of a set does to each way of reading it. `MapLaws` has the same for a map. The name of
--- a law has the reader first and then the change. The readers are a test of the items (`any`, whether an item passes,
--- and `find`, the first that does), a given item (`is_member`, `find_item`, `fits`), the number of items (`length`),
--- and that they are pairwise unequal (`unique`). The ruleset `caller` of `Rules` has those that a search needs.
+-- For callers: what each change of a set does to each way of reading it. `MapLaws` has the same for a map. The readers are
+-- a test of the items (`any`, whether an item passes, and `find`, the first that does), a given item (`is_member`,
+-- `find_item`, `fits`), the number of items (`length`), and that they are pairwise unequal (`unique`). The ruleset `caller`
+-- of `Rules` has those that a search needs.
 use Rattle.std.proofs.Common.{◌≡◌, ℕ, ◌+◌, ◌≤◌, ◌||◌, ◌&&◌, not, Bool, true, false, List, [], ◌∷◌, ◌++◌, filter, length}
 use Rattle.std.proofs.Common.{Some, None, is_some, if◌then◌else◌, refl, ap, sym, subst, ◌∙◌, arith, option_map}
 use Rattle.std.proofs.Common.{unwrap_or}

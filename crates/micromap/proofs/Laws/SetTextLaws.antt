@@ -1,5 +1,5 @@
--- For callers: what each change of a set of texts does to the list of the texts' bytes. The laws hold for `String` and for
--- `&str`.
+-- For callers: what putting, replacing and taking out an item does to the list of the texts' bytes, and what is found there.
+-- The laws hold for `String` and for `&str`.
 use Rattle.std.proofs.Common.{◌≡◌, ℕ, Bool, List, [], ◌∷◌, length, is_some, refl, ap, sym, ◌∙◌, arith, bytes_eq, option_map}
 use Rattle.std.specs.List.{AllZip, IsDistinct, find, list_any}
 use Rattle.std.specs.Ordering.{on}

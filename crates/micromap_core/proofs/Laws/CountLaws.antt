@@ -22,7 +22,7 @@ use Rattle.micromap_core.proofs.Laws.Equalities.{of_lawful}
 use Rattle.micromap_core.proofs.Laws.MapLaws.{at_alike, at_put, unique_empty}
 
 module _ {K V W : Type 0} (eq : K → K → Bool) (step : Option V → W → V) where
-  -- no item, the first item, two lists of them, and one more
+  -- no item, the first item, and one more
   pub merged_none : (pairs : List (K × V)) → merged eq step pairs [] ≡ pairs
   unfolding merged
   merged_none pairs = refl

@@ -1,6 +1,7 @@
--- For callers: loops over a map that build another one, or put its pairs into another; the sum of a map's values after a
--- change, and the sum of what a function makes of each value; and what a closure that changes no capture leaves of a map,
--- and of a list of items. The ruleset `loops` of `Rules` has what a loop needs, and `caller` what the others need.
+-- For callers: loops over a map that build another one, or put its pairs into another; that each pair or key that a loop
+-- comes to is in the map; the sum of a map's values after a change, and the sum of what a function makes of each value; and
+-- what a closure that changes no capture leaves of a map, and of a list of items. The ruleset `loops` of `Rules` has what
+-- the first of these need, and `caller` what the others need.
 use Rattle.std.proofs.Common.{◌≡◌, ℕ, ◌+◌, ◌<◌, ◌≤◌, Bool, true, false, ◌||◌, List, [], ◌∷◌, ◌++◌, drop, get_or}
 use Rattle.std.proofs.Common.{length, map, refl, ap, sym, subst, ◌∙◌, add-one, append_assoc, arith}
 use Rattle.std.proofs.Common.{drop-cons, lt-ltb, Option, unwrap_or, sum, sum_by, option_map, Bor, MutBor, filter}

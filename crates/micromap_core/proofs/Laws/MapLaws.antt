@@ -1,7 +1,6 @@
--- For callers: what each change of a map does to each way of reading it. The name of a law has the reader first and
--- then the change, as `lookup_put` and `length_take_out`. The readers are look-ups by a test (`lookup` of the value,
--- `pair` of the pair), look-ups by a key (`at`, `has`, `fits`), the number of pairs (`length`), and that keys are
--- pairwise unequal (`unique`). `ProbedLaws` has the changes by probe. The ruleset `caller` of `Rules` has those that a
+-- For callers: what each change of a map does to each way of reading it. The readers are look-ups by a test (`lookup` of
+-- the value, `pair` of the pair), look-ups by a key (`at`, `has`, `fits`), the number of pairs (`length`), and that keys
+-- are pairwise unequal (`unique`). `ProbedLaws` has the changes by probe. The ruleset `caller` of `Rules` has those that a
 -- search needs.
 use Rattle.std.proofs.Common.{◌≡◌, ℕ, ◌+◌, ◌||◌, Bool, true, not, List, [], ◌∷◌, ◌++◌, filter, length, reverse, Some}
 use Rattle.std.proofs.Common.{None, is_some, if◌then◌else◌, refl, ap, sym, subst, ◌∙◌, inl, inr, arith, ◌≤◌}

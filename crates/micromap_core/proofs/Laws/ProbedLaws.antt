@@ -1,5 +1,5 @@
 -- For callers: what the changes of a map by probe do to each way of reading it. They are `set_value` and `remove_entry` of
--- the standard library, which take the probe's test of keys. The ruleset `map_laws` of `MapLaws` has what a search needs.
+-- the standard library, which take the probe's test of keys. The ruleset `caller` of `Rules` has what a search needs.
 use Rattle.std.proofs.Common.{◌≡◌, ℕ, Bool, true, not, List, [], ◌∷◌, ◌++◌, filter, String, string_eq, None, refl, ap, sym, subst, arith}
 use Rattle.std.proofs.Common.{if◌then◌else◌}
 use Rattle.std.specs.List.{IsDistinct}

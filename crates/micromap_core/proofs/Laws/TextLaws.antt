@@ -1,5 +1,5 @@
--- For callers: what each change of a map with texts as keys does to the list that has the keys' bytes. The laws hold for
--- `String` and for `&str`, and for any way `read` of seeing a value: `key_texts` and `key_strs` see values as they are,
+-- For callers: what putting and taking out, by key or by text, does to the list that has the keys' bytes, and what is found
+-- there. The laws hold for `String` and for `&str`, and for any way `read` of seeing a value: `key_texts` and `key_strs` see values as they are,
 -- `texts` and `strs` by their bytes. `ComparesBy see eq` says that `eq x y ≡ bytes_eq (see x) (see y)` for all `x` and `y`.
 use Rattle.std.proofs.Common.{◌≡◌, ℕ, true, List, [], ◌∷◌, Option, Some, None, is_some, codes, refl, Bool}
 use Rattle.std.proofs.Common.{◌++◌, Bor, length, String, ap, sym, subst, ◌∙◌, string_bytes, arith}
@@ -36,7 +36,7 @@ module _ {X : Type 0} (text : X → Option (List ℕ)) (known : (x : X) → is_s
       both_known (Some lead) _ refl
       (both_known (text x) _ (known x) (items_known comma_space items))
 
-  pub set_text_known : (items : List X) → is_some (set_text text items) ≡ true
+  set_text_known : (items : List X) → is_some (set_text text items) ≡ true
   set_text_known items = both_known (Some (codes "{")) _ refl
       (both_known _ (Some (codes "}")) (items_known [] items) refl)
 
