@@ -13,7 +13,6 @@ CLAIMS = "docs/CLAIMS.md"
 # The sections of the edits of other crates than the library's.
 PROGRAMS = {
     "micromap_testing": "The worked rows",
-    "micromap_replay": "Recorded calls",
     "micromap_uses": "Example libraries",
     "micromap_contract": "A caller with a contract",
 }
@@ -37,7 +36,8 @@ Some rewrite answers, or the loop's invariant, for the wrong body. So an answer 
 It isn't tried whether the search proves the right body there.
 - One goal of each edit is recorded. It may have others.
 - Some bodies are those of an inner function on which the call rests. Then the recorded goal is one of that function's. It belongs to the same \
-clause, or to one that the call's proof uses. This doesn't show that the call's own clause says enough.
+clause, or to one that the call's proof uses. This doesn't show that the call's own clause says enough. \
+Of seven clauses no other body is recorded: `into_iter_gives` of a map and of `Iter::over`, `Keys::over` and `Values::over`, `succeeds` of `Map::clone`, and `memory` of `map_from_json` and `set_from_json`.
 - *Written proof* stands before a goal if only a proof that was written by hand refused the body. This shows no more than \
 that the proof doesn't serve the wrong body.
 
@@ -48,7 +48,7 @@ that of a loop, which ends in `-preserved` if it is the invariant after a turn. 
 `-value` is a law, `-after-f` follows a call of `f`, and a number tells apart goals of one name. The check calls the clause of `next_gives` `steps`, and that of `output` `writes`.
 """
 # What the clauses are called that ghost members of traits stand in.
-GHOSTS = {"next_gives": "steps", "output": "writes", "into_iter_gives": "pairs"}
+GHOSTS = {"next_gives": "steps", "output": "writes"}
 WITHOUT = "Clauses without an edit"
 WITHOUT_HEAD = """
 These are proved as all others are. `rt plant` tries bodies of its own on a function. Some give up, as `None` does. Others call the \
