@@ -44,7 +44,7 @@ that the proof doesn't serve the wrong body.
 A goal has its file before it, in `src/` of the edit's crate, or the function of the written proof. `returns` is what holds at the return, and `returns-clause-pairs` is the clause `pairs` of it. \
 `insert-requires` is the precondition of a call of `insert`, `invariant_of-..` the invariant of a type, and `loop-..` \
 that of a loop, which ends in `-preserved` if it is the invariant after a turn. What follows names the branch or the call before it: `-in-Some` is an arm of a `match`, \
-`-then-len` and `-else-len` are the branches of a test by `len`, and `-in_err-len` is what `?` returns after `len`. \
+`-then-len` and `-else-len` are the branches of a test by `len`, and `-in_err-value` is what `?` returns in `let value = ..?`. \
 `-value` is a law, `-after-f` follows a call of `f`, and a number tells apart goals of one name. The check calls the clause of `next_gives` `steps`, and that of `output` `writes`.
 """
 # What the clauses are called that ghost members of traits stand in.
