@@ -26,7 +26,7 @@ types of key. The edits of `into_iter_gives` are of the bodies by value. Two edi
 
 TOTALS
 
-An *edit* changes the source to a wrong body. Those of `Probe` add a type with a wrong probe. A row has the call and the clauses that the edit is for, what is \
+An *edit* changes the source to a wrong body. Some also give the call a bound that this body needs, as `V: Copy`. Those of `Probe` add a type with a wrong probe. A row has the call and the clauses that the edit is for, what is \
 wrong in the body, and the goal at which it was refused. The call is linked to its contract, and a call without a name behind \
 it has one clause. The same body may break other clauses too. The gate tries the edits that are linked to `must-fail/`, and \
 [`tools/claims`](MAINTAINING.md#edits) all.
@@ -35,11 +35,15 @@ it has one clause. The same body may break other clauses too. The gate tries the
 Some rewrite answers, or the loop's invariant, for the wrong body. So an answer that no longer fits isn't what refuses the body. \
 It isn't tried whether the search proves the right body there.
 - One goal of each edit is recorded. It may have others.
+- A refusal shows that the search found no proof, not that there is none. After a loop without an invariant nothing is known of what \
+it changed, so a right body with such a loop would be refused too. Such are both `remove_moves_..`, `into_capacity_reverses_the_pairs`, `into_iter_from_the_end` and `read_entries_empties_the_source`.
 - Some bodies are those of an inner function on which the call rests. Then the recorded goal is one of that function's. It belongs to the same \
 clause, or to one that the call's proof uses. This doesn't show that the call's own clause says enough. \
-Of seven clauses no other body is recorded: `into_iter_gives` of a map and of `Iter::over`, `Keys::over` and `Values::over`, `succeeds` of `Map::clone`, and `memory` of `map_from_json` and `set_from_json`.
+Of seven clauses no other body was refused at a goal: `into_iter_gives` of a map, those of `Iter::over`, `Keys::over` and `Values::over`, `succeeds` of `Map::clone`, and `memory` of `map_from_json` and of `set_from_json`.
 - *Written proof* stands before a goal if only a proof that was written by hand refused the body. This shows no more than \
 that the proof doesn't serve the wrong body.
+- The goals are those of the last run of `tools/claims`. `tools/documents --check` wants one for each edit as it, the contract and the body stand, \
+and doesn't see that a definition or another proof has changed. The gate tries anew those in `must-fail/` alone.
 
 A goal has its file before it, in `src/` of the edit's crate, or the function of the written proof. `returns` is what holds at the return, and `returns-clause-pairs` is the clause `pairs` of it. \
 `insert-requires` is the precondition of a call of `insert`, `invariant_of-..` the invariant of a type, and `loop-..` \
@@ -53,7 +57,7 @@ WITHOUT = "Clauses without an edit"
 WITHOUT_HEAD = """
 These are proved as all others are. `rt plant` tries bodies of its own on a function. Some give up, as `None` does. Others call the \
 right body with an argument, the result or a field changed. A body is tried against all clauses of \
-the function at once, and an impl counts as one call. So what came of it stands here only of calls of which no clause of `ensures` has an edit. Of the others the second column says why none was tried, or none judged. Of a *shared* call only a body that was let through is named:
+the function at once, and an impl counts as one call. So what came of it stands here only of calls of which no clause of `ensures` has an edit, from the last run of `rt plant`, and stays if the call has changed since. Of the others the second column says why none was tried, or none judged. Of a *shared* call only a body that was let through is named:
 
 SILENT
 
@@ -65,7 +69,7 @@ SILENT = {
     "precondition of a call in it isn't proved, or if the tactics can't prove even a body that calls the right one",
     "shared": "another clause of the call has an edit, and a planted body that is refused may be refused by that clause",
     "a trait's": "each implementation has the clause, and its own body",
-    "not recorded": "nothing was tried on the call since it got its clauses",
+    "not recorded": "nothing was tried on a call of this name",
 }
 ROWS = "\n| Clauses | What is wrong in the body | Refused at |\n|---|---|---|"
 _, SHARED, OF_TRAIT, UNKNOWN = SILENT
