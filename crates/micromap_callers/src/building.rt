@@ -10,7 +10,7 @@ ghost use Rattle.std.specs.Set.{distinct_count};
 ghost use Rattle.micromap.specs.Build.{build, build_or_refuse, put_all, put_pair_if_fits};
 ghost use Rattle.micromap.specs.Extend.{distinct, distinct_or_refuse};
 ghost use Rattle.micromap.specs.Memory.{MapFits};
-ghost use Rattle.micromap.specs.Pairs.{at, put_if_fits};
+ghost use Rattle.micromap.specs.Pairs.{at, put, put_if_fits};
 
 use micromap::{Map, Overfull, Set};
 
@@ -101,6 +101,21 @@ pub fn put_each<K: Eq + Copy + Drop, const N: usize>(
         }
         map.insert(item.0, item.1);
     }
+    true
+}
+
+/// Puts two pairs into a map, both or none, as an edge and its way back.
+/// It returns `false` exactly if they don't both fit. Then nothing changes.
+pub fn put_both<const N: usize>(map: &mut Map<u8, u8, N>, one: u8, other: u8) -> bool
+    ensures put { OnTrue result (map.new ≡ put nat_eq (put nat_eq map.old one other) other one) }
+    ensures refused { IsFalse result ↔ (N < length (put nat_eq (put nat_eq map.old one other) other one)) }
+    ensures unchanged { IsFalse result → map.new ≡ map.old }
+{
+    let mut copy = map.copied();
+    if copy.checked_insert(one, other).is_none() || copy.checked_insert(other, one).is_none() {
+        return false;
+    }
+    *map = copy;
     true
 }
 

@@ -8,7 +8,7 @@ ghost use Rattle.std.specs.Map.Iter.{deref_pair};
 ghost use Rattle.std.specs.Option.{option_and_then, option_copied, option_map, option_or};
 ghost use Rattle.std.specs.Set.{is_member};
 ghost use Rattle.micromap.specs.Operations.{union};
-ghost use Rattle.micromap.specs.Pairs.{at};
+ghost use Rattle.micromap.specs.Pairs.{at, take_out};
 
 use micromap::{Map, Set};
 use std::alloc::{AllocError, Global};
@@ -26,9 +26,8 @@ pub fn greatest<const N: usize>(pairs: &Map<u8, u32, N>) -> Option<u32>
 }
 
 /// Finds a key with the least value, and that value.
-/// It returns `None` if the map is empty. To take the pair out, call `remove` with the key. A key with the greatest
-/// value goes the same way by `max_by_key`, and so does the largest set that is a value, by `pair.1.len()`, if the
-/// capacities are numbers or constants.
+/// It returns `None` if the map is empty. A key with the greatest value goes the same way by `max_by_key`, and so does
+/// the largest set that is a value, by `pair.1.len()`, if the capacities are numbers or constants.
 pub fn cheapest<const N: usize>(prices: &Map<u8, u32, N>) -> Option<(u8, u32)>
     ensures none { IsNone result ↔ (prices.now ≡ []) }
     ensures found { IfSome result (Contains prices.now) }
@@ -36,6 +35,19 @@ pub fn cheapest<const N: usize>(prices: &Map<u8, u32, N>) -> Option<(u8, u32)>
 {
     let (key, price) = prices.iter().min_by_key(|pair| *pair.1)?;
     Some((*key, *price))
+}
+
+/// Takes out a pair with the least value, as to make room in a full map.
+/// It returns `None` if the map is empty.
+pub fn take_cheapest<const N: usize>(prices: &mut Map<u8, u32, N>) -> Option<(u8, u32)>
+    ensures found { IfSome result (Contains prices.old) }
+    ensures least { IfSome result (λ least. All (λ other. least.1 ≤ other.1) prices.old) }
+    ensures others { IfSome result (λ least. prices.new ≡ take_out nat_eq prices.old least.0) }
+    ensures none { IsNone result → prices.new ≡ [] }
+{
+    let least = cheapest(prices)?;
+    prices.remove(&least.0);
+    Some(least)
 }
 
 /// Finds the first key that passes a test.

@@ -2,8 +2,10 @@
 #![tactic(auto, using(micromap::proofs::Rules::caller))]
 
 ghost use Rattle.std.specs.Prelude.{◌≡◌, ◌↔◌, IfSome, IsTrue, Some, nat_eq};
+ghost use Rattle.std.specs.Bool.{OnTrue};
 ghost use Rattle.std.specs.List.{list_any};
 ghost use Rattle.std.specs.Map.{lookup, values_of};
+ghost use Rattle.std.specs.Option.{option_eq};
 ghost use Rattle.micromap.specs.Pairs.{at};
 ghost use Rattle.micromap.specs.Probe.{is_str};
 ghost use Rattle.micromap.specs.Same.{Same};
@@ -68,6 +70,17 @@ pub fn square_of<const N: usize>(board: &Map<Square, char, N>, piece: char) -> O
         }
     }
     None
+}
+
+/// Tells by a comparison that each key finds equal structs in both maps, or none.
+/// It does so if it returns `true`. Equal structs need not be the same value, so the clause compares them.
+pub fn find_equal_places<const N: usize, const M: usize>(
+    one: &Map<u8, Square, N>,
+    other: &Map<u8, Square, M>,
+) -> bool
+    ensures { OnTrue result ((k : _) → IsTrue (option_eq ⟦<Square as PartialEq>⟧.eq (at nat_eq one.now k) (at nat_eq other.now k))) }
+{
+    one.eq_with(other)
 }
 
 /// Reads a struct at a `&str`.
