@@ -2,7 +2,7 @@
 //! the place of `nat_eq` then.
 #![tactic(auto, using(micromap::proofs::Rules::caller))]
 
-ghost use Rattle.std.specs.Prelude.{◌≡◌, ◌+◌, ◌-◌, ◌<◌, ◌^◌, ◌≤◌, IfErr, IfOk, IfSome, IsFalse, None, OnOk, Some, filter, if◌then◌else◌, is_some, length, map, min, not, unwrap_or};
+ghost use Rattle.std.specs.Prelude.{◌≡◌, ◌↔◌, ◌+◌, ◌-◌, ◌<◌, ◌^◌, ◌≤◌, IfErr, IfOk, IfSome, IsFalse, None, OnOk, Some, filter, if◌then◌else◌, is_some, length, map, min, not, unwrap_or};
 ghost use Rattle.std.specs.Bool.{OnTrue};
 ghost use Rattle.std.specs.List.{list_all};
 ghost use Rattle.std.specs.Map.{lookup, values_of};
@@ -29,6 +29,21 @@ pub fn set<'a, const N: usize>(
     ensures numbers { key_strs numbers.new ≡ put_if_fits bytes_eq N (key_strs numbers.old) word.now number }
 {
     numbers.checked_insert(word, number)
+}
+
+/// That a word is no key.
+#[derive(Debug)]
+pub struct Unknown;
+
+/// Reads the value at a `&str`, or returns an error if there is none.
+pub fn number_of<const N: usize>(numbers: &Map<&str, u8, N>, word: &str) -> Result<u8, Unknown>
+    ensures found { IfOk result (λ number. at bytes_eq (key_strs numbers.now) word.now ≡ Some number) }
+    ensures unknown { IfErr result (λ _. at bytes_eq (key_strs numbers.now) word.now ≡ None) }
+{
+    match numbers.get_by(&Text(word)) {
+        Some(number) => Ok(*number),
+        None => Err(Unknown),
+    }
 }
 
 /// Reads the value at a `&str`, which is put there if it is missing and there is room.
@@ -92,13 +107,14 @@ pub fn unused_words<'a>(
 }
 
 /// Puts a map with `&str` keys over another, all or nothing.
+/// It returns `false` exactly if they don't all fit.
 pub fn overlay<'a, const N: usize, const M: usize>(
     settings: &mut Map<&'a str, u32, N>,
     other: &Map<&'a str, u32, M>,
 ) -> bool
     ensures put { OnTrue result (key_strs settings.new ≡ put_all bytes_eq (key_strs settings.old) (key_strs other.now)) }
     ensures unchanged { IsFalse result → settings.new ≡ settings.old }
-    ensures refused { IsFalse result → N < length (put_all bytes_eq (key_strs settings.old) (key_strs other.now)) }
+    ensures refused { IsFalse result ↔ (N < length (put_all bytes_eq (key_strs settings.old) (key_strs other.now))) }
 {
     settings.try_extend_from(other).is_ok()
 }
