@@ -1,7 +1,7 @@
 //! Changing one in place.
 #![tactic(auto, using(micromap::proofs::Rules::caller))]
 
-ghost use Rattle.std.specs.Prelude.{◌≡◌, ◌&&◌, ◌*ℤ◌, ◌*◌, ◌+◌, ◌-◌, ◌<◌, ◌^◌, [], IfSome, IsFalse, IsTrue, None, Some, drop, false, filter, if◌then◌else◌, length, map, min, nat_eq, nat_lt, not, slice_get, sum, sum_by, true};
+ghost use Rattle.std.specs.Prelude.{◌≡◌, ◌&&◌, ◌*ℤ◌, ◌+ℤ◌, ◌*◌, ◌+◌, ◌-◌, ◌<◌, ◌^◌, [], IfSome, IsFalse, IsTrue, None, Some, drop, false, filter, if◌then◌else◌, length, map, min, nat_eq, nat_lt, not, pos, slice_get, sum, sum_by, true, unwrap_or};
 ghost use Rattle.std.specs.Int.{saturate_signed, w64};
 ghost use Rattle.std.specs.List.{list_all};
 ghost use Rattle.std.specs.Map.{values_of};
@@ -59,6 +59,21 @@ pub fn scale_signed(amounts: &mut Map<u8, i64, 16>, factor: i64)
     ensures { amounts.new ≡ map (λ p. (p.0, saturate_signed w64 (p.1 *ℤ factor))) amounts.old }
 {
     amounts.update_all(|_, amount| *amount = amount.saturating_mul(factor));
+}
+
+/// Adds a signed amount to the value of a key, where a sum that doesn't fit stays at the end of the range.
+/// A new key begins at 0. It returns `false`, and nothing changes, if the key doesn't fit.
+#[tactic(auto, using(micromap::proofs::Rules::caller, micromap::proofs::Rules::signed))]
+pub fn post<const N: usize>(balances: &mut Map<u8, i64, N>, account: u8, amount: i64) -> bool
+    ensures answer { result ≡ fits nat_eq N balances.old account }
+    ensures balances { balances.new ≡ put_if_fits nat_eq N balances.old account (saturate_signed w64 (unwrap_or (at nat_eq balances.old account) (pos 0) +ℤ amount)) }
+{
+    if !balances.fits(&account) {
+        return false;
+    }
+    let balance = balances.entry(account).or_insert(0);
+    *balance = balance.saturating_add(amount);
+    true
 }
 
 /// Puts an item on a path and takes it off again, which leaves the path as it was.
