@@ -20,36 +20,31 @@ HEAD = """# Claims
 
 Made by `tools/documents` from the sources, from the edits and from what `tools/claims` recorded of them.
 
-Every clause is proved. Whether a clause says enough is tried by wrong bodies, which the prover must refuse. Of many clauses no refusal is known. \
+Every clause is proved, but may say too little. A refused wrong body suggests, within the limits below, that its clauses rule out this one mistake. \
 Counted are the clauses of `ensures`, the ghost members of impls and the laws of traits. Clauses of one name count once: `into_iter_gives` by value and by reference, and `matches` of `Text` for its three \
 types of key. The edits of `into_iter_gives` are of the bodies by value. Two edits are for a precondition, which isn't counted:
 
 TOTALS
 
-An *edit* changes the source to a wrong body. Some also give the call a bound that this body needs, as `V: Copy`. Those of `Probe` add a type with a wrong probe. A row has the call and the clauses that the edit is for, what is \
-wrong in the body, and the goal at which it was refused. The call is linked to its contract, and a call without a name behind \
-it has one clause. The same body may break other clauses too. The gate tries the edits that are linked to `must-fail/`, and \
+An *edit* changes the source to a wrong body. A row below has the clauses that the edit is for, what is wrong, and the *goal*, the statement to be proved, at which it was refused. The call is linked to its contract, and a call without a name behind \
+it has one clause. The same body may break other clauses too. The gate, `.ci/run`, tries those that are linked to `must-fail/`, and \
 [`tools/claims`](MAINTAINING.md#edits) all.
 
-- CHANGED of the EDITS edits change lines of the proof too, and are marked †. Most take out an answer, so that the search tries the goal. \
-Some rewrite answers, or the loop's invariant, for the wrong body. So an answer that no longer fits isn't what refuses the body. \
-It isn't tried whether the search proves the right body there.
+- CHANGED of the EDITS edits change lines of the proof too, and are marked †. Most take out an *answer*, a goal's proof by hand, so that the search tries the goal. \
+Some rewrite answers, or the loop's invariant, for the wrong body. If the search fails on the right body there too, which isn't tried, the refusal shows nothing.
 - One goal of each edit is recorded. It may have others.
 - A refusal shows that the search found no proof, not that there is none. After a loop without an invariant nothing is known of what \
-it changed, so a right body with such a loop would be refused too. Such are both `remove_moves_..`, `into_capacity_reverses_the_pairs`, `into_iter_from_the_end` and `read_entries_empties_the_source`.
+it changed, so a right body with such a loop would be refused too. Such are both `remove_moves_the_last_..`, `into_capacity_reverses_the_pairs`, `into_iter_from_the_end` and `read_entries_empties_the_source`.
 - Some bodies are those of an inner function on which the call rests. Then the recorded goal is one of that function's. It belongs to the same \
 clause, or to one that the call's proof uses. This doesn't show that the call's own clause says enough. \
-Of seven clauses no other body was refused at a goal: `into_iter_gives` of a map, those of `Iter::over`, `Keys::over` and `Values::over`, `succeeds` of `Map::clone`, and `memory` of `map_from_json` and of `set_from_json`.
+Seven clauses, counted above, have no other such body: `into_iter_gives` of a map, those of `Iter::over`, `Keys::over` and `Values::over`, `succeeds` of `Map::clone`, and `memory` of `map_from_json` and of `set_from_json`.
 - *Written proof* stands before a goal if only a proof that was written by hand refused the body. This shows no more than \
 that the proof doesn't serve the wrong body.
 - The goals are those of the last run of `tools/claims`. `tools/documents --check` wants one for each edit as it, the contract and the body stand, \
-and doesn't see that a definition or another proof has changed. The gate tries anew those in `must-fail/` alone.
+and doesn't see that a definition or another proof has changed.
 
-A goal has its file before it, in `src/` of the edit's crate, or the function of the written proof. `returns` is what holds at the return, and `returns-clause-pairs` is the clause `pairs` of it. \
-`insert-requires` is the precondition of a call of `insert`, `invariant_of-..` the invariant of a type, and `loop-..` \
-that of a loop, which ends in `-preserved` if it is the invariant after a turn. What follows names the branch or the call before it: `-in-Some` is an arm of a `match`, \
-`-then-len` and `-else-len` are the branches of a test by `len`, and `-in_err-value` is what `?` returns in `let value = ..?`. \
-`-value` is a law, `-after-f` follows a call of `f`, and a number tells apart goals of one name. The check calls the clause of `next_gives` `steps`, and that of `output` `writes`.
+A goal has its file before it, in `src/` of the edit's crate, or the function of the written proof. [CALLING](../crates/micromap/CALLING.md#when-a-check-fails) says how goals are named. \
+Here `invariant_of-..` is also the invariant of a type, `-value` is a law, `-after-f` follows a call of `f`, and a number tells apart goals of one name. The check calls the clause of `next_gives` `steps`, and that of `output` `writes`.
 """
 # What the clauses are called that ghost members of traits stand in.
 GHOSTS = {"next_gives": "steps", "output": "writes"}
@@ -201,30 +196,28 @@ class Claims:
 
     def counts(self):
         """How many clauses have an edit that a goal refuses, for how many of these such an edit leaves the proof as it is, and its
-        goal names no other clause, for how many no edit does, for how many the goal is that of another clause, how many have such as only a written proof refuses, how many have refused
+        goal names no other clause, for how many none does, how many have such as only a written proof refuses, how many have refused
         planted bodies alone, how many have none, and all."""
         unnamed, library = self.unnamed(), self.library()
         without = {call: len(names) for call, names in unnamed.items()}
         tried = sum(count for call, count in without.items() if self.verdict(call) not in SILENT)
         strong = [it for it in self.edits if it.path in self.goals and kind_of(self.goals[it.path]) != PROOF]
         shown = {*library} & {name for edit in strong for _, names in edit.claims for name in names}
-        alone = {name for edit in strong if not self.changes_proof(edit) for _, names in edit.claims for name in names}
         best = {it for edit in strong if not self.changes_proof(edit) for _, names in edit.claims for it in names if is_of(self.goals[edit.path], it)}
-        own = {name for edit in strong for _, names in edit.claims for name in names if is_of(self.goals[edit.path], name)}
         named = len(library) - sum(without.values())
-        return len(shown), len(shown & best), len(shown - alone), len(shown - own), named - len(shown), tried, sum(without.values()) - tried, len(library)
+        return len(shown), len(shown & best), len(shown - best), named - len(shown), tried, sum(without.values()) - tried, len(library)
 
     def totals(self):
         """The table of these."""
-        names = ["with an edit that a goal of a contract, an invariant or a call's condition refuses", "of these, by an edit that leaves the proof as it is, at a goal that names no other clause", "of these, only by edits that change the proof too", "of these, recorded only at a goal that names another clause; some are in the row above too"]
+        names = ["with an edit that a goal of a contract, an invariant or a call's condition refuses", "of these, by an edit that leaves the proof as it is, at a goal that names no other clause", "of these, only by edits that change the proof too, or at a goal that names another clause"]
         names += ["with edits that only a written proof refuses"]
-        names += [f"[without an edit](#{anchor(WITHOUT)}), but of a call of which `rt plant`, a tool of the kit, had a wrong body refused", "with none of these", "all"]
+        names += [f"[without an edit](#{anchor(WITHOUT)}), but of a call of which the kit's `rt plant` had a wrong body refused, by whichever clause", "with none of these", "all"]
         yield "| The library's clauses | |\n|---|---|"
         yield from (f"| {what} | {count} |" for what, count in zip(names, self.counts()))
 
     def wrong_of_readme(self):
         """What is amiss in the README's sentence about these."""
-        shown, best, _, _, written, tried, untried, library = self.counts()
-        wanted = (f"For {shown} of the library's {library} clauses a wrong body was refused at a goal. For {best} of these such a body leaves the proof as it is, and its goal names no other clause. For {written} more only a written proof refused the body. "
-                  f"{tried} more belong to calls of which a tool's wrong body was refused, by whichever clause. Of the other {untried} no refusal is known.")
+        shown, _, weaker, _, _, untried, library = self.counts()
+        wanted = (f"For {shown} of the library's {library} clauses one was refused. For {weaker} of these the proof was changed too, or the refused goal names another clause. "
+                  f"Of {untried} no refusal is known.")
         return [] if wanted in read("README.md") else [f"README.md doesn't say: {wanted}"]
