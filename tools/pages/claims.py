@@ -6,7 +6,7 @@ import re
 from pages.api import API
 from pages.edits import edits
 from pages.logs import NONE, plants_of
-from pages.record import PROOF, kind_of, recorded
+from pages.record import CONTRACT, PROOF, kind_of, recorded
 from pages.sources import LIBRARY, Sources, anchor, read
 
 CLAIMS = "docs/CLAIMS.md"
@@ -22,24 +22,23 @@ Made by `tools/documents` from the sources, from the edits and from what `tools/
 
 Every clause is proved, but may say too little. A refused wrong body suggests, within the limits below, that its clauses rule out this one mistake. \
 Counted are the clauses of `ensures`, the ghost members of impls and the laws of traits. Clauses of one name count once: `into_iter_gives` by value and by reference, and `matches` of `Text` for its three \
-types of key. The edits of `into_iter_gives` are of the bodies by value. Two edits are for a precondition, which isn't counted:
+types of key. The edits of `into_iter_gives` are of the bodies by value. `requires callable` is a precondition, and isn't counted:
 
 TOTALS
 
 An *edit* changes the source to a wrong body. A row below has the clauses that the edit is for, what is wrong, and the *goal*, the statement to be proved, at which it was refused. The call is linked to its contract, and a call without a name behind \
-it has one clause. The same body may break other clauses too. The gate, `.ci/run`, tries those that are linked to `must-fail/`, and \
+it has one clause. The gate, `.ci/run`, tries those that are linked to `must-fail/`, and \
 [`tools/claims`](MAINTAINING.md#edits) all.
 
 - CHANGED of the EDITS edits change lines of the proof too, and are marked †. Most take out an *answer*, a goal's proof by hand, so that the search tries the goal. \
 Some rewrite answers, or the loop's invariant, for the wrong body. If the search fails on the right body there too, which isn't tried, the refusal shows nothing.
-- One goal of each edit is recorded. It may have others.
+- One goal of each edit is recorded. If it names a clause, the row's others may hold of the body.
 - A refusal shows that the search found no proof, not that there is none. After a loop without an invariant nothing is known of what \
 it changed, so a right body with such a loop would be refused too. Such are both `remove_moves_the_last_..`, `into_capacity_reverses_the_pairs`, `into_iter_from_the_end` and `read_entries_empties_the_source`.
 - Some bodies are those of an inner function on which the call rests. Then the recorded goal is one of that function's. It belongs to the same \
 clause, or to one that the call's proof uses. This doesn't show that the call's own clause says enough. \
-Seven clauses, counted above, have no other such body: `into_iter_gives` of a map, those of `Iter::over`, `Keys::over` and `Values::over`, `succeeds` of `Map::clone`, and `memory` of `map_from_json` and of `set_from_json`.
-- *Written proof* stands before a goal if only a proof that was written by hand refused the body. This shows no more than \
-that the proof doesn't serve the wrong body.
+Seven clauses, counted above, have no other body: `into_iter_gives` of a map, those of `Iter::over`, `Keys::over` and `Values::over`, `succeeds` of `Map::clone`, and `memory` of `map_from_json` and of `set_from_json`.
+- A goal after *written proof*, of a proof by hand, a `loop-..` and a `..-requires` show no more than that this proof, invariant or call doesn't serve the wrong body.
 - The goals are those of the last run of `tools/claims`. `tools/documents --check` wants one for each edit as it, the contract and the body stand, \
 and doesn't see that a definition or another proof has changed.
 
@@ -52,7 +51,7 @@ WITHOUT = "Clauses without an edit"
 WITHOUT_HEAD = """
 These are proved as all others are. `rt plant` tries bodies of its own on a function. Some give up, as `None` does. Others call the \
 right body with an argument, the result or a field changed. A body is tried against all clauses of \
-the function at once, and an impl counts as one call. So what came of it stands here only of calls of which no clause of `ensures` has an edit, from the last run of `rt plant`, and stays if the call has changed since. Of the others the second column says why none was tried, or none judged. Of a *shared* call only a body that was let through is named:
+the function at once, and an impl counts as one call. So what came of it stands here only of calls of which no clause of `ensures` has an edit, from the last run of `rt plant`, and stays if the call has changed since. The others are those for which no refusal is known. The second column says why. Of a *shared* call it names only a body that was let through:
 
 SILENT
 
@@ -196,20 +195,20 @@ class Claims:
 
     def counts(self):
         """How many clauses have an edit that a goal refuses, for how many of these such an edit leaves the proof as it is, and its
-        goal names no other clause, for how many none does, how many have such as only a written proof refuses, how many have refused
+        goal is one of the contract and names no other clause, for how many none does, how many have such as only a written proof refuses, how many have refused
         planted bodies alone, how many have none, and all."""
         unnamed, library = self.unnamed(), self.library()
         without = {call: len(names) for call, names in unnamed.items()}
         tried = sum(count for call, count in without.items() if self.verdict(call) not in SILENT)
         strong = [it for it in self.edits if it.path in self.goals and kind_of(self.goals[it.path]) != PROOF]
         shown = {*library} & {name for edit in strong for _, names in edit.claims for name in names}
-        best = {it for edit in strong if not self.changes_proof(edit) for _, names in edit.claims for it in names if is_of(self.goals[edit.path], it)}
+        best = {it for edit in strong if not self.changes_proof(edit) and kind_of(self.goals[edit.path]) == CONTRACT for _, names in edit.claims for it in names if is_of(self.goals[edit.path], it)}
         named = len(library) - sum(without.values())
         return len(shown), len(shown & best), len(shown - best), named - len(shown), tried, sum(without.values()) - tried, len(library)
 
     def totals(self):
         """The table of these."""
-        names = ["with an edit that a goal of a contract, an invariant or a call's condition refuses", "of these, by an edit that leaves the proof as it is, at a goal that names no other clause", "of these, only by edits that change the proof too, or at a goal that names another clause"]
+        names = ["with an edit that a goal of a contract, an invariant or a call's condition refuses", "of these, by an edit that leaves the proof as it is, at a goal of the contract that names no other clause", "of these, only by edits that change the proof too, or at another goal"]
         names += ["with edits that only a written proof refuses"]
         names += [f"[without an edit](#{anchor(WITHOUT)}), but of a call of which the kit's `rt plant` had a wrong body refused, by whichever clause", "with none of these", "all"]
         yield "| The library's clauses | |\n|---|---|"
@@ -218,6 +217,6 @@ class Claims:
     def wrong_of_readme(self):
         """What is amiss in the README's sentence about these."""
         shown, _, weaker, _, _, untried, library = self.counts()
-        wanted = (f"For {shown} of the library's {library} clauses one was refused. For {weaker} of these the proof was changed too, or the refused goal names another clause. "
+        wanted = (f"For {shown} of the library's {library} clauses one was refused. For {weaker} of these the proof was changed too, or the refused goal isn't the clause itself. "
                   f"Of {untried} no refusal is known.")
         return [] if wanted in read("README.md") else [f"README.md doesn't say: {wanted}"]
