@@ -22,6 +22,7 @@ your own types and tests in the place of its own. Another type of keys may need 
 - The imports are those of the words in the clauses. [CALLING](CALLING.md#callers) has those of types.
 - A block `antt` is a file of definitions, of a loop's [invariant](PROVING.md#an-invariant), or of *answers*, which are proofs of single goals. It has
 the path of its function: that of `total` of `src/walks.rt` is `proofs/walks/total/Invariants.antt`, and in `main.rt` or `lib.rt` `proofs/total/Invariants.antt`. `my_crate` stands for your crate, and what follows `proofs.`, `contracts.` or `declared.`, as `counting`, for your file.
+- What a comment says of other types, calls or bodies, as "goes the same way", isn't proved here. The check of your crate tells.
 - The line of your crate in `crates.txt` is `name: micromap micromap_core`.
 - The proof of a recursive function `f` is in the folder `+f`. It says what falls at each call.
 - Many contracts say only what an `Ok`, a `Some` or a `true` means. Under such a contract nothing is known of the map after a refusal.
