@@ -12,9 +12,9 @@ use Rattle.std.specs.Map.{keys_of}
 use Rattle.micromap_core.proofs.DistinctLemmas.{IsDistinct-filter, new_behind}
 use Rattle.micromap_core.proofs.StreamLemmas.{built_in_turn}
 use Rattle.micromap.specs.Extend.{put_all_items}
-use Rattle.micromap.specs.ItemEntries.{entries_of}
+use Rattle.micromap.specs.SetStream.{entries_of}
 use Rattle.micromap.specs.Items.{put_item, item_fits, IsItems}
-use Rattle.micromap.proofs.EntryItems.{keys_of-entries}
+use Rattle.micromap.proofs.SetStreamLemmas.{keys_of-entries}
 use Rattle.micromap.proofs.ItemLemmas.{keys_put_all_items}
 use Rattle.micromap.proofs.Laws.SetLaws.{put_item_new}
 use Rattle.std.proofs.Math.Bool.{or-true}

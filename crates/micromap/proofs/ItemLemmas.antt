@@ -15,11 +15,6 @@ use Rattle.micromap_core.proofs.MapLemmas.{keys_of-put_stored, keys_of-put_new}
 use Rattle.micromap.specs.Extend.{put_all_items, ItemMisfitIn}
 use Rattle.micromap.specs.Items.{IsItems, put_item, replace_item, item_fits, take_item}
 
-pub any-find : {T : Type 0} (test : T → Bool) (items : List T)
-    → list_any test items ≡ is_some (find test items)
-any-find test [] = refl
-any-find test (x ∷ items) = grind (arith, any-find test items)
-
 module _ {T V : Type 0} where
   module _ (test : T → Bool) where
     pub find-keys : (pairs : List (T × V))

@@ -1,6 +1,5 @@
 pub mod Laws
 pub mod AddedItems
-pub mod EntryItems
 pub mod ExtendLemmas
 pub mod Forwarded
 pub mod ItemLemmas
@@ -11,6 +10,7 @@ pub mod OperationLaws
 pub mod OperationSteps
 pub mod RetainItems
 pub mod Rules
+pub mod SetStreamLemmas
 pub use Rattle.micromap_core.proofs.ClosureLemmas
 pub use Rattle.micromap_core.proofs.DistinctLemmas
 pub use Rattle.micromap_core.proofs.FairLemmas

@@ -16,7 +16,7 @@ module _ {T : Type 0} (eq : T → T → Bool) where
   abbrev pub put_item_or_refuse : ℕ → Option (List T) → T → Option (List T)
   put_item_or_refuse N = put_whole (item_fits eq N) (put_item eq)
 
-  -- the items of a new set of capacity N once these are put, or `None` if one of them doesn't fit
+  -- for callers' clauses: the items of a new set of capacity N once these are put, or `None` if one of them doesn't fit
   unfoldable pub distinct_or_refuse : ℕ → List T → Option (List T)
   distinct_or_refuse N items = fold (put_item_or_refuse N) (Some []) items
 

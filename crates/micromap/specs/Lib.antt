@@ -1,9 +1,9 @@
 pub mod Extend
-pub mod ItemEntries
 pub mod Items
 pub mod Json
 pub mod Operations
 pub mod SetMemory
+pub mod SetStream
 pub use Rattle.micromap_core.specs.Build
 pub use Rattle.micromap_core.specs.Calls
 pub use Rattle.micromap_core.specs.Clones

@@ -10,7 +10,6 @@ mod capacity;
 mod clone;
 mod closures;
 mod compare;
-mod extend_from;
 mod insert;
 mod lookup;
 mod operations;

@@ -15,10 +15,11 @@ use Rattle.std.proofs.iter.runs.Made.{run_of_turn}
 use Rattle.std.proofs.lemmas.Bool.{cases_Bool, ltb-false, lt-leb, le-leb, leb-true, leb-false, not-true}
 use Rattle.std.proofs.lemmas.List.{length_push, take_all, take_at, length-map, length-take, take-append-drop}
 use Rattle.std.proofs.lemmas.List.Sums.{fold-append, fold_more, fold_push}
-use Rattle.micromap_core.specs.Build.{all_fit, build, each_fits, PutsEach, PutsUpTo, pair_fits, put_fitting, put_pair, put_whole, StopsAt}
+use Rattle.micromap_core.specs.Build.{all_fit, build, count_one, each_fits, PutsEach, PutsUpTo, pair_fits, put_fitting, put_pair, put_whole, StopsAt}
 use Rattle.std.specs.Map.{keys_of}
 use Rattle.std.specs.Set.{distinct_count, is_member}
 use Rattle.std.specs.Bool.{then_some}
+use Rattle.std.specs.Option.{unwrap_or}
 use Rattle.std.proofs.lemmas.Bool.Decides.{leb_tells}
 use Rattle.std.proofs.lemmas.List.Folds.{list_any-append}
 use Rattle.std.proofs.lemmas.Map.Entries.{length-keys_of}
@@ -422,6 +423,11 @@ pub pairs_keyed : {K V : Type 0} (eq : K → K → Bool) (N : ℕ)
     → IsKeyed eq N (pair_fits {V = V} eq N)
     (put_pair eq) keys_of (λ p. p.0) [] (λ items. distinct_count eq (keys_of items))
 pairs_keyed eq N = puts_keyed eq N (λ p. p.0) (λ pairs p. p.1)
+
+-- and a counter, whose items are its keys
+pub counts_keyed : {K : Type 0} (eq : K → K → Bool) (N : ℕ)
+    → IsKeyed eq N (fits eq N) (count_one eq) keys_of (λ x. x) [] (λ items. distinct_count eq (map (λ x. x) items))
+counts_keyed eq N = puts_keyed eq N (λ x. x) (λ pairs x. unwrap_or (at eq pairs x) 0 + 1)
 
 -- what is built of items that fit is what a map may hold
 pub IsContent-build : {K V : Type 0} (eq : K → K → Bool) (N : ℕ) → IsEquivalence eq

@@ -5,9 +5,9 @@ use Rattle.std.proofs.Math.Seq.{set-append_seam}
 use Rattle.micromap_core.specs.Found.{FoundAt, NotFound}
 use Rattle.micromap_core.specs.Pairs.{index_of, take_out, with_value_at, without_at}
 use Rattle.micromap_core.specs.Entry.{Occupied, Vacant, entry_map_ref, entry_key, entry_put, entry_taken, IsEntryOf, IsWritten}
-use Rattle.micromap_core.specs.declared.entry.EntryIn.{EntryIn}
-use Rattle.micromap_core.specs.declared.entry.OccupiedIn.{OccupiedIn}
-use Rattle.micromap_core.specs.declared.entry.VacantIn.{VacantIn}
+use Rattle.micromap_core.specs.declared.map.entry.EntryIn.{EntryIn}
+use Rattle.micromap_core.specs.declared.map.entry.OccupiedIn.{OccupiedIn}
+use Rattle.micromap_core.specs.declared.map.entry.VacantIn.{VacantIn}
 use Rattle.micromap_core.proofs.Lists.{slice_get-set_same, slice_get_seam, remove-set, remove_seam}
 use Rattle.micromap_core.proofs.MapLemmas.{with_value_at-put, push-put}
 

@@ -2,9 +2,9 @@
 use Rattle.std.proofs.Common.{◌≡◌, ℕ, Bool, false, ◌&&◌, ◌||◌, List, [], ◌∷◌, Option, Some}
 use Rattle.std.proofs.Common.{map, refl, ap, ◌∙◌, arith, option_map}
 use Rattle.std.specs.Fmt.{◌++?◌, comma_space, debug_items}
-use Rattle.std.specs.List.{AllByRecursion, AllZip, IsDistinct, find, list_all, list_any}
+use Rattle.std.specs.List.{AllByRecursion, IsDistinct, find, list_all, list_any}
 use Rattle.std.specs.Ordering.{on}
-use Rattle.std.specs.Set.{remove_key, swap_key}
+use Rattle.std.specs.Set.{remove_key}
 use Rattle.std.proofs.lemmas.List.Folds.{list_all-map}
 use Rattle.micromap_core.specs.Same.{have_equal_items}
 
@@ -23,11 +23,6 @@ module _ {X Y : Type 0} (f : X → Y) where
         → map f (remove_key (λ x. test (f x)) xs) ≡ remove_key test (map f xs)
     remove_key-map [] = refl
     remove_key-map (x ∷ xs) = grind (arith, remove_key-map xs)
-
-    pub swap_key-map : (xs : List X) (y : X)
-        → map f (swap_key (λ x. test (f x)) xs y) ≡ swap_key test (map f xs) (f y)
-    swap_key-map [] y = refl
-    swap_key-map (x ∷ xs) y = grind (arith, swap_key-map xs y)
 
   -- by an equality of what is seen
   module _ (eq : Y → Y → Bool) where
@@ -61,15 +56,6 @@ module _ {X Y : Type 0} (f : X → Y) where
     pub equal_items-map : (a b : List X)
         → have_equal_items eq (map f a) (map f b) ≡ have_equal_items (on f eq) a b
     equal_items-map a b = λ i. within-map a b i && within-map b a i
-
-  -- of clones that are seen alike
-  pub clones-map : (C : X → X → Type 0) → ((x y : X) → C x y → f y ≡ f x) → (xs ys : List X)
-      → AllZip C xs ys → map f ys ≡ map f xs
-  clones-map C alike [] [] clones = refl
-  clones-map C alike [] (y ∷ ys) clones = absurd clones
-  clones-map C alike (x ∷ xs) [] clones = absurd clones
-  clones-map C alike (x ∷ xs) (y ∷ ys) clones =
-      λ i. alike x y clones.0 i ∷ clones-map C alike xs ys clones.1 i
 
   pub printed-map : (text : Y → Option (List ℕ)) (lead : List ℕ) (xs : List X)
       → debug_items text lead (map f xs) ≡ debug_items (λ x. text (f x)) lead xs

@@ -17,11 +17,11 @@ module _ {S A : Type 0} (next_gives : S → Option A → S → Type 0) (items : 
   abbrev pub ItemsUpTo : (List A → ℕ → Type 0) → Overfull → Type 0
   ItemsUpTo P e = SomeRun next_gives items (λ p. (p.len ≡ e.at + 1) × P p.items e.at)
 
-module _ {C X : Type 0} (fits : C → X → Bool) (put : C → X → C) where
+module _ {C X : Type 0} (admits : C → X → Bool) (add : C → X → C) where
   -- whether each item fits when it is put
   abbrev pub each_fits : C → List X → Bool
   each_fits content [] = true
-  each_fits content (x ∷ items) = fits content x && each_fits (put content x) items
+  each_fits content (x ∷ items) = admits content x && each_fits (add content x) items
 
   -- the first of the items that doesn't fit stands at the position
   abbrev pub StopsAt : C → List X → ℕ → Type 0
@@ -29,20 +29,20 @@ module _ {C X : Type 0} (fits : C → X → Bool) (put : C → X → C) where
 
   -- each of the items fits, and new is the content once they are put
   abbrev pub PutsEach : C → C → List X → Type 0
-  PutsEach content new items = IsTrue (each_fits content items) × (new ≡ fold put content items)
+  PutsEach content new items = IsTrue (each_fits content items) × (new ≡ fold add content items)
 
   -- the first that doesn't fit stands at the position, and new is the content once those before it are put
   abbrev pub PutsUpTo : C → C → List X → ℕ → Type 0
-  PutsUpTo content new items position = StopsAt content items position × (new ≡ fold put content (take position items))
+  PutsUpTo content new items position = StopsAt content items position × (new ≡ fold add content (take position items))
 
   -- the content once x is put, or the same content if x doesn't fit
   abbrev pub put_fitting : C → X → C
-  put_fitting content x = if fits content x then put content x else content
+  put_fitting content x = if admits content x then add content x else content
 
   -- the content once x is put, or `None` if x doesn't fit or if an item before it didn't
   abbrev pub put_whole : Option C → X → Option C
   put_whole None x = None
-  put_whole (Some content) x = if fits content x then Some (put content x) else None
+  put_whole (Some content) x = if admits content x then Some (add content x) else None
 
 -- a map's pairs
 module _ {K V : Type 0} (eq : K → K → Bool) where
@@ -62,7 +62,7 @@ module _ {K V : Type 0} (eq : K → K → Bool) where
   abbrev pub put_or_refuse : ℕ → Option (List (K × V)) → K × V → Option (List (K × V))
   put_or_refuse N = put_whole (pair_fits N) put_pair
 
-  -- the pairs of a new map of capacity N once the items are put, or `None` if one of them doesn't fit
+  -- for callers' clauses: the pairs of a new map of capacity N once the items are put, or `None` if one of them doesn't fit
   unfoldable pub build_or_refuse : ℕ → List (K × V) → Option (List (K × V))
   build_or_refuse N items = fold (put_or_refuse N) (Some []) items
 
@@ -104,11 +104,12 @@ module _ {K : Type 0} (eq : K → K → Bool) where
   abbrev pub count_or_refuse : ℕ → Option (List (K × ℕ)) → K → Option (List (K × ℕ))
   count_or_refuse N = put_whole (fits eq N) count_one
 
-  -- the pairs of a counter of capacity N once these items came, or `None` if one of them doesn't fit
+  -- for callers' clauses: the pairs of a counter of capacity N once these items came, or `None` if one of them doesn't fit
   unfoldable pub counts_or_refuse : ℕ → List K → Option (List (K × ℕ))
   counts_or_refuse N items = fold (count_or_refuse N) (Some []) items
 
--- a map into which values are merged: `step` makes the new value of the one that is stored, if any, and of the item's
+-- for callers' clauses: a map into which a loop merges values; `step` makes the new value of the one that is stored, if any,
+-- and of the item's
 module _ {K V W : Type 0} (eq : K → K → Bool) (step : Option V → W → V) where
   -- the pairs once one item is merged
   abbrev pub merge_pair : List (K × V) → K × W → List (K × V)

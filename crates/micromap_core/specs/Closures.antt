@@ -78,6 +78,6 @@ module _ {K V : Type 0} (eq : K → K → Bool) (h : ℕ → V → V) where
   abbrev pub written_by : List (K × V) → ℕ × K → List (K × V)
   written_by pairs e = option_map_or (λ v. put eq pairs e.1 (h e.0 v)) (at eq pairs e.1) pairs
 
-  -- the pairs once each of the keys has that, in their order
+  -- for callers' clauses: the pairs once each of the keys has that, in their order
   abbrev pub updated_disjoint : List (K × V) → List K → List (K × V)
   updated_disjoint pairs keys = fold written_by pairs (enumerate_from 0 keys)

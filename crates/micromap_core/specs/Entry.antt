@@ -1,14 +1,14 @@
 -- What an entry has, and what its calls leave. The words serve its halves too, as `entry_value (Occupied o)`.
-pub use Rattle.micromap_core.specs.declared.entry.EntryIn.TheVariants.{Occupied, Vacant}
+pub use Rattle.micromap_core.specs.declared.map.entry.EntryIn.TheVariants.{Occupied, Vacant}
 use Rattle.std.specs.Prelude.{◌≡◌, ℕ, ◌<◌, Bool, true, false, ◌||◌, List, [], ◌∷◌, ◌++◌, length, Option, Some, None, slice_get}
 use Rattle.std.specs.Option.{option_map, option_map_or, IsSomeAnd}
 use Rattle.std.specs.Fn.{FnOnceReturnsAt, Once}
 use Rattle.std.specs.Borrow.{Bor, MutBor, RattleType, Fml, follows}
 use Rattle.micromap_core.specs.Pairs.{at, pair, index_of, has, has_room, put, take_out, with_value_at, without_at}
-use Rattle.micromap_core.specs.declared.entry.EntryIn.{EntryIn}
-use Rattle.micromap_core.specs.declared.entry.OccupiedIn.{OccupiedIn}
+use Rattle.micromap_core.specs.declared.map.entry.EntryIn.{EntryIn}
+use Rattle.micromap_core.specs.declared.map.entry.OccupiedIn.{OccupiedIn}
 use Rattle.micromap_core.specs.contracts.map.Map.{the_row}
-use Rattle.micromap_core.specs.contracts.entry.OccupiedIn as occupied
+use Rattle.micromap_core.specs.contracts.map.entry.OccupiedIn as occupied
 use mir.Syntax.{named}
 
 module _ {K V : Type 0} where

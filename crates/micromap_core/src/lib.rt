@@ -1,7 +1,6 @@
 //! A map of fixed capacity that finds its keys by `==` alone: no hash, no order on keys, no heap.
 #![tactic(auto)]
 
-pub mod entry;
 mod insert_error;
 pub mod map;
 mod overfull;

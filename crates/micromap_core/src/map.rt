@@ -8,7 +8,7 @@ mod clone;
 mod closures;
 mod compare;
 mod counted;
-mod extend_from;
+mod entry;
 mod indexed;
 mod insert;
 mod lookup;
@@ -19,8 +19,8 @@ mod stream;
 mod texts;
 mod walk;
 
-pub use crate::entry::{Entry, OccupiedEntry, VacantEntry};
 use crate::slots::Columns;
+pub use entry::{Entry, OccupiedEntry, VacantEntry};
 pub use micromap_walk::{Drain, IntoIter, IntoKeys, IntoValues, Iter, Keys, Values};
 use std::marker::Model;
 

@@ -12,18 +12,17 @@ use Rattle.std.proofs.lemmas.Bool.Decides.{nat_tests}
 use Rattle.std.proofs.lemmas.Map.Entries.{length-keys_of}
 use Rattle.micromap_core.specs.Equalities.{Lawful, Probes}
 use Rattle.micromap_core.specs.Pairs.{put, put_key, take_out, IsUnique}
-use Rattle.micromap_core.proofs.Laws.Equalities.{equalities, of_lawful, probes_key}
+use Rattle.micromap_core.proofs.Laws.Equalities.{equalities, of_lawful, probes_key, Where}
 use Rattle.std.proofs.option.Match.{None-if_not_some}
 use Rattle.micromap_core.proofs.Laws.MapLaws.{lookup_put, lookup_put_key, lookup_take_out, pair_put, pair_put_key}
 use Rattle.micromap_core.proofs.Laws.MapLaws.{pair_take_out, length_put, length_put_key, length_take_out, unique_put}
 use Rattle.micromap_core.proofs.Laws.MapLaws.{unique_put_key, unique_take_out, take_out_missing, take_out_put, keys_take_out}
-use Rattle.micromap_core.proofs.Laws.MapLaws.{has_behind}
 use Rattle.micromap_core.proofs.Laws.ProbedLaws.{keys_remove_entry}
-use Rattle.micromap.specs.ItemEntries.{entries_of}
+use Rattle.micromap.specs.SetStream.{entries_of}
 use Rattle.micromap.specs.Extend.{put_all_items}
 use Rattle.micromap.specs.Items.{put_item, replace_item, find_item, item_fits, take_item}
 use Rattle.micromap.specs.Operations.{difference, intersection, symmetric_difference, union}
-use Rattle.micromap.proofs.EntryItems.{keys_of-entries}
+use Rattle.micromap.proofs.SetStreamLemmas.{keys_of-entries}
 use Rattle.micromap.proofs.ItemLemmas.{keys_put_item, any-keys, replace_item-keys, find-keys, take-keys, take_item-keys}
 use Rattle.micromap.proofs.OperationLaws.{is_member-difference, is_member-intersection, is_member-symmetric_difference, is_member-union, within_is_member}
 
@@ -217,10 +216,21 @@ module _ {T : Type 0} (eq : T → T → Bool) (items : List T) (x : T) where
       (None-if_not_some _ (sym (any-entries (eq x) items) ∙ missing))) ∙ keys_of-entries items
 
   -- a removal by a probe that matches the items equal to an item
-  pub take_item_key : (take_item eq items x ≡ take_item eq items x)
-      × (take_item eq items x ≡ remove_key (eq x) items)
+  pub take_item_key : Where (take_item eq items x) (take_item eq items x ≡ remove_key (eq x) items)
   unfolding take_item
   take_item_key = (refl, refl)
+
+-- items that all pass a test, with one more that does
+module _ {T : Type 0} (test : T → Bool) where
+  all_push : (items : List T) (x : T) → list_all test items ≡ true → test x ≡ true
+      → list_all test (items ++ x ∷ []) ≡ true
+  all_push [] x all passes = grind (arith, passes)
+  all_push (y ∷ items) x all passes = grind (arith, all, all_push items x, passes)
+
+  pub all_put_item : (eq : T → T → Bool) (items : List T) (x : T) → list_all test items ≡ true
+      → test x ≡ true → list_all test (put_item eq items x) ≡ true
+  unfolding put_item
+  all_put_item eq items x all passes = grind (arith, all, all_push items x all passes)
 
 -- at an item of one's own
 module _ {T : Type 0} (eq : T → T → Bool) (items : List T) (x y : T) where
@@ -245,20 +255,6 @@ module _ {T : Type 0} (eq : T → T → Bool) (items : List T) (x y : T) where
   find_item_replace_item laws = find_replace_item eq (eq y) items x (probes_key eq y laws)
       ∙ ap (λ b. if b then Some x else find_item eq items y) ((of_lawful eq laws).symm y x)
 
--- the first item: it is there, none behind it is equal, and a removal of it leaves what is behind
-module _ {T : Type 0} (eq : T → T → Bool) (x : T) (behind : List T) where
-  pub is_member_first : Lawful eq → is_member eq (x ∷ behind) x ≡ true
-  is_member_first laws = ap (λ b. b || is_member eq behind x) ((of_lawful eq laws).refl x)
-
-  pub is_member_behind : Lawful eq → IsDistinct eq (x ∷ behind) → is_member eq behind x ≡ false
-  is_member_behind laws distinct = any-entries (eq x) behind
-      ∙ has_behind eq (x, tt) (entries_of behind) laws (unique-entries eq (x ∷ behind) distinct)
-
-  pub take_item_first : Lawful eq → take_item eq (x ∷ behind) x ≡ behind
-  unfolding take_item
-  take_item_first laws = ap (λ b. if b then behind else x ∷ remove_key (eq x) behind)
-      ((of_lawful eq laws).refl x)
-
 -- after a list of items
 module _ {T : Type 0} (eq : T → T → Bool) where
   pub any_put_all_items : (test : T → Bool) (items xs : List T) → Probes eq test
@@ -277,11 +273,6 @@ module _ {T : Type 0} (eq : T → T → Bool) where
 
 -- the calls by probe, said by its test
 module _ {T : Type 0} (test : T → Bool) where
-  pub remove_key_missing : (items : List T) → list_any test items ≡ false
-      → remove_key test items ≡ items
-  remove_key_missing [] none = refl
-  remove_key_missing (y ∷ items) none = grind (arith, none, remove_key_missing items)
-
   pub length_remove_key : (items : List T)
       → length (remove_key test items) + (if list_any test items then 1 else 0) ≡ length items
   length_remove_key [] = refl
@@ -304,73 +295,59 @@ is_member_walked eq items left all laws = ap (list_all (is_member eq items)) all
 -- item of one's own equals itself
 module _ {T : Type 0} (eq : T → T → Bool) (items : List T) (x : T) where
   pub each_put_item : Lawful eq
-      → (put_item eq items x ≡ put_item eq items x) × (is_member eq (put_item eq items x) x ≡ true)
-      × ((y : T) → is_member eq (put_item eq items x) y ≡ (eq x y || is_member eq items y))
+      → Where (put_item eq items x) ((is_member eq (put_item eq items x) x ≡ true)
+      × ((y : T) → is_member eq (put_item eq items x) y ≡ (eq x y || is_member eq items y)))
   each_put_item laws = (
     refl,
-    is_member_put_item eq items x x laws
-        ∙ ap (λ b. b || is_member eq items x) ((of_lawful eq laws).refl x),
-    λ y. is_member_put_item eq items x y laws,
-  )
-
-  pub each_replace_item : Lawful eq
-      → (replace_item eq items x ≡ replace_item eq items x)
-      × (find_item eq (replace_item eq items x) x ≡ Some x)
-      × ((y : T) → is_member eq (replace_item eq items x) y ≡ (eq x y || is_member eq items y))
-  each_replace_item laws = (
-    refl,
-    find_item_replace_item eq items x x laws
-        ∙ ap (λ b. if b then Some x else find_item eq items x) ((of_lawful eq laws).refl x),
-    λ y. is_member_replace_item eq items x y laws,
+    (
+      is_member_put_item eq items x x laws
+          ∙ ap (λ b. b || is_member eq items x) ((of_lawful eq laws).refl x),
+      λ y. is_member_put_item eq items x y laws,
+    ),
   )
 
   pub each_take_item : Lawful eq → IsDistinct eq items
-      → (take_item eq items x ≡ take_item eq items x)
-      × (is_member eq (take_item eq items x) x ≡ false)
-      × ((y : T) → is_member eq (take_item eq items x) y ≡ (not (eq x y) && is_member eq items y))
+      → Where (take_item eq items x) ((is_member eq (take_item eq items x) x ≡ false)
+      × ((y : T) → is_member eq (take_item eq items x) y ≡ (not (eq x y) && is_member eq items y)))
   each_take_item laws distinct = (
     refl,
-    is_member_take_item eq items x x laws distinct
-        ∙ ap (λ b. not b && is_member eq items x) ((of_lawful eq laws).refl x),
-    λ y. is_member_take_item eq items x y laws distinct,
+    (
+      is_member_take_item eq items x x laws distinct
+          ∙ ap (λ b. not b && is_member eq items x) ((of_lawful eq laws).refl x),
+      λ y. is_member_take_item eq items x y laws distinct,
+    ),
   )
 
 module _ {T : Type 0} (eq : T → T → Bool) (xs ys : List T) where
   pub each_put_all_items : Lawful eq
-      → (put_all_items eq xs ys ≡ put_all_items eq xs ys)
-      × ((y : T) → is_member eq (put_all_items eq xs ys) y
+      → Where (put_all_items eq xs ys) ((y : T) → is_member eq (put_all_items eq xs ys) y
       ≡ (is_member eq ys y || is_member eq xs y))
   each_put_all_items laws = (refl, λ y. is_member_put_all_items eq xs ys y laws)
 
   pub each_union : Lawful eq
-      → (union eq xs ys ≡ union eq xs ys)
-      × ((y : T) → is_member eq (union eq xs ys) y ≡ (is_member eq xs y || is_member eq ys y))
+      → Where (union eq xs ys)
+      ((y : T) → is_member eq (union eq xs ys) y ≡ (is_member eq xs y || is_member eq ys y))
   each_union laws = (refl, is_member-union (of_lawful eq laws) xs ys)
 
   pub each_symmetric_difference : Lawful eq
-      → (symmetric_difference eq xs ys ≡ symmetric_difference eq xs ys)
-      × ((y : T) → is_member eq (symmetric_difference eq xs ys) y
+      → Where (symmetric_difference eq xs ys)
+      ((y : T) → is_member eq (symmetric_difference eq xs ys) y
       ≡ (if is_member eq xs y then not (is_member eq ys y) else is_member eq ys y))
   each_symmetric_difference laws = (refl, is_member-symmetric_difference (of_lawful eq laws) xs ys)
 
   pub each_difference : Lawful eq
-      → (difference eq xs ys ≡ difference eq xs ys)
-      × ((y : T) → is_member eq (difference eq xs ys) y
+      → Where (difference eq xs ys) ((y : T) → is_member eq (difference eq xs ys) y
       ≡ (is_member eq xs y && not (is_member eq ys y)))
   each_difference laws = (refl, is_member-difference (of_lawful eq laws) xs ys)
 
   pub each_intersection : Lawful eq
-      → (intersection eq xs ys ≡ intersection eq xs ys)
-      × ((y : T) → is_member eq (intersection eq xs ys) y
+      → Where (intersection eq xs ys) ((y : T) → is_member eq (intersection eq xs ys) y
       ≡ (is_member eq xs y && is_member eq ys y))
   each_intersection laws = (refl, is_member-intersection (of_lawful eq laws) xs ys)
 
 pub ruleset set_laws = (
   put_item_new,
   not_fits,
-  is_member_first,
-  is_member_behind,
-  take_item_first,
   any_put_all_items,
   any_put_item,
   any_replace_item,
@@ -388,12 +365,10 @@ pub ruleset set_laws = (
   put_item_back,
   take_item_missing,
   take_item_put_item,
-  remove_key_missing,
   take_item_key,
   length_remove_key,
   items_remove_key,
   each_put_item,
-  each_replace_item,
   each_take_item,
   each_put_all_items,
   each_union,

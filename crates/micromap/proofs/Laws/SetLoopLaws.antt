@@ -2,29 +2,31 @@
 -- was put, as `CountLaws` says of a map's keys; and that the keys of a map into which a loop merges values are the items
 -- of a set to which the same keys are added. The rulesets `loops` and `caller` of `Rules` have what a search needs.
 use Rattle.std.proofs.Common.{◌≡◌, ◌≤◌, Bool, false, not, List, [], ◌∷◌, ◌++◌, filter, length, refl, ap, sym, ◌∙◌}
-use Rattle.std.proofs.Common.{append_assoc, arith, append-nil, ℕ, ◌+◌, ◌<◌, map, get_or, take, subst, Option}
-use Rattle.std.specs.List.{AllByRecursion, IsDistinct, list_any}
+use Rattle.std.proofs.Common.{append_assoc, arith, append-nil, inl, inr, true, ℕ, ◌+◌, ◌<◌, map, get_or, take, subst, Option}
+use Rattle.std.specs.List.{AllByRecursion, IsDistinct, list_all, list_any}
 use Rattle.std.specs.Map.{keys_of}
 use Rattle.std.specs.Set.{is_member, distinct_count}
 use Rattle.std.proofs.lemmas.List.{length-append, map-id, take_all}
 use Rattle.std.proofs.lemmas.List.Sums.{fold_more}
+use Rattle.std.proofs.lemmas.Bool.{cases_Bool, false≢true}
 use Rattle.std.proofs.lemmas.Map.Entries.{length-keys_of}
+use Rattle.std.proofs.lemmas.Map.Made.{is_some-lookup}
 use Rattle.std.proofs.lemmas.Map.Keys.{IsDistinct-head, IsDistinct-tail}
 use Rattle.micromap_core.specs.Build.{merge_pair, merged}
 use Rattle.micromap_core.specs.Equalities.{Lawful}
-use Rattle.micromap_core.specs.Pairs.{at}
+use Rattle.micromap_core.specs.Pairs.{at, has}
 use Rattle.micromap_core.proofs.BuildLemmas.{fold_beyond, length-built, length-fold, member-fold, IsDistinct-nil}
-use Rattle.micromap_core.proofs.DistinctLemmas.{IsDistinct-filter, new_behind}
+use Rattle.micromap_core.proofs.DistinctLemmas.{IsDistinct-filter, missing_in_shorter, new_behind}
 use Rattle.micromap_core.proofs.Lists.{all_read, taken_read}
-use Rattle.micromap_core.proofs.Laws.Equalities.{equalities, of_lawful}
+use Rattle.micromap_core.proofs.Laws.Equalities.{equalities, of_lawful, Where}
 use Rattle.micromap_core.proofs.Laws.LoopLaws.{each_left}
 use Rattle.micromap.specs.Extend.{put_all_items, distinct}
-use Rattle.micromap.specs.Items.{put_item, take_item}
+use Rattle.micromap.specs.Items.{item_fits, put_item, take_item}
 use Rattle.micromap.specs.Operations.{difference, union}
 use Rattle.micromap.proofs.ExtendLemmas.{items_keyed}
 use Rattle.micromap.proofs.ItemLemmas.{keys_put_item, keys_put_all_items}
 use Rattle.micromap.proofs.Laws.SetLaws.{is_member_put_item, items_take_item, length_put_item, not_fits}
-use Rattle.micromap.proofs.Laws.SetLaws.{put_item_back, put_item_new}
+use Rattle.micromap.proofs.Laws.SetLaws.{all_put_item, put_item_back, put_item_new, unique_put_item}
 
 module _ {T : Type 0} (eq : T → T → Bool) where
   -- items that are done and items that are left: a new one goes between them
@@ -120,62 +122,70 @@ module _ {T : Type 0} (eq : T → T → Bool) where
 
   -- what a search needs, at once: of a set that is built of a list, and of its first so many
   pub each_distinct : (xs : List T) → Lawful eq
-      → (distinct eq xs ≡ distinct eq xs) × (length (distinct eq xs) ≡ distinct_count eq xs)
-      × ((x : T) → is_member eq (distinct eq xs) x ≡ list_any (eq x) xs)
-  each_distinct xs laws = (refl, length_distinct xs laws, λ x. is_member_distinct xs x laws)
+      → Where (distinct eq xs) ((length (distinct eq xs) ≡ distinct_count eq xs)
+      × ((x : T) → is_member eq (distinct eq xs) x ≡ list_any (eq x) xs))
+  each_distinct xs laws = (refl, (length_distinct xs laws, λ x. is_member_distinct xs x laws))
 
   pub each_distinct_take : (xs : List T) (i : ℕ) → Lawful eq
-      → (distinct eq (take i xs) ≡ distinct eq (take i xs))
-      × (length xs ≤ i → distinct eq (take i xs) ≡ distinct eq xs)
+      → Where (distinct eq (take i xs)) ((length xs ≤ i → distinct eq (take i xs) ≡ distinct eq xs)
       × ((d : T) → i < length xs
       → distinct eq (take (i + 1) xs) ≡ put_item eq (distinct eq (take i xs)) (get_or xs i d))
       × ((d : T) → i < length xs → is_member eq (distinct eq (take i xs)) (get_or xs i d) ≡ false
-      → length (distinct eq (take i xs)) < distinct_count eq xs)
+      → length (distinct eq (take i xs)) < distinct_count eq xs))
   each_distinct_take xs i laws = (
     refl,
-    λ over. ap (distinct eq) (take_all i xs over),
-    fold_more (put_item eq) [] xs i,
-    λ d within new. subst (λ n. length (distinct eq (take i xs)) < n) (length_distinct xs laws)
-        (fold_beyond (of_lawful eq laws) (items_keyed eq 0) [] xs i d within (IsDistinct-nil eq) new),
+    (
+      λ over. ap (distinct eq) (take_all i xs over),
+      fold_more (put_item eq) [] xs i,
+      λ d within new. subst (λ n. length (distinct eq (take i xs)) < n) (length_distinct xs laws)
+          (fold_beyond (of_lawful eq laws) (items_keyed eq 0) [] xs i d within (IsDistinct-nil eq) new),
+    ),
   )
 
   -- of a set that is built of the first so many items that a function reads
   pub each_distinct_take_map : {X : Type 0} (read : X → T) (xs : List X) (i : ℕ) → Lawful eq
-      → (distinct eq (map read (take i xs)) ≡ distinct eq (map read (take i xs)))
-      × (length xs ≤ i → distinct eq (map read (take i xs)) ≡ distinct eq (map read xs))
+      → Where (distinct eq (map read (take i xs)))
+      ((length xs ≤ i → distinct eq (map read (take i xs)) ≡ distinct eq (map read xs))
       × ((d : X) → i < length xs
       → distinct eq (map read (take (i + 1) xs))
       ≡ put_item eq (distinct eq (map read (take i xs))) (read (get_or xs i d)))
       × ((d : X) → i < length xs
       → is_member eq (distinct eq (map read (take i xs))) (read (get_or xs i d)) ≡ false
-      → length (distinct eq (map read (take i xs))) < distinct_count eq (map read xs))
+      → length (distinct eq (map read (take i xs))) < distinct_count eq (map read xs)))
   each_distinct_take_map read xs i laws =
       let all = each_distinct_take (map read xs) i laws in (
         refl,
-        all_read read xs i (λ l. distinct eq l ≡ distinct eq (map read xs)) all.1,
-        taken_read read xs i
-            (λ first more x. distinct eq more ≡ put_item eq (distinct eq first) x) all.2,
-        taken_read read xs i
-            (λ first more x. is_member eq (distinct eq first) x ≡ false
-            → length (distinct eq first) < distinct_count eq (map read xs)) all.3,
+        (
+          all_read read xs i (λ l. distinct eq l ≡ distinct eq (map read xs)) all.1.0,
+          taken_read read xs i
+              (λ first more x. distinct eq more ≡ put_item eq (distinct eq first) x) all.1.1,
+          taken_read read xs i
+              (λ first more x. is_member eq (distinct eq first) x ≡ false
+              → length (distinct eq first) < distinct_count eq (map read xs)) all.1.2,
+        ),
       )
 
-  -- of a set to which the first so many items are added
-  pub each_put_all_items_take : (items xs : List T) (i : ℕ) → Lawful eq → IsDistinct eq items
-      → (put_all_items eq items (take i xs) ≡ put_all_items eq items (take i xs))
-      × (length xs ≤ i → put_all_items eq items (take i xs) ≡ put_all_items eq items xs)
-      × ((d : T) → i < length xs
-      → put_all_items eq items (take (i + 1) xs)
-      ≡ put_item eq (put_all_items eq items (take i xs)) (get_or xs i d))
-      × ((d : T) → i < length xs
-      → is_member eq (put_all_items eq items (take i xs)) (get_or xs i d) ≡ false
-      → length (put_all_items eq items (take i xs)) < length (put_all_items eq items xs))
-  each_put_all_items_take items xs i laws unique = (
-    refl,
-    λ over. ap (put_all_items eq items) (take_all i xs over),
-    fold_more (put_item eq) items xs i,
-    λ d within new. fold_beyond (of_lawful eq laws) (items_keyed eq 0) items xs i d within unique new,
-  )
+-- a set of keys of a map, as the nodes that a search has seen: each key fits it, if it has room for as many as there are
+module _ {K V : Type 0} (eq : K → K → Bool) (pairs : List (K × V)) (items : List K) where
+  fits_there : Lawful eq → IsDistinct eq items → list_all (has eq pairs) items ≡ true → (N : ℕ) (x : K)
+      → length pairs ≤ N → has eq pairs x ≡ true → item_fits eq N items x ≡ true
+  fits_there laws unique all N x room there = elim (cases_Bool (item_fits eq N items x)) [
+    | inl fits ↦ fits
+    | inr refused ↦
+        let apart = not_fits eq items x N refused in
+        let long = length_put_item eq items x in
+        let short = missing_in_shorter (of_lawful eq laws) (put_item eq items x) (keys_of pairs)
+        (unique_put_item eq items x laws unique)
+        (grind (arith, apart.0, apart.1, long, room, length-keys_of pairs)) in
+        let stored = ap (λ test. list_all test (put_item eq items x)) (λ i k. is_some-lookup (eq k) pairs i) in
+        absurd (false≢true (sym short ∙ sym stored ∙ all_put_item (has eq pairs) eq items x all there))
+  ]
+
+  pub fits_among : Lawful eq → IsDistinct eq items
+      → Where (list_all (has eq pairs) items)
+      (list_all (has eq pairs) items ≡ true → (N : ℕ) (x : K)
+      → length pairs ≤ N → has eq pairs x ≡ true → item_fits eq N items x ≡ true)
+  fits_among laws unique = (refl, fits_there laws unique)
 
 module _ {K V W : Type 0} (eq : K → K → Bool) (step : Option V → W → V) where
   pub keys_merged : (pairs : List (K × V)) (items : List (K × W))
@@ -191,6 +201,7 @@ pub ruleset item_counts = (
   each_distinct,
   each_distinct_take,
   each_distinct_take_map,
-  each_put_all_items_take,
   keys_merged,
+  all_put_item,
+  fits_among,
 )

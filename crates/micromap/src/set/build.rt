@@ -1,11 +1,11 @@
 //! Building a set from an array or an iterator, and extending it. Of equal items the first is stored. Items are in the
 //! order in which they first came.
-ghost use Rattle.std.specs.Prelude.{◌≡◌, ◌<◌, ◌≤◌, List, [], fold, length, Option, Some, IfSome, IfOk, OnOk, IfErr, OnErr, IsTrue, ⊤};
+ghost use Rattle.std.specs.Prelude.{◌≡◌, ◌↔◌, ◌<◌, ◌≤◌, List, [], fold, length, Option, Some, IfSome, IfOk, OnOk, IfErr, OnErr, IsErr, IsTrue, ⊤};
 ghost use Rattle.std.specs.Bool.{then_some};
 ghost use Rattle.std.specs.Iterator.{Drains, IsFinite, UpTo};
 ghost use Rattle.std.specs.Set.{distinct_count};
 ghost use Rattle.micromap.specs.Build.{most_items, AllItems, ItemsUpTo};
-ghost use Rattle.micromap.specs.Extend.{all_items_fit, distinct, put_item_or_refuse, ItemMisfitIn, PutsAllItems, PutsItemsBefore};
+ghost use Rattle.micromap.specs.Extend.{all_items_fit, distinct, put_all_items, put_item_or_refuse, ItemMisfitIn, PutsAllItems, PutsItemsBefore};
 ghost use Rattle.micromap.specs.Items.{AreItems, IsItems, put_item_if_fits};
 
 use super::Set;
@@ -127,6 +127,32 @@ impl<T: Eq + Drop, const N: usize> Set<T, N> {
         let mut fitting = Set::new();
         fitting.put_fitting(items);
         fitting
+    }
+}
+
+impl<T: Eq + Copy, const N: usize> Set<T, N> {
+    /// Inserts all items of another set, one after the other, as `insert` does, or none. If they don't all fit, returns
+    /// the position of the first that doesn't, counted from 0.
+    ///
+    /// After `Ok`, this set is the union: its own items, and then the others' that were no members. The result is `Err`
+    /// exactly if the two sets together have more than `N` distinct items. Then this set is unchanged, where `try_extend`
+    /// keeps the items before that position. Works on a copy of this set, and makes one scan for each item of `other`.
+    ///
+    /// ```
+    /// let mut seen: Set<u8, 3> = Set::from([5, 6, 5]);
+    /// assert_eq!(rt; seen.try_extend_from(&Set::from([6, 7])), Ok(()));
+    /// let ended = seen.try_extend_from(&Set::from([5, 8]));
+    /// assert_eq!(rt; ended, Err(Overfull { at: 1 }));
+    /// assert!(rt; seen.iter().eq(&[5, 6, 7]));
+    /// ```
+    pub fn try_extend_from<const M: usize>(&mut self, other: &Set<T, M>) -> Result<(), Overfull>
+        ensures items { OnOk result (self.new ≡ put_all_items T.eq self.old other.now) }
+        ensures many { IsErr result ↔ (N < length (put_all_items T.eq self.old other.now)) }
+        ensures stops { IfErr result (λ e. ItemMisfitIn T.eq N self.old other.now e.at) }
+        ensures unchanged { OnErr result (self.new ≡ self.old) }
+        ensures content { AreItems T.eq N self.old self.new }
+    {
+        self.map.try_extend_from(&other.map)
     }
 }
 

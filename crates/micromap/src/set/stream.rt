@@ -1,7 +1,7 @@
 //! Writing a set's items to a sink, and reading a set from a source, as the keys of pairs with the value `()`.
 ghost use Rattle.std.specs.Prelude.{◌≡◌, ◌<◌, ◌++◌, Ok, OnOk, IfOk, IfErr, OnErr};
 ghost use Rattle.std.specs.Map.{keys_of};
-ghost use Rattle.micromap.specs.ItemEntries.{entries_of, SetReads};
+ghost use Rattle.micromap.specs.SetStream.{entries_of, SetReads};
 ghost use Rattle.micromap.specs.Items.{IsItems};
 ghost use Rattle.micromap.specs.Stream.{most_faults, stream_of, Faultless, Faults, TakesBeginning};
 

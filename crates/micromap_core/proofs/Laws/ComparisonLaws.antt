@@ -21,7 +21,7 @@ use Rattle.micromap_core.specs.SameLaws.{have_equal_items_equiv, is_same_equiv}
 use Rattle.micromap_core.proofs.DistinctLemmas.{length-filter_members, members_turned, missing_in_shorter}
 use Rattle.micromap_core.proofs.FairLemmas.{put_same, put_key_same, take_out_same, run_same}
 use Rattle.micromap_core.proofs.SameLemmas.{Comparable, comparable, long_from_same, same_by_filters, same_if_long}
-use Rattle.micromap_core.proofs.Laws.Equalities.{lawful, of_lawful, equalities}
+use Rattle.micromap_core.proofs.Laws.Equalities.{lawful, of_lawful, equalities, Where}
 
 -- where not all items pass a test, one fails it
 some_fails : {T : Type 0} {eq : T → T → Bool} (laws : IsEquivalence eq) (test : T → Bool)
@@ -135,22 +135,22 @@ module _ {K V : Type 0} (eq : K → K → Bool) (same : V → V → Bool) (first
 -- the same by the word alone: for a search that doesn't see the equality in what it computes to
 module _ {K V : Type 0} (eq : K → K → Bool) (first : List (K × V)) (k : K) where
   pub each_same_put : (v : V) → Lawful eq → IsUnique eq first
-      → (put eq first k v ≡ put eq first k v)
-      × ((same : V → V → Bool) (second : List (K × V)) → Lawful same → IsUnique eq second
+      → Where (put eq first k v)
+      ((same : V → V → Bool) (second : List (K × V)) → Lawful same → IsUnique eq second
       → Same eq same first second → Same eq same (put eq first k v) (put eq second k v))
   each_same_put v keys unique =
       (refl, λ same second values. same_put eq same first second k v keys values unique)
 
   pub each_same_put_key : (v : V) → Lawful eq → IsUnique eq first
-      → (put_key eq first k v ≡ put_key eq first k v)
-      × ((same : V → V → Bool) (second : List (K × V)) → Lawful same → IsUnique eq second
+      → Where (put_key eq first k v)
+      ((same : V → V → Bool) (second : List (K × V)) → Lawful same → IsUnique eq second
       → Same eq same first second → Same eq same (put_key eq first k v) (put_key eq second k v))
   each_same_put_key v keys unique =
       (refl, λ same second values. same_put_key eq same first second k v keys values unique)
 
   pub each_same_take_out : Lawful eq → IsUnique eq first
-      → (take_out eq first k ≡ take_out eq first k)
-      × ((same : V → V → Bool) (second : List (K × V)) → Lawful same → IsUnique eq second
+      → Where (take_out eq first k)
+      ((same : V → V → Bool) (second : List (K × V)) → Lawful same → IsUnique eq second
       → Same eq same first second → Same eq same (take_out eq first k) (take_out eq second k))
   each_same_take_out keys unique =
       (refl, λ same second values. same_take_out eq same first second k keys values unique)

@@ -7,18 +7,17 @@ use Rattle.std.specs.List.{count_by, fold, list_any}
 use Rattle.std.specs.Map.{keys_of, values_of}
 use Rattle.std.specs.Set.{distinct_count}
 use Rattle.std.proofs.lemmas.Grind.{common_steps}
-use Rattle.std.proofs.lemmas.List.{map-append, nil_from_length, take_all, length-take, map-id}
-use Rattle.std.proofs.lemmas.List.Folds.{fold-map}
+use Rattle.std.proofs.lemmas.List.{nil_from_length, take_all, length-take, map-id}
 use Rattle.std.proofs.lemmas.List.Sums.{fold_more, fold_push, count_by-le-length}
 use Rattle.std.proofs.lemmas.Map.Entries.{length-keys_of}
 use Rattle.std.proofs.lemmas.Map.Made.{is_some-lookup}
 use Rattle.micromap_core.specs.Build.{count_one, counts, merge_pair, merged, put_all}
 use Rattle.micromap_core.specs.Equalities.{Lawful}
 use Rattle.micromap_core.specs.Pairs.{at, fits, has, IsUnique, put}
-use Rattle.micromap_core.proofs.BuildLemmas.{distinct-fold, fold_beyond, length-fold, member-fold}
+use Rattle.micromap_core.proofs.BuildLemmas.{counts_keyed, distinct-fold, fold_beyond, length-fold, member-fold}
 use Rattle.micromap_core.proofs.BuildLemmas.{puts_keyed, IsKeyed, length-built}
 use Rattle.micromap_core.proofs.Lists.{all_read, taken_read}
-use Rattle.micromap_core.proofs.Laws.Equalities.{of_lawful}
+use Rattle.micromap_core.proofs.Laws.Equalities.{of_lawful, Where}
 use Rattle.micromap_core.proofs.Laws.MapLaws.{at_alike, at_put, unique_empty}
 
 module _ {K V W : Type 0} (eq : K → K → Bool) (step : Option V → W → V) where
@@ -112,60 +111,53 @@ module _ {K V W : Type 0} (eq : K → K → Bool) (step : Option V → W → V) 
   unfolding merged
   merged_beyond_first pairs item items = merged_beyond pairs (item ∷ items) 0 item (omega arith)
 
-  -- items that a function reads
-  module _ {X : Type 0} (read : X → K × W) (pairs : List (K × V)) (items : List X) where
-    pub merged_push_map : (x : X)
-        → merged eq step pairs (map read (items ++ x ∷ []))
-        ≡ merge_pair eq step (merged eq step pairs (map read items)) (read x)
-    merged_push_map x = ap (merged eq step pairs) (map-append read items (x ∷ []))
-        ∙ merged_push pairs (map read items) (read x)
-
   -- what a search needs, at once: of all items, and of the first so many, also where a function reads them
   pub each_merged : (pairs : List (K × V)) (items : List (K × W)) → Lawful eq
-      → (merged eq step pairs items ≡ merged eq step pairs items)
-      × ((q : K) → at eq (merged eq step pairs items) q
+      → Where (merged eq step pairs items) (((q : K) → at eq (merged eq step pairs items) q
       ≡ fold (λ o w. Some (step o w)) (at eq pairs q)
       (values_of (filter (λ item. eq item.0 q) items)))
       × ((q : K) → has eq (merged eq step pairs items) q ≡ (has eq items q || has eq pairs q))
       × (IsUnique eq pairs → IsUnique eq (merged eq step pairs items))
       × (IsUnique eq pairs → length (merged eq step pairs items)
-      ≡ distinct_count eq (keys_of pairs ++ keys_of items))
+      ≡ distinct_count eq (keys_of pairs ++ keys_of items)))
   each_merged pairs items laws = (
     refl,
-    λ q. at_merged pairs items q laws,
-    λ q. has_merged pairs items q laws,
-    λ unique. unique_merged pairs items laws unique,
-    λ unique. length_merged pairs items laws unique,
+    (
+      λ q. at_merged pairs items q laws,
+      λ q. has_merged pairs items q laws,
+      λ unique. unique_merged pairs items laws unique,
+      λ unique. length_merged pairs items laws unique,
+    ),
   )
 
   -- what a loop ends with where its iterator has no items left
   pub each_merged_end : (pairs : List (K × V)) (items : List (K × W))
-      → (merged eq step pairs items ≡ merged eq step pairs items)
-      × (length items ≡ 0 → merged eq step pairs items ≡ pairs)
+      → Where (merged eq step pairs items) (length items ≡ 0 → merged eq step pairs items ≡ pairs)
   each_merged_end pairs items =
       (refl, λ none. ap (merged eq step pairs) (nil_from_length items none) ∙ merged_none pairs)
 
   pub each_merged_take : (pairs : List (K × V)) (items : List (K × W)) (i : ℕ)
-      → (merged eq step pairs (take i items) ≡ merged eq step pairs (take i items))
-      × (length items ≤ i → merged eq step pairs (take i items) ≡ merged eq step pairs items)
+      → Where (merged eq step pairs (take i items))
+      ((length items ≤ i → merged eq step pairs (take i items) ≡ merged eq step pairs items)
       × ((d : K × W) → i < length items
       → merged eq step pairs (take (i + 1) items)
       ≡ merge_pair eq step (merged eq step pairs (take i items)) (get_or items i d))
       × (Lawful eq → IsUnique eq pairs → (d : K × W) → i < length items
       → has eq (merged eq step pairs (take i items)) (get_or items i d).0 ≡ false
-      → length (merged eq step pairs (take i items)) < length (merged eq step pairs items))
+      → length (merged eq step pairs (take i items)) < length (merged eq step pairs items)))
   each_merged_take pairs items i = (
     refl,
-    λ over. ap (merged eq step pairs) (take_all i items over),
-    merged_take pairs items i,
-    λ laws unique d within new. merged_beyond pairs items i d within laws unique new,
+    (
+      λ over. ap (merged eq step pairs) (take_all i items over),
+      merged_take pairs items i,
+      λ laws unique d within new. merged_beyond pairs items i d within laws unique new,
+    ),
   )
 
   pub each_merged_take_map :
       {X : Type 0} (read : X → K × W) (pairs : List (K × V)) (items : List X) (i : ℕ)
-      → (merged eq step pairs (map read (take i items))
-      ≡ merged eq step pairs (map read (take i items)))
-      × (length items ≤ i → merged eq step pairs (map read (take i items))
+      → Where (merged eq step pairs (map read (take i items)))
+      ((length items ≤ i → merged eq step pairs (map read (take i items))
       ≡ merged eq step pairs (map read items))
       × ((d : X) → i < length items
       → merged eq step pairs (map read (take (i + 1) items))
@@ -175,25 +167,20 @@ module _ {K V W : Type 0} (eq : K → K → Bool) (step : Option V → W → V) 
       → has eq (merged eq step pairs (map read (take i items)))
       (read (get_or items i d)).0 ≡ false
       → length (merged eq step pairs (map read (take i items))) < length
-      (merged eq step pairs (map read items)))
+      (merged eq step pairs (map read items))))
   each_merged_take_map read pairs items i =
       let made = merged eq step pairs in
       let all = each_merged_take pairs (map read items) i in (
         refl,
-        all_read read items i (λ l. made l ≡ made (map read items)) all.1,
-        taken_read read items i
-            (λ first more item. made more ≡ merge_pair eq step (made first) item) all.2,
-        λ laws unique. taken_read read items i
-            (λ first more item. has eq (made first) item.0 ≡ false
-            → length (made first) < length (made (map read items))) (all.3 laws unique),
+        (
+          all_read read items i (λ l. made l ≡ made (map read items)) all.1.0,
+          taken_read read items i
+              (λ first more item. made more ≡ merge_pair eq step (made first) item) all.1.1,
+          λ laws unique. taken_read read items i
+              (λ first more item. has eq (made first) item.0 ≡ false
+              → length (made first) < length (made (map read items))) (all.1.2 laws unique),
+        ),
       )
-
--- a counter
-module _ {K : Type 0} (eq : K → K → Bool) where
-  pub merged_counts : {W : Type 0} (items : List (K × W))
-      → merged eq (λ o w. unwrap_or o 0 + 1) [] items ≡ counts eq (keys_of items)
-  unfolding merged counts
-  merged_counts items = sym (fold-map (count_one eq) (λ item. item.0) [] items)
 
 -- a list of pairs that is put
 module _ {K V : Type 0} (eq : K → K → Bool) where
@@ -204,48 +191,24 @@ module _ {K V : Type 0} (eq : K → K → Bool) where
   length_put_all = length_merged eq (λ o v. v)
 
   pub each_put_all_take : (pairs items : List (K × V)) (i : ℕ) → Lawful eq → IsUnique eq pairs
-      → (put_all eq pairs (take i items) ≡ put_all eq pairs (take i items))
-      × (length items ≤ i → put_all eq pairs (take i items) ≡ put_all eq pairs items)
+      → Where (put_all eq pairs (take i items))
+      ((length items ≤ i → put_all eq pairs (take i items) ≡ put_all eq pairs items)
       × ((d : K × V) → i < length items
       → put_all eq pairs (take (i + 1) items) ≡ put eq (put_all eq pairs (take i items))
       (get_or items i d).0 (get_or items i d).1)
       × ((d : K × V) → i < length items
       → has eq (put_all eq pairs (take i items)) (get_or items i d).0 ≡ false
-      → length (put_all eq pairs (take i items)) < length (put_all eq pairs items))
+      → length (put_all eq pairs (take i items)) < length (put_all eq pairs items)))
   unfolding merged
   each_put_all_take pairs items i laws unique =
       let all = each_merged_take eq (λ o v. v) pairs items i in
-      (refl, all.1, all.2, all.3 laws unique)
-
-  -- of the first so many items, as a function reads them
-  pub each_put_all_take_map :
-      {X : Type 0} (read : X → K × V) (pairs : List (K × V)) (items : List X) (i : ℕ) → Lawful eq
-      → IsUnique eq pairs → (put_all eq pairs (map read (take i items))
-      ≡ put_all eq pairs (map read (take i items)))
-      × (length items ≤ i → put_all eq pairs (map read (take i items))
-      ≡ put_all eq pairs (map read items))
-      × ((d : X) → i < length items
-      → put_all eq pairs (map read (take (i + 1) items))
-      ≡ put eq (put_all eq pairs (map read (take i items)))
-      (read (get_or items i d)).0 (read (get_or items i d)).1)
-      × ((d : X) → i < length items
-      → has eq (put_all eq pairs (map read (take i items))) (read (get_or items i d)).0 ≡ false
-      → length (put_all eq pairs (map read (take i items))) < length
-      (put_all eq pairs (map read items)))
-  unfolding merged
-  each_put_all_take_map read pairs items i laws unique =
-      let all = each_merged_take_map eq (λ o v. v) read pairs items i in
-      (refl, all.1, all.2, all.3 laws unique)
+      (refl, (all.1.0, all.1.1, all.1.2 laws unique))
 
 -- a counter
 module _ {K : Type 0} (eq : K → K → Bool) where
   pub counts_none : counts eq [] ≡ []
   unfolding counts
   counts_none = refl
-
-  pub counts_keyed : (N : ℕ) → IsKeyed eq N (fits eq N) (count_one eq) keys_of (λ x. x) []
-      (λ items. distinct_count eq (map (λ x. x) items))
-  counts_keyed N = puts_keyed eq N (λ x. x) (λ pairs x. unwrap_or (at eq pairs x) 0 + 1)
 
   -- the count of q after one more of x
   pub count_more : (pairs : List (K × ℕ)) (x q : K) → Lawful eq
@@ -277,7 +240,7 @@ module _ {K : Type 0} (eq : K → K → Bool) where
       → has eq (counts eq items) q ≡ list_any (eq q) items
   unfolding counts
   has_counts items q laws = is_some-lookup (eq q) (counts eq items)
-      ∙ member-fold (of_lawful eq laws) (counts_keyed 0) [] items q ∙ ap (list_any (eq q)) (map-id items)
+      ∙ member-fold (of_lawful eq laws) (counts_keyed eq 0) [] items q ∙ ap (list_any (eq q)) (map-id items)
 
   -- the count of an item is the number of times it came
   pub count_counts : (items : List K) (q : K) → Lawful eq
@@ -289,7 +252,7 @@ module _ {K : Type 0} (eq : K → K → Bool) where
       → length (counts eq items) ≡ distinct_count eq items
   unfolding counts
   length_counts items laws = sym (length-keys_of (counts eq items))
-      ∙ length-built (of_lawful eq laws) (counts_keyed 0) items ∙ ap (distinct_count eq) (map-id items)
+      ∙ length-built (of_lawful eq laws) (counts_keyed eq 0) items ∙ ap (distinct_count eq) (map-id items)
 
   counts_take : (items : List K) (i : ℕ) (d : K) → i < length items
       → counts eq (take (i + 1) items) ≡ count_one eq (counts eq (take i items)) (get_or items i d)
@@ -305,7 +268,7 @@ module _ {K : Type 0} (eq : K → K → Bool) where
       let before = counts eq (take i items) in
       omega (
         arith,
-        fold_beyond (of_lawful eq laws) (counts_keyed 0) [] items i d within (unique_empty ℕ eq)
+        fold_beyond (of_lawful eq laws) (counts_keyed eq 0) [] items i d within (unique_empty ℕ eq)
             (sym (is_some-lookup (eq (get_or items i d)) before) ∙ new),
         length-keys_of before,
         length-keys_of (counts eq items),
@@ -314,30 +277,32 @@ module _ {K : Type 0} (eq : K → K → Bool) where
 
   -- what a search needs, at once: of a counter of some items, and of one of the first so many
   pub each_counts : (items : List K) → Lawful eq
-      → (counts eq items ≡ counts eq items) × (length (counts eq items) ≡ distinct_count eq items)
-      × ((q : K) → unwrap_or (at eq (counts eq items) q) 0 ≡ count_by (eq q) items)
-  each_counts items laws = (refl, length_counts items laws, λ q. count_counts items q laws)
+      → Where (counts eq items) ((length (counts eq items) ≡ distinct_count eq items)
+      × ((q : K) → unwrap_or (at eq (counts eq items) q) 0 ≡ count_by (eq q) items))
+  each_counts items laws = (refl, (length_counts items laws, λ q. count_counts items q laws))
 
   pub each_counts_take : (items : List K) (i : ℕ) → Lawful eq
-      → (counts eq (take i items) ≡ counts eq (take i items))
-      × (length items ≤ i → counts eq (take i items) ≡ counts eq items)
+      → Where (counts eq (take i items))
+      ((length items ≤ i → counts eq (take i items) ≡ counts eq items)
       × ((q : K) → unwrap_or (at eq (counts eq (take i items)) q) 0 ≤ length items)
       × ((d : K) → i < length items
       → counts eq (take (i + 1) items) ≡ count_one eq (counts eq (take i items))
       (get_or items i d)) × ((d : K) → i < length items
       → has eq (counts eq (take i items)) (get_or items i d) ≡ false
-      → length (counts eq (take i items)) < distinct_count eq items)
+      → length (counts eq (take i items)) < distinct_count eq items))
   each_counts_take items i laws = (
     refl,
-    λ over. ap (counts eq) (take_all i items over),
-    λ q. omega (
-      arith,
-      count_counts (take i items) q laws,
-      count_by-le-length (eq q) (take i items),
-      length-take i items,
+    (
+      λ over. ap (counts eq) (take_all i items over),
+      λ q. omega (
+        arith,
+        count_counts (take i items) q laws,
+        count_by-le-length (eq q) (take i items),
+        length-take i items,
+      ),
+      counts_take items i,
+      λ d within new. counts_beyond items i d within laws new,
     ),
-    counts_take items i,
-    λ d within new. counts_beyond items i d within laws new,
   )
 
 pub ruleset count_laws = (
@@ -345,7 +310,6 @@ pub ruleset count_laws = (
   merged_first,
   merged_beyond_first,
   merged_push,
-  merged_push_map,
   each_merged,
   each_merged_end,
   each_merged_take,
@@ -355,6 +319,4 @@ pub ruleset count_laws = (
   each_counts,
   each_counts_take,
   each_put_all_take,
-  each_put_all_take_map,
-  merged_counts,
 )

@@ -1,5 +1,5 @@
 -- For callers: the equalities that are known to be lawful, and the tests that are known to be probes for them. For an
--- equality of your own, `lawful` proves `lawful_mine : Lawful my_eq` in one line.
+-- equality of your own, `lawful` proves `lawful_mine : Lawful my_eq` in one line. `Where x P` says what `P` does.
 use Rattle.std.proofs.Common.{◌≡◌, Bool, true, sym, ◌∙◌, ℕ, List, String, nat_eq, string_bytes}
 use Rattle.std.specs.Cmp.{both_ways, IsEquivalence, bool_eq_equiv}
 use Rattle.std.specs.Bool.{beq}
@@ -10,6 +10,10 @@ use Rattle.std.proofs.lemmas.Cmp.{int_eq_equiv, nat_eq_equiv, nat_list_eq_equiv,
 use Rattle.micromap_core.specs.Equalities.{IsProbe, Lawful, Probes}
 use Rattle.micromap_core.specs.Probe.{alike, equal, is_str, is_text}
 use Rattle.micromap_core.specs.Texts.{str_eq}
+
+-- P, which a search comes upon where it sees x: the equation of x with itself shows it the law
+abbrev pub Where : {X : Type 0} → X → Type 0 → Type 0
+Where x P = (x ≡ x) × P
 
 -- if a key passes a test that has the two laws of a probe, then the test is equality with that key
 pub same_test : {K : Type 0} (eq : K → K → Bool) (test : K → Bool)
@@ -55,7 +59,8 @@ lawful_int = lawful int_eq int_eq_equiv
 pub lawful_bool : Lawful beq
 lawful_bool = lawful beq bool_eq_equiv
 
--- texts: a `String`, by itself and by `Text`; the bytes of one; a `&str`
+-- texts: a `String`, by itself and by `Text`; the bytes of one, which `bytes_eq` compares, as `pointwise nat_eq` does; a
+-- `&str`
 pub lawful_string : (Z : Type 0) → Lawful (string_eq {Z = Z})
 lawful_string Z = lawful string_eq string_eq_equiv
 

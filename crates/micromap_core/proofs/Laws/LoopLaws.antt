@@ -25,10 +25,10 @@ use Rattle.micromap_core.specs.Pairs.{fits, has, put, IsUnique, at, take_out}
 use Rattle.micromap_core.proofs.ClosureLemmas.{seen, updated_at_keys}
 use Rattle.micromap_core.proofs.DistinctLemmas.{new_behind}
 use Rattle.micromap_core.proofs.StreamLemmas.{built_in_turn}
-use Rattle.micromap_core.proofs.Laws.Equalities.{equalities, of_lawful}
+use Rattle.micromap_core.proofs.Laws.Equalities.{equalities, of_lawful, Where}
 use Rattle.micromap_core.proofs.Laws.MapLaws.{length_put, not_fits, put_new}
-use Rattle.std.proofs.Common.{Some}
-use Rattle.std.specs.List.{list_all}
+use Rattle.std.proofs.Common.{Some, suc, ◌-◌}
+use Rattle.std.specs.List.{list_all, range_with_len}
 use Rattle.std.specs.Option.{option_eq}
 use Rattle.std.proofs.lemmas.List.Sums.{list_all-from_AllPass}
 use Rattle.std.proofs.lemmas.Map.Entries.{lookup_from_place}
@@ -75,22 +75,40 @@ module _ {K V : Type 0} (eq : K → K → Bool) where
 
 -- what a loop over a list leaves: all from the index on, as they are and as a function reads them
 module _ {X : Type 0} (items : List X) (i : ℕ) where
-  pub each_left : (drop i items ≡ drop i items) × (length items ≤ i → drop i items ≡ [])
-      × ((d : X) → i < length items → drop i items ≡ get_or items i d ∷ drop (i + 1) items)
-  each_left = (refl, drop_all i items, λ d within. rw (drop-cons items i d within, add-one) refl)
+  pub each_left : Where (drop i items) ((length items ≤ i → drop i items ≡ [])
+      × ((d : X) → i < length items → drop i items ≡ get_or items i d ∷ drop (i + 1) items))
+  each_left = (refl, (drop_all i items, λ d within. rw (drop-cons items i d within, add-one) refl))
 
   pub each_left_map : {Y : Type 0} (read : X → Y)
-      → (map read (drop i items) ≡ map read (drop i items))
-      × (length items ≤ i → map read (drop i items) ≡ [])
+      → Where (map read (drop i items)) ((length items ≤ i → map read (drop i items) ≡ [])
       × ((d : X) → i < length items
-      → map read (drop i items) ≡ read (get_or items i d) ∷ map read (drop (i + 1) items))
+      → map read (drop i items) ≡ read (get_or items i d) ∷ map read (drop (i + 1) items)))
   each_left_map read = (
     refl,
-    (λ past. ap (map read) (each_left.1 past)),
-    λ d within. ap (map read) (each_left.2 d within),
+    (
+      (λ past. ap (map read) (each_left.1.0 past)),
+      λ d within. ap (map read) (each_left.1.1 d within),
+    ),
   )
 
+-- the numbers that a loop over a range has left
+pub each_range : (a b : ℕ)
+    → Where (range_with_len a (b - a))
+    ((b ≤ a → range_with_len a (b - a) ≡ [])
+    × (a < b → range_with_len a (b - a) ≡ a ∷ range_with_len (a + 1) (b - (a + 1))))
+each_range a b = (
+  refl,
+  (λ past. ap (range_with_len a) (none past), λ within. ap (range_with_len a) (one within)),
+)
+  where
+    none : b ≤ a → b - a ≡ 0
+    none past = omega (arith, past)
+
+    one : a < b → b - a ≡ suc (b - (a + 1))
+    one within = omega (arith, within)
+
 pub ruleset loop_laws = (
+  each_range,
   fits_room,
   not_fits,
   copied_next,
@@ -134,8 +152,7 @@ module _ {K : Type 0} (eq : K → K → Bool) (pairs : List (K × ℕ)) (k : K) 
 
 -- a value is at most the sum
 pub lookup_le_sum : {K : Type 0} (test : K → Bool) (pairs : List (K × ℕ))
-    → (lookup test pairs ≡ lookup test pairs)
-    × (unwrap_or (lookup test pairs) 0 ≤ sum (values_of pairs))
+    → Where (lookup test pairs) (unwrap_or (lookup test pairs) 0 ≤ sum (values_of pairs))
 lookup_le_sum test pairs = (refl, lookup-le-sum test pairs)
 
 pub ruleset sum_laws = (sum_by_put, sum_by_take_out, sum_put, sum_take_out, lookup_le_sum)
@@ -194,4 +211,4 @@ module _ {K V : Type 0} (eq : K → K → Bool) where
       (λ i d within. is_some-lookup (eq (get_or (keys_of pairs) i d)) pairs
       ∙ All-is_member (of_lawful eq laws) (keys_of pairs) i d within)
 
-pub ruleset walk_laws = (at_walked, has_walked)
+pub ruleset walk_laws = (at_walked, has_walked, each_range)

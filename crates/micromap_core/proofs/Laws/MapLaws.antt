@@ -19,7 +19,7 @@ use Rattle.std.proofs.lemmas.Map.Steps.{set_value_same}
 use Rattle.micromap_core.specs.Build.{build, put_all, put_pair}
 use Rattle.micromap_core.specs.Equalities.{Lawful, Probes}
 use Rattle.micromap_core.specs.Pairs.{at, pair, has, put, put_key, take_out, IsUnique, fits}
-use Rattle.micromap_core.proofs.Laws.Equalities.{equalities, of_lawful, of_probes, probes_key, same_test}
+use Rattle.micromap_core.proofs.Laws.Equalities.{equalities, of_lawful, of_probes, probes_key, same_test, Where}
 use Rattle.micromap_core.proofs.DistinctLemmas.{IsDistinct-filter}
 use Rattle.micromap_core.proofs.BuildLemmas.{IsDistinct-nil, distinct-built, length-built, pairs_keyed}
 use Rattle.micromap_core.proofs.MapLemmas.{lookup-entry, push-put, push-put_key, slice_set-put_key, IsUnique-push}
@@ -28,7 +28,7 @@ use Rattle.micromap_core.proofs.MapLemmas.{entry_push, entry_set, entry_set_key,
 use Rattle.micromap_core.proofs.MapLemmas.{length-remove_entry, length-set_key, keys_removed, by_test, lookup-set}
 use Rattle.micromap_core.proofs.MapLemmas.{no_value, set_put, lookup-reverse}
 use Rattle.micromap_core.proofs.Laws.ProbedLaws.{keys_remove_entry, lookup_remove_entry, lookup_remove_text}
-use Rattle.micromap_core.proofs.Laws.ProbedLaws.{remove_entry_missing, remove_entry_push, remove_entry_set_value}
+use Rattle.micromap_core.proofs.Laws.ProbedLaws.{remove_entry_missing, remove_entry_push}
 use Rattle.micromap_core.proofs.Laws.ProbedLaws.{set_value_missing, unique_remove_entry, unique_set_value}
 
 -- by a test: the pair that is found, and its value
@@ -357,8 +357,7 @@ module _ {K V : Type 0} (eq : K → K → Bool) where
 
   -- a removal by a probe that matches the keys equal to a key
   pub take_out_entry : (pairs : List (K × V)) (k : K)
-      → (take_out eq pairs k ≡ take_out eq pairs k)
-      × (take_out eq pairs k ≡ remove_entry (eq k) pairs)
+      → Where (take_out eq pairs k) (take_out eq pairs k ≡ remove_entry (eq k) pairs)
   unfolding take_out
   take_out_entry pairs k = (refl, refl)
 
@@ -397,39 +396,15 @@ module _ {K V : Type 0} (eq : K → K → Bool) where
 -- key of one's own equals itself
 module _ {K V : Type 0} (eq : K → K → Bool) (pairs : List (K × V)) (k : K) where
   pub each_put : (v : V) → Lawful eq
-      → (put eq pairs k v ≡ put eq pairs k v) × (at eq (put eq pairs k v) k ≡ Some v)
-      × ((q : K) → at eq (put eq pairs k v) q ≡ (if eq k q then Some v else at eq pairs q))
-  each_put v laws = (refl, at_put_same eq pairs k v laws, λ q. at_put eq pairs k v q laws)
-
-  pub each_put_key : (v : V) → Lawful eq
-      → (put_key eq pairs k v ≡ put_key eq pairs k v) × (at eq (put_key eq pairs k v) k ≡ Some v)
-      × ((q : K) → at eq (put_key eq pairs k v) q ≡ (if eq k q then Some v else at eq pairs q))
-  each_put_key v laws = (
-    refl,
-    at_put_key_same eq pairs k v laws,
-    λ q. at_put_key eq pairs k v q laws,
-  )
+      → Where (put eq pairs k v) ((at eq (put eq pairs k v) k ≡ Some v)
+      × ((q : K) → at eq (put eq pairs k v) q ≡ (if eq k q then Some v else at eq pairs q)))
+  each_put v laws = (refl, (at_put_same eq pairs k v laws, λ q. at_put eq pairs k v q laws))
 
   pub each_take_out : Lawful eq → IsUnique eq pairs
-      → (take_out eq pairs k ≡ take_out eq pairs k) × (at eq (take_out eq pairs k) k ≡ None)
-      × ((q : K) → at eq (take_out eq pairs k) q ≡ (if eq k q then None else at eq pairs q))
+      → Where (take_out eq pairs k) ((at eq (take_out eq pairs k) k ≡ None)
+      × ((q : K) → at eq (take_out eq pairs k) q ≡ (if eq k q then None else at eq pairs q)))
   each_take_out laws unique =
-      (refl, at_take_out_same eq pairs k laws unique, λ q. at_take_out eq pairs k q laws unique)
-
-module _ {K V : Type 0} (eq : K → K → Bool) (pairs items : List (K × V)) where
-  pub each_put_all : Lawful eq
-      → (put_all eq pairs items ≡ put_all eq pairs items)
-      × ((q : K) → at eq (put_all eq pairs items) q
-      ≡ option_or (at eq (reverse items) q) (at eq pairs q))
-      × (IsUnique eq items → (q : K)
-      → at eq (put_all eq pairs items) q ≡ option_or (at eq items q) (at eq pairs q))
-      × ((q : K) → has eq (put_all eq pairs items) q ≡ (has eq items q || has eq pairs q))
-  each_put_all laws = (
-    refl,
-    λ q. at_put_all eq pairs items q laws,
-    λ unequal q. at_put_all_unequal eq pairs items q laws unequal,
-    λ q. has_put_all eq pairs items q laws,
-  )
+      (refl, (at_take_out_same eq pairs k laws unique, λ q. at_take_out eq pairs k q laws unique))
 
 pub ruleset map_laws = (
   pair_key,
@@ -476,12 +451,9 @@ pub ruleset map_laws = (
   keys_remove_entry,
   lookup_remove_entry,
   lookup_remove_text,
-  remove_entry_set_value,
   unique_set_value,
   unique_remove_entry,
   each_put,
-  each_put_key,
   each_take_out,
-  each_put_all,
   equalities,
 )

@@ -1,6 +1,6 @@
 -- For callers: what the changes of a map by probe do to each way of reading it. They are `set_value` and `remove_entry` of
 -- the standard library, which take the probe's test of keys. The ruleset `caller` of `Rules` has what a search needs.
-use Rattle.std.proofs.Common.{◌≡◌, ℕ, Bool, true, not, List, [], ◌∷◌, ◌++◌, filter, String, string_eq, None, refl, ap, sym, subst, arith}
+use Rattle.std.proofs.Common.{◌≡◌, ℕ, Bool, true, not, List, [], ◌∷◌, ◌++◌, filter, String, string_eq, None, ap, sym, subst, arith}
 use Rattle.std.proofs.Common.{if◌then◌else◌}
 use Rattle.std.specs.List.{IsDistinct}
 use Rattle.std.specs.Map.{keys_of, lookup, remove_entry, set_value}
@@ -45,11 +45,6 @@ module _ {K V : Type 0} (test : K → Bool) where
   remove_entry_push [] p none passes = ap (λ b. if b then [] else p ∷ []) passes
   remove_entry_push (e ∷ pairs) p none passes =
       grind (arith, none, passes, remove_entry_push pairs p)
-
-  pub remove_entry_set_value : (pairs : List (K × V)) (v : V)
-      → remove_entry test (set_value test pairs v) ≡ remove_entry test pairs
-  remove_entry_set_value [] v = refl
-  remove_entry_set_value (e ∷ pairs) v = grind (arith, remove_entry_set_value pairs v)
 
 -- `lookup_remove_entry` of a text, which a search finds from the words alone
 pub lookup_remove_text : {Z V : Type 0} (bytes : List ℕ) (pairs : List (String Z × V))

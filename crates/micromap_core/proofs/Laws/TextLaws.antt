@@ -1,6 +1,7 @@
 -- For callers: what putting and taking out, by key or by text, does to the list that has the keys' bytes, and what is found
 -- there. The laws hold for `String` and for `&str`, and for any way `read` of seeing a value: `key_texts` and `key_strs` see values as they are,
--- `texts` and `strs` by their bytes. `ComparesBy see eq` says that `eq x y ≡ bytes_eq (see x) (see y)` for all `x` and `y`.
+-- `texts` and `strs` by their bytes. `ComparesBy see eq` says that `eq x y ≡ bytes_eq (see x) (see y)` for all `x` and `y`. The
+-- ruleset `caller` of `Rules` has those that a search needs.
 use Rattle.std.proofs.Common.{◌≡◌, ℕ, true, List, [], ◌∷◌, Option, Some, None, is_some, codes, refl, Bool}
 use Rattle.std.proofs.Common.{◌++◌, Bor, length, String, ap, sym, subst, ◌∙◌, string_bytes, arith}
 use Rattle.std.proofs.Common.{bytes_eq, string_eq}
@@ -22,6 +23,7 @@ use Rattle.micromap_core.specs.Texts.{items_by, texts_by}
 use Rattle.micromap_core.proofs.MapLemmas.{lookup-entry}
 use Rattle.micromap_core.proofs.Views.{distinct-map, equal_items-map, printed-map}
 use Rattle.micromap_core.proofs.Laws.MapLaws.{pair_key}
+use Rattle.micromap_core.proofs.Laws.Equalities.{Where}
 
 both_known : (a b : Option (List ℕ)) → is_some a ≡ true → is_some b ≡ true
     → is_some (a ++? b) ≡ true
@@ -43,6 +45,7 @@ module _ {X : Type 0} (text : X → Option (List ℕ)) (known : (x : X) → is_s
 module _ {K V : Type 0} (key_text : K → Option (List ℕ)) (value_text : V → Option (List ℕ))
     (keys : (k : K) → is_some (key_text k) ≡ true)
     (values : (v : V) → is_some (value_text v) ≡ true) where
+  -- what a map prints is known if the texts of its keys and of its values are
   pub map_text_known : (pairs : List (K × V)) → is_some (map_text key_text value_text pairs) ≡ true
   map_text_known = set_text_known (pair_text key_text value_text)
       (λ p. both_known (key_text p.0) _ (keys p.0)
@@ -51,8 +54,8 @@ module _ {K V : Type 0} (key_text : K → Option (List ℕ)) (value_text : V →
 -- by the word alone, for a search
 pub each_map_text : {K V : Type 0} (key_text : K → Option (List ℕ))
     (value_text : V → Option (List ℕ)) (pairs : List (K × V))
-    → (map_text key_text value_text pairs ≡ map_text key_text value_text pairs)
-    × (((k : K) → is_some (key_text k) ≡ true) → ((v : V) → is_some (value_text v) ≡ true)
+    → Where (map_text key_text value_text pairs)
+    (((k : K) → is_some (key_text k) ≡ true) → ((v : V) → is_some (value_text v) ≡ true)
     → is_some (map_text key_text value_text pairs) ≡ true)
 each_map_text key_text value_text pairs =
     (refl, λ keys values. map_text_known key_text value_text keys values pairs)
@@ -61,6 +64,7 @@ each_map_text key_text value_text pairs =
 abbrev pub ComparesBy : {K : Type 0} → (K → List ℕ) → (K → K → Bool) → Type 0
 ComparesBy {K} see eq = (x y : K) → eq x y ≡ bytes_eq (see x) (see y)
 
+-- such an equality is the comparison of the bytes
 pub compares_by : {K : Type 0} (see : K → List ℕ) (eq : K → K → Bool) → ComparesBy see eq
     → eq ≡ on see bytes_eq
 compares_by see eq compares = λ i x y. compares x y i
@@ -105,13 +109,13 @@ module _ {K V W : Type 0} (see : K → List ℕ) (read : V → W) where
 
     -- whether a probe finds a key is whether its text is there, and a value written where it does is put
     pub matched_texts : (pairs : List (K × V))
-        → (at bytes_eq (texts_by see read pairs) bs ≡ at bytes_eq (texts_by see read pairs) bs)
-        × (is_some (lookup (λ k. bytes_eq bs (see k)) pairs)
+        → Where (at bytes_eq (texts_by see read pairs) bs)
+        ((is_some (lookup (λ k. bytes_eq bs (see k)) pairs)
         ≡ has bytes_eq (texts_by see read pairs) bs)
         × ((w : V) → is_some (lookup (λ k. bytes_eq bs (see k)) pairs) ≡ true
         → texts_by see read (set_value (λ k. bytes_eq bs (see k)) pairs w)
-        ≡ put bytes_eq (texts_by see read pairs) bs (read w))
-    matched_texts pairs = (refl, sym (found pairs), put_matched pairs)
+        ≡ put bytes_eq (texts_by see read pairs) bs (read w)))
+    matched_texts pairs = (refl, (sym (found pairs), put_matched pairs))
 
     pub texts_take_out_matched : (pairs : List (K × V))
         → take_out bytes_eq (texts_by see read pairs) bs
@@ -134,27 +138,9 @@ module _ {K V W : Type 0} (see : K → List ℕ) (read : V → W) where
         ap (λ e. texts_by see read (put e pairs k v)) (compares_by see eq compares)
         ∙ grind (arith, written (see k) pairs v, pushed pairs v, found (see k) pairs)
 
-    pub texts_take_out : (eq : K → K → Bool) (pairs : List (K × V)) → ComparesBy see eq
-        → texts_by see read (take_out eq pairs k) ≡ take_out bytes_eq (texts_by see read pairs)
-        (see k)
-    unfolding take_out
-    texts_take_out eq pairs compares =
-        ap (λ e. texts_by see read (take_out e pairs k)) (compares_by see eq compares)
-        ∙ sym (texts_take_out_matched (see k) pairs)
-
-    -- a key that is made of a text is known by its bytes alone, and so is what it finds
-    pub has_texts : (pairs : List (K × V)) (bs : List ℕ) → see k ≡ bs
-        → (at bytes_eq (texts_by see read pairs) bs ≡ at bytes_eq (texts_by see read pairs) bs)
-        × (has (on see bytes_eq) pairs k ≡ has bytes_eq (texts_by see read pairs) bs)
-    has_texts pairs bs is = (
-      refl,
-      sym (found (see k) pairs)
-          ∙ ap (has bytes_eq (texts_by see read pairs)) is,
-    )
-
     pub at_made_by : (pairs : List (K × V)) (bs : List ℕ) → see k ≡ bs
-        → (at bytes_eq (texts_by see read pairs) bs ≡ at bytes_eq (texts_by see read pairs) bs)
-        × (option_map read (at (on see bytes_eq) pairs k)
+        → Where (at bytes_eq (texts_by see read pairs) bs)
+        (option_map read (at (on see bytes_eq) pairs k)
         ≡ at bytes_eq (texts_by see read pairs) bs)
     at_made_by pairs bs is = (
       refl,
@@ -203,9 +189,8 @@ module _ {K V W : Type 0} (see : K → List ℕ) (read : V → W) where
 
 -- which a search finds for a `String` as key
 pub at_made : {Z V W : Type 0} (read : V → W) (k : String Z) (pairs : List (String Z × V)) (bs : List ℕ)
-    → string_bytes k ≡ bs → (at bytes_eq (texts_by string_bytes read pairs) bs
-    ≡ at bytes_eq (texts_by string_bytes read pairs) bs)
-    × (option_map read (at string_eq pairs k)
+    → string_bytes k ≡ bs → Where (at bytes_eq (texts_by string_bytes read pairs) bs)
+    (option_map read (at string_eq pairs k)
     ≡ at bytes_eq (texts_by string_bytes read pairs) bs)
 at_made read k pairs bs is = at_made_by string_bytes read k pairs bs is
 
@@ -216,30 +201,31 @@ module _ {K V : Type 0} (see : K → List ℕ) (pairs : List (K × V)) where
   at_key_texts bs = grind (arith, at_texts see (λ v. v) bs pairs)
 
   -- the pair that a text finds has that text as its key, and the value that the text finds
-  matched : (bs : List ℕ) → (lookup_entry (λ k. bytes_eq bs (see k)) pairs
-      ≡ lookup_entry (λ k. bytes_eq bs (see k)) pairs)
-      × ((p : K × V) → lookup_entry (λ k. bytes_eq bs (see k)) pairs ≡ Some p → see p.0 ≡ bs)
+  matched : (bs : List ℕ) → Where (lookup_entry (λ k. bytes_eq bs (see k)) pairs)
+      (((p : K × V) → lookup_entry (λ k. bytes_eq bs (see k)) pairs ≡ Some p → see p.0 ≡ bs)
       × (lookup (λ k. bytes_eq bs (see k)) pairs
-      ≡ option_map (λ (e : K × V). e.1) (lookup_entry (λ k. bytes_eq bs (see k)) pairs))
+      ≡ option_map (λ (e : K × V). e.1) (lookup_entry (λ k. bytes_eq bs (see k)) pairs)))
   matched bs = (
     refl,
-    λ p found. sym ((bytes_eq-Decides bs (see p.0)).0
-        (pair_key (λ k key. bytes_eq bs (see key)) pairs p.0 p found)),
-    lookup-entry (λ k. bytes_eq bs (see k)) pairs,
+    (
+      λ p found. sym ((bytes_eq-Decides bs (see p.0)).0
+          (pair_key (λ k key. bytes_eq bs (see key)) pairs p.0 p found)),
+      lookup-entry (λ k. bytes_eq bs (see k)) pairs,
+    ),
   )
 
 pub pair_matched : {Z V : Type 0} (bs : List ℕ) (pairs : List (String Z × V))
-    → (lookup_entry (is_text bs) pairs ≡ lookup_entry (is_text bs) pairs)
-    × ((p : String Z × V) → lookup_entry (is_text bs) pairs ≡ Some p → string_bytes p.0 ≡ bs)
+    → Where (lookup_entry (is_text bs) pairs)
+    (((p : String Z × V) → lookup_entry (is_text bs) pairs ≡ Some p → string_bytes p.0 ≡ bs)
     × (lookup (is_text bs) pairs
-    ≡ option_map (λ (e : String Z × V). e.1) (lookup_entry (is_text bs) pairs))
+    ≡ option_map (λ (e : String Z × V). e.1) (lookup_entry (is_text bs) pairs)))
 pair_matched bs pairs = matched string_bytes pairs bs
 
 pub pair_matched_str : {V : Type 0} (bs : List ℕ) (pairs : List (Bor (List ℕ) × V))
-    → (lookup_entry (is_str bs) pairs ≡ lookup_entry (is_str bs) pairs)
-    × ((p : Bor (List ℕ) × V) → lookup_entry (is_str bs) pairs ≡ Some p → p.0.now ≡ bs)
+    → Where (lookup_entry (is_str bs) pairs)
+    (((p : Bor (List ℕ) × V) → lookup_entry (is_str bs) pairs ≡ Some p → p.0.now ≡ bs)
     × (lookup (is_str bs) pairs
-    ≡ option_map (λ (e : Bor (List ℕ) × V). e.1) (lookup_entry (is_str bs) pairs))
+    ≡ option_map (λ (e : Bor (List ℕ) × V). e.1) (lookup_entry (is_str bs) pairs)))
 pair_matched_str bs pairs = matched (λ s. s.now) pairs bs
 
 -- two maps are the same exactly if their texts are, where the values are compared as `read` sees them
@@ -275,8 +261,6 @@ pub ruleset text_laws = (
   matched_texts,
   texts_take_out_matched,
   texts_put,
-  texts_take_out,
-  has_texts,
   at_made,
   at_made_by,
   unique_texts,

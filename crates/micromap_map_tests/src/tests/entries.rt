@@ -3,7 +3,7 @@ ghost use Rattle.std.specs.Prelude.{◌≡◌, ◌+ℤ◌, IfSome, IsTrue, if◌
 ghost use Rattle.std.specs.Int.{saturate_signed, w32};
 ghost use Rattle.std.specs.Option.{option_map_or, unwrap_or};
 ghost use Rattle.micromap.specs.Entry.{IsSound, entry_has_room};
-ghost use Rattle.micromap_core.specs.declared.entry.EntryIn.TheVariants.{Occupied, Vacant};
+ghost use Rattle.micromap_core.specs.declared.map.entry.EntryIn.TheVariants.{Occupied, Vacant};
 ghost use Rattle.micromap.specs.Pairs.{at, fits, has, put, put_if_fits, take_out};
 
 use micromap::Map;

@@ -1,5 +1,5 @@
 use Rattle.std.proofs.Common.{refl}
-use Rattle.micromap.proofs.EntryItems.{entries_of-keys, items_read_back}
+use Rattle.micromap.proofs.SetStreamLemmas.{entries_of-keys, items_read_back}
 use Rattle.micromap.proofs.ItemLemmas.{content_items}
 use Rattle.micromap.proofs.set.Set.read_entries.Goals as goal
 

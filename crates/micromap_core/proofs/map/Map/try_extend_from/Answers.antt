@@ -40,8 +40,8 @@ loop-key-preserved g c =
       content = put.content.1;
     }
 
-pub overflow_add-at : goal.overflow_add-at
-overflow_add-at g c =
+pub overflow_add-position : goal.overflow_add-position
+overflow_add-position g c =
     let counted = put_counted _ _ c.loop-key.invariant.put in
     let other = c.into_iter-key-iterator.ensures.into_iter_gives.2 in
     omega (arith, counted, ap length c.in-Some.ensures.steps, other.bounded, g.M.fits)
@@ -58,7 +58,7 @@ returns-then-is_none g c =
     let content = c.len-content.ensures.content in
     record {
       pairs = tt;
-      many = (λ _. stopped_many content c.args.other.now c.loop-key.at stops, λ _. refl);
+      many = (λ _. stopped_many content c.args.other.now c.loop-key.position stops, λ _. refl);
       stops = stops;
       unchanged = refl;
       content = (content, content);

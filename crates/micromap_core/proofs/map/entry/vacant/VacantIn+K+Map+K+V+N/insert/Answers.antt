@@ -4,7 +4,7 @@ use Rattle.std.proofs.lemmas.Option.{same_Some}
 use Rattle.micromap_core.specs.Entry.{entry_put}
 use Rattle.micromap_core.specs.Pairs.{IsContent}
 use Rattle.micromap_core.proofs.EntryLemmas.{vacant_written}
-use Rattle.micromap_core.proofs.entry.vacant.VacantIn+K+Map+K+V+N.insert.Goals as goal
+use Rattle.micromap_core.proofs.map.entry.vacant.VacantIn+K+Map+K+V+N.insert.Goals as goal
 
 -- the pair stands last, and its value is lent
 pub returns : goal.returns

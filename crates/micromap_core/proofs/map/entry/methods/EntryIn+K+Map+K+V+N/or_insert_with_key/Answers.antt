@@ -1,7 +1,7 @@
 use Rattle.std.proofs.Common.{refl, sym, Some}
 use Rattle.std.proofs.lemmas.Option.{same_Some}
 use Rattle.micromap_core.specs.Entry.{AnswersOfKey}
-use Rattle.micromap_core.proofs.entry.methods.EntryIn+K+Map+K+V+N.or_insert_with_key.Goals as goal
+use Rattle.micromap_core.proofs.map.entry.methods.EntryIn+K+Map+K+V+N.or_insert_with_key.Goals as goal
 
 -- the value that was put is what the call answered of the held key
 pub returns-in-Vacant : goal.returns-in-Vacant

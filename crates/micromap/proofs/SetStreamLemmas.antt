@@ -7,7 +7,7 @@ use Rattle.std.proofs.lemmas.Map.Entries.{length-keys_of}
 use Rattle.micromap_core.specs.Pairs.{IsContent}
 use Rattle.micromap_core.specs.Stream.{Stream, ReadsWhole}
 use Rattle.micromap.specs.Extend.{distinct}
-use Rattle.micromap.specs.ItemEntries.{entries_of}
+use Rattle.micromap.specs.SetStream.{entries_of}
 use Rattle.micromap.specs.Items.{IsItems}
 use Rattle.micromap.proofs.ItemLemmas.{keys_put_all_items}
 

@@ -1,6 +1,6 @@
 use Rattle.std.proofs.Common.{refl}
 use Rattle.micromap_core.proofs.EntryLemmas.{vacant_written}
-use Rattle.micromap_core.proofs.entry.vacant.VacantIn+K+Map+K+V+N.insert_entry.Goals as goal
+use Rattle.micromap_core.proofs.map.entry.vacant.VacantIn+K+Map+K+V+N.insert_entry.Goals as goal
 
 pub returns-clause-written : goal.returns-clause-written
 returns-clause-written g c =

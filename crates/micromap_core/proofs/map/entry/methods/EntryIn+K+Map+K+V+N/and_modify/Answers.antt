@@ -3,7 +3,7 @@ use Rattle.std.specs.Map.Calls.{MayWrite}
 use Rattle.micromap_core.specs.Entry.{entry_put, with_entry_value}
 use Rattle.micromap_core.proofs.Lists.{slice_get_some}
 use Rattle.micromap_core.proofs.EntryLemmas.{occupied_written}
-use Rattle.micromap_core.proofs.entry.methods.EntryIn+K+Map+K+V+N.and_modify.Goals as goal
+use Rattle.micromap_core.proofs.map.entry.methods.EntryIn+K+Map+K+V+N.and_modify.Goals as goal
 
 -- the closure was called on the value, and left another
 pub returns-in-Occupied : goal.returns-in-Occupied

@@ -1,7 +1,7 @@
 use Rattle.std.proofs.Common.{refl}
 use Rattle.micromap_core.proofs.EntryLemmas.{occupied_written}
 use Rattle.micromap_core.proofs.Lists.{slice_get_some}
-use Rattle.micromap_core.proofs.entry.occupied.OccupiedIn+Map+K+V+N.insert.Goals as goal
+use Rattle.micromap_core.proofs.map.entry.occupied.OccupiedIn+Map+K+V+N.insert.Goals as goal
 
 pub returns-clause-written : goal.returns-clause-written
 returns-clause-written g c =
