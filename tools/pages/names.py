@@ -3,13 +3,15 @@ a row in CHANGELOG.md, with the old name in its first column. A row that says `e
 if they say something else or the whole file is gone."""
 import glob
 import hashlib
+import itertools
 import os
 import re
 
 from pages.sources import LIBRARY, TYPES, read
 
 CHANGES, PROVING = "CHANGELOG.md", "crates/micromap/PROVING.md"
-# The names of commit 5373042, as `tools/documents --names` prints them: each with a checksum of what it says.
+# The names of commit 5373042, as `tools/documents --names` prints them: what some begin with, and what each ends with and a
+# checksum of what it says.
 RECORD = f"{os.path.dirname(os.path.abspath(__file__))}/names.txt"
 # The head of a module with arguments; or a definition or a law with its indentation, its kinds, its name, and what
 # follows up to the next line that isn't further to the right.
@@ -86,7 +88,16 @@ def names(sources):
 
 def listed(sources):
     """The names of this checkout, as the record has them."""
-    return "\n".join(f"{checksum}\t{name}" for name, checksum in names(sources).items())
+    pairs = ((re.match(r"(.*(?:: |::|\.| ))?(.*)", name).groups(""), checksum) for name, checksum in names(sources).items())
+    groups = itertools.groupby(pairs, key=lambda it: it[0][0])
+    return "\n".join("\t".join([head, *(f"{tail} {checksum}" for (_, tail), checksum in those)]) for head, those in groups)
+
+
+def recorded_names():
+    """The names of the record, each with its checksum."""
+    lines = (line.split("\t") for line in read(RECORD).splitlines())
+    pairs = ((head + tail.rpartition(" ")[0], tail.rpartition(" ")[2]) for head, *tails in lines for tail in tails)
+    return dict(pairs)
 
 
 def is_clause_of(name, calls):
@@ -118,7 +129,7 @@ def has_family_row(name, rows, now):
 def moved_names(sources):
     """Which recorded names are gone or say something else, and have no row in CHANGELOG.md."""
     rows = re.findall(r"^\|((?:\\\||[^|\n])*)\|", read(CHANGES), re.M)
-    recorded = dict(reversed(line.split("\t")) for line in read(RECORD).splitlines())
+    recorded = recorded_names()
     now = names(sources)
     calls = {it.removeprefix("call ") for it in recorded if it.startswith("call ") and it not in now}
     lost = {it.removeprefix("ruleset ") for it in recorded if it.startswith("ruleset ") and it not in now}

@@ -4,7 +4,6 @@ import glob
 import os
 import re
 
-from pages.examples import tactic
 from pages.sources import anchor, doc_of, read, sentences
 
 RECIPES, CRATE, WHOLE = "crates/micromap/RECIPES.md", "micromap_callers", "micromap_uses"
@@ -15,11 +14,10 @@ WORDS = "Words and laws of their own"
 LISTED = "A file of `specs/` is listed in `specs/Lib.antt`, as `pub mod Totals`, and one of laws in `proofs/Lib.antt`."
 INTRO = """# Recipes
 
-A recipe is a small function over a map or a set, with a contract. Each is proved as it stands here. Take its block, and put
-your own types and tests in the place of its own. Another type of keys may need another equality in the clauses ([words](CALLING.md#words)). [CALLING](CALLING.md#when-a-check-fails) has what to do when a check fails.
+A recipe is a small function over a map or a set, with a contract. Each is proved as it stands here. Take its block and what
+its section begins with, and put your own types and tests in the place of its own. Another type of keys may need another equality in the clauses ([words](CALLING.md#words)). [CALLING](CALLING.md#when-a-check-fails) has what to do when a check fails.
 
-- Write the line `tactic` as `#[..]` at each function of the block that has none, or as `#![..]` at the head of your file.
-- The imports are those of the words in the clauses. [CALLING](CALLING.md#callers) has those of types.
+- What a section begins with is the head of a file: the line under which its recipes are proved, and the imports of all of them. An import may stay that you don't need. A recipe with a line `#[tactic(..)]` of its own is proved under that.
 - A block `antt` is a file of definitions, of a loop's [invariant](PROVING.md#an-invariant), or of *answers*, which are proofs of single goals. It has
 the path of its function: that of `total` of `src/walks.rt` is `proofs/walks/total/Invariants.antt`, and in `main.rt` or `lib.rt` `proofs/total/Invariants.antt`. `my_crate` stands for your crate, and what follows `proofs.`, `contracts.` or `declared.`, as `counting`, for your file.
 - What a comment says of other types, calls or bodies, as "goes the same way", isn't proved here. The check of your crate tells.
@@ -36,7 +34,7 @@ WANTS = {
     "merge or join two maps": ["Puts a map whose keys and values are `Copy` over another, all or nothing", "Makes a map of the pairs of two maps",
         "Puts a map with `&str` keys over another, all or nothing", "Adds the amounts of another map to the totals of a map",
         "Copies settings with others put over them, or returns `None` if they don't all fit"],
-    "settings in layers": ["Finds a key's value in the first of several maps with it",
+    "settings in layers": ["Finds a key's value in the first of several maps with it", "Reads the value at a text in a map, or else in another",
         "Copies settings with others put over them, or returns `None` if they don't all fit"],
     "the words of a text": ["Makes a set of the words of a text, or an error if there are more than `N` different ones",
         "Counts how often each word of a text comes, or returns `None` if there are more than `N` different ones"],
@@ -50,7 +48,7 @@ WANTS = {
     "the neighbours of a node": ["Inserts an item into the set of a key, if it fits", "Takes a pair out, and its key out of each set"],
     "nested scopes": ["Finds a key's value in the first of several maps with it", "`scopes.rt` in `micromap_uses`"],
     "JSON": ["Reads a map with owned texts as keys from JSON, or says what is wrong with it"],
-    "what was visited, and a work list": ["Moves the items of a set into another, as far as they fit",
+    "what was visited, and a work list": ["Adds a key of a map to a set of its keys, which has room for each", "Moves the items of a set into another, as far as they fit",
         "`reached` of `graph.rt` and `affected` of `order.rt` in `micromap_uses`"],
     "mark and unmark, in a search for cycles": ["Puts an item on a path and takes it off again, which leaves the path as it was"],
     "the newest `N` items": ["Inserts an item into a set, which loses its first if it's full"],
@@ -68,9 +66,14 @@ WANTS = {
     "compare maps with `&str` keys": ["Returns whether two maps from `&str` to a struct with a derived `==` are the same"],
     "a key at which two maps differ": ["Reads two maps at a key where they differ"],
     "leave pairs out of a copy": ["Copies the pairs that pass"],
-    "evict a pair of a full map": ["Takes out a pair with the least value, as to make room in a full map"],
+    "evict a pair of a full map": ["Sets the value of a key, for which a pair with the least value is taken out if there is no room"],
+    "a loop over a range": ["Puts a value at each number below another that fits, by a loop over a range", "Finds the first number of a range that isn't in a set, in a loop"],
+    "remove the keys of a list": ["Removes the texts of a list from a map", "Takes the items of a list out of a set in place"],
+    "fill in defaults": ["Puts the pairs of another map whose keys are missing, as far as they fit, as defaults are filled in"],
     "an edge and its way back": ["Puts two pairs into a map, both or none, as an edge and its way back"],
-    "signed amounts": ["Adds a signed amount to the value of a key, where a sum that doesn't fit stays at the end of the range",
+    "signed amounts": ["Adds a signed amount to a stored value, or returns `None` if the key is missing or the sum doesn't fit",
+        "Adds up signed values, or returns `None` if a sum doesn't fit",
+        "Adds a signed amount to the value of a key, where a sum that doesn't fit stays at the end of the range",
         "Adds up signed values, where a sum that doesn't fit stays at the end of the range",
         "Multiplies all values of a signed type, where a product that doesn't fit stays at the end of the range"],
     "invert a map": ["Makes a map with key and value exchanged"],
@@ -113,22 +116,17 @@ def recipes_of(path, wrong):
         yield Recipe(item.name, path, heading, rest, all_items)
 
 
-def is_named(name, text):
-    """Whether a text has a word, or each part of an operator."""
-    parts = [it for it in name.split("◌") if it]
-    if parts == [name] or all(map(str.isalpha, parts)):  # a word, or `[]`, or `if◌then◌else◌`
-        return all(re.search(rf"(?<![\w.']){re.escape(it)}(?![\w'.])", text) for it in parts)
-    return all(f" {it} " in f" {text} " for it in parts)
+def head_of(path):
+    """The line `tactic` and the imports with which a file begins, but for those of other recipes."""
+    head = re.search(r"^#!\[tactic(?:.*\n)*?(?=(?:///?(?: |$)|#\[|pub |fn |impl |struct |enum |const ))", read(path), re.M)[0]
+    return re.sub(r"^use (?:crate|super)::.*\n", "", head, flags=re.M)
 
 
-def imports(recipe):
-    """The lines `ghost use` of the file, with the words that the clauses of a recipe name."""
+def imports_of_own(recipe):
+    """The imports of the crate's own words that a recipe names."""
     code = "\n".join(it.code for it in recipe.items)
-    clauses = "\n".join(re.findall(r"\b(?:ensures|requires|ghost)\b(?:(?!\n *(?:ensures|requires|ghost|fn|\{)).)*", code, re.S))
-    for path, names in re.findall(r"^ghost use ([\w.]+)\.\{(.*)\};$", read(recipe.path), re.M):
-        used = [it for it in names.split(", ") if is_named(it, clauses)]
-        if used:
-            yield f"ghost use {path}.{{{', '.join(used)}}};"
+    own_words = re.findall(rf"^(ghost use Rattle\.{CRATE}\..*\.\{{(.*)\}};)$", read(recipe.path), re.M)
+    return [line for line, names in own_words if any(re.search(rf"\b{it}\b", code) for it in names.split(", "))]
 
 
 def proofs_of(recipe):
@@ -173,14 +171,12 @@ def own_title(path):
 def section(recipe, known):
     """A recipe with its text, the line under which it is proved, its block and its proofs; and the files of its own words."""
     code, proofs = "\n\n".join(it.above + it.code for it in recipe.items), proofs_of(recipe)
-    inherits = any("fn " in it.code and "tactic(" not in it.above for it in recipe.items)
-    line = f"Under `{tactic(recipe.path.removeprefix('crates/'))}`:" * inherits
-    words = own([*imports(recipe), code, line, *map(read, proofs)])
+    words = own([code, *map(read, proofs), *imports_of_own(recipe)])
     needs = [f"`{it.name}`: {linked(it.heading)}." for it in needed(recipe, known)]
     needs += [f"Definitions and laws that it needs: {', '.join(linked(own_title(it)) for it in sorted(words))}."] if words else []
-    source = block("rust", "\n".join([*imports(recipe), "", code]))
+    source = block("rust", code)
     quoted = [f"In {own_title(it)}:\n\n{block('antt', read(it))}" for it in proofs]
-    return "\n\n".join(filter(None, [f"### {recipe.heading}", recipe.rest, " ".join(needs), line, source, *quoted])), words
+    return "\n\n".join(filter(None, [f"### {recipe.heading}", recipe.rest, " ".join(needs), source, *quoted])), words
 
 
 def recipes(wrong):
@@ -196,7 +192,8 @@ def recipes(wrong):
         title, rest = title_of(path)
         rows += [f"- {linked(title)}", *(f"  - {linked(it.heading)}" for it in those)]
         made = [section(it, known) for it in those]
-        sections += [f"## {title}\n\nIn `{os.path.basename(path)}`. {rest}".strip(), *(text for text, _ in made)]
+        begins = f"{rest} The file `{os.path.basename(path)}` begins:".strip()
+        sections += [f"## {title}\n\n{begins}\n\n{block('rust', head_of(path))}", *(text for text, _ in made)]
         words = words.union(*(files for _, files in made))
     times = collections.Counter(map(anchor, [*(title_of(it)[0] for it in found), *(it.heading for it in known), WORDS]))
     wrong += [f"{RECIPES}: {times[it]} headings have the anchor {it}" for it in times if times[it] > 1]

@@ -9,21 +9,21 @@ from pages.words import FORM_OF, FORMS, OWN, PLAIN
 GUIDES = ["crates/micromap/CALLING.md", "crates/micromap/PROVING.md"]  # the documents that name words for callers
 OWN_WORDS = """## Words
 
-Each word of the calls' contracts has its arguments, the module that it is imported from, as \
-`ghost use Rattle.micromap.specs.Pairs.{put};`, and its meaning here. `rt lemma WORD` prints the definition of any other, as of \
+Each word of the calls' contracts has its arguments and its meaning here. The words of a module stand together, below its name. They are imported from it, as by \
+`ghost use Rattle.micromap.specs.Pairs.{put};`. `rt lemma WORD` prints the definition of any other, as of \
 `has_value`; `nat_eq` of `std.specs.Prelude` is whether two numbers are equal, and `nat_lt` whether the first is less. Signs: `≡` is equality, `→` "if, then" or a function, \
 `↔` "exactly if", `×` "and", `λ x. ..` a function of `x`. `(k : K) → P` says that `P` holds for each `k`, \
 `(xs : List K) × P` that there is an `xs` for which `P` holds, and `⊤ → P` means `P`. `[]` is the empty list, `x ∷ xs` the list `xs` with `x` before \
 it, `++` joins two lists, `x == y` is whether two numbers are equal, `⊤` always holds, `ℕ` are the natural numbers.
 
-| Word | Module | Meaning |
-|---|---|---|"""
+| Word | Meaning |
+|---|---|"""
 STANDARD_WORDS = """## Words of the standard library
 
-A word is shown with its arguments. A dot begins a member of a trait, as `K.eq x y` has it.
+A word is shown with its arguments, below its module. A dot begins a member of a trait, as `K.eq x y` has it.
 
-| Word | Module | Meaning |
-|---|---|---|"""
+| Word | Meaning |
+|---|---|"""
 
 
 def groups_of(text):
@@ -112,6 +112,12 @@ def with_marks(meaning, form):
     return meaning
 
 
+def rows_of(modules):
+    """The rows of the words of each module, below a row with its name."""
+    for module in sorted(modules):
+        yield from (f"| **{module}** | |", *modules[module])
+
+
 class Vocabulary:
     """The words of some texts, each with the imports of its file. What is amiss is added to `wrong`."""
 
@@ -120,7 +126,7 @@ class Vocabulary:
 
     def tables(self):
         """The tables of the words, and the words that mean what their names say."""
-        modules, plain, own, standard = self.modules(), collections.defaultdict(list), [], []
+        modules, plain, own, standard = self.modules(), collections.defaultdict(list), collections.defaultdict(list), collections.defaultdict(list)
         for word, module in modules.items():
             path = spec_of(module)
             if word in PLAIN:
@@ -128,15 +134,15 @@ class Vocabulary:
                     plain[home].append(word)
             elif path:
                 form, meaning = self.explained(path, word)
-                own.append(f"| `{form}` | {link(path, 'crates/micromap/API.md', module)} | {meaning} |")
+                own[link(path, "crates/micromap/API.md", module)].append(f"| `{form}` | {meaning} |")
             elif word in FORM_OF:
-                standard.append(f"| `{FORM_OF[word]}` | `{module}` | {FORMS[FORM_OF[word]]} |")
+                standard[f"`{module}`"].append(f"| `{FORM_OF[word]}` | {FORMS[FORM_OF[word]]} |")
             else:
                 self.wrong.append(f"tools/pages/words.py: the word {word} of {module} isn't explained")
         self.wrong += [f"tools/pages/words.py: no clause and no document names {it}" for it in OWN if it not in modules]
-        yield "\n".join([OWN_WORDS, *own])
+        yield "\n".join([OWN_WORDS, *rows_of(own)])
         yield ""
-        yield "\n".join([STANDARD_WORDS, *standard, *self.member_rows()])
+        yield "\n".join([STANDARD_WORDS, *rows_of(standard), "| **of traits** | |", *self.member_rows()])
         lists = (f"{', '.join(f'`{it}`' for it in words)} of `{module}`" for module, words in plain.items())
         yield f"\nThese mean what their names say: {'; '.join(lists)}."
 
@@ -186,4 +192,4 @@ class Vocabulary:
         self.wrong += [f"tools/pages/words.py: no clause names {it}" for it in sorted(known - named)]
         self.wrong += [f"tools/pages/words.py: {it} isn't explained" for it in sorted(named - known - {*PLAIN})]
         for form in sorted({FORM_OF[it] for it in named & known}):
-            yield f"| `{form}` | | {FORMS[form]} |"
+            yield f"| `{form}` | {FORMS[form]} |"

@@ -1,5 +1,5 @@
--- What the callers in `merging.rt` merge: amounts of numbers, and members of groups.
-use Rattle.std.specs.Prelude.{ℕ, ◌+◌, ◌-◌, ◌^◌, max, min, nat_eq, List, [], Option, unwrap_or}
+-- What the callers in `merging.rt` merge, amounts of numbers and members of groups; and sums of signed numbers.
+use Rattle.std.specs.Prelude.{ℕ, ◌+◌, ◌-◌, ◌^◌, ◌+ℤ◌, ◌&&◌, Bool, max, min, nat_eq, int_lt, negsuc, not, pos, List, [], Option, Some, None, unwrap_or, ℤ, if◌then◌else◌}
 use Rattle.micromap.specs.Items.{put_item_if_fits}
 
 -- a total with one amount more
@@ -17,3 +17,11 @@ greater stored amount = max (unwrap_or stored amount) amount
 -- the members of a group with one more, unless there are M others
 abbrev pub with_member : ℕ → Option (List ℕ) → ℕ → List ℕ
 with_member M members member = put_item_if_fits nat_eq M (unwrap_or members []) member
+
+-- whether a number is one of 64 bits with a sign
+abbrev pub fits_64 : ℤ → Bool
+fits_64 z = not (int_lt z (negsuc (2 ^ 63 - 1))) && int_lt z (pos (2 ^ 63))
+
+-- the sum, or `None` if it doesn't fit
+unfoldable pub checked_sum : ℤ → ℤ → Option ℤ
+checked_sum a b = if fits_64 (a +ℤ b) then Some (a +ℤ b) else None

@@ -5,12 +5,15 @@ ghost use Rattle.std.specs.Prelude.{◌≡◌, ◌&&◌, ◌*ℤ◌, ◌+ℤ◌,
 ghost use Rattle.std.specs.Int.{saturate_signed, w64};
 ghost use Rattle.std.specs.List.{list_all};
 ghost use Rattle.std.specs.Map.{values_of};
+ghost use Rattle.std.specs.Option.{option_and_then, option_map_or};
 ghost use Rattle.std.specs.Set.{distinct_count, is_member};
 ghost use Rattle.micromap.specs.Closures.{updated_disjoint};
 ghost use Rattle.micromap.specs.Items.{item_fits, put_item};
 ghost use Rattle.micromap.specs.Memory.{IntoIterFits};
-ghost use Rattle.micromap.specs.Pairs.{at, fits, has, has_room, put_if_fits, take_out};
+ghost use Rattle.micromap.specs.Pairs.{at, fits, has, has_room, put, put_if_fits, take_out};
+ghost use Rattle.micromap_callers.specs.Totals.{checked_sum};
 
+use crate::counting::add_signed;
 use micromap::{Map, Set};
 
 /// Keeps the pairs that pass.
@@ -74,6 +77,20 @@ pub fn post<const N: usize>(balances: &mut Map<u8, i64, N>, account: u8, amount:
     let balance = balances.entry(account).or_insert(0);
     *balance = balance.saturating_add(amount);
     true
+}
+
+/// Adds a signed amount to a stored value, or returns `None` if the key is missing or the sum doesn't fit.
+pub fn post_checked<const N: usize>(
+    balances: &mut Map<u8, i64, N>,
+    account: u8,
+    amount: i64,
+) -> Option<i64>
+    ensures answer { result ≡ option_and_then (λ b. checked_sum b amount) (at nat_eq balances.old account) }
+    ensures balances { balances.new ≡ option_map_or (λ sum. put nat_eq balances.old account sum) (option_and_then (λ b. checked_sum b amount) (at nat_eq balances.old account)) balances.old }
+{
+    let sum = add_signed(*balances.get(&account)?, amount)?;
+    balances.insert(account, sum);
+    Some(sum)
 }
 
 /// Puts an item on a path and takes it off again, which leaves the path as it was.

@@ -1,14 +1,14 @@
 //! Finding and listing what is stored.
 #![tactic(auto, using(micromap::proofs::Rules::caller))]
 
-ghost use Rattle.std.specs.Prelude.{◌-◌, ◌<◌, ◌==◌, ◌↔◌, ◌≡◌, ◌≤◌, IfOk, IfSome, IsFalse, IsNone, IsTrue, List, None, Option, Some, filter, fold, length, map, max, nat_eq, nat_lt, position, slice_get, ℕ, []};
+ghost use Rattle.std.specs.Prelude.{◌-◌, ◌<◌, ◌==◌, ◌↔◌, ◌≡◌, ◌≤◌, IfOk, IfSome, IsFalse, IsNone, IsTrue, List, None, Option, Some, filter, fold, length, map, max, nat_eq, nat_lt, not, position, slice_get, unwrap_or, ℕ, []};
 ghost use Rattle.std.specs.List.{All, Contains, find, range_with_len, reduce};
 ghost use Rattle.std.specs.Map.{keys_of, values_of};
 ghost use Rattle.std.specs.Map.Iter.{deref_pair};
 ghost use Rattle.std.specs.Option.{option_and_then, option_copied, option_map, option_or};
 ghost use Rattle.std.specs.Set.{is_member};
 ghost use Rattle.micromap.specs.Operations.{union};
-ghost use Rattle.micromap.specs.Pairs.{at, take_out};
+ghost use Rattle.micromap.specs.Pairs.{at, fits, put, take_out};
 
 use micromap::{Map, Set};
 use std::alloc::{AllocError, Global};
@@ -37,17 +37,41 @@ pub fn cheapest<const N: usize>(prices: &Map<u8, u32, N>) -> Option<(u8, u32)>
     Some((*key, *price))
 }
 
-/// Takes out a pair with the least value, as to make room in a full map.
+/// Takes out a pair with the least value, so that there is room.
 /// It returns `None` if the map is empty.
 pub fn take_cheapest<const N: usize>(prices: &mut Map<u8, u32, N>) -> Option<(u8, u32)>
     ensures found { IfSome result (Contains prices.old) }
     ensures least { IfSome result (λ least. All (λ other. least.1 ≤ other.1) prices.old) }
     ensures others { IfSome result (λ least. prices.new ≡ take_out nat_eq prices.old least.0) }
-    ensures none { IsNone result → prices.new ≡ [] }
+    ensures room { IfSome result (λ _. length prices.new < N) }
+    ensures none { IsNone result ↔ (prices.old ≡ []) }
+    ensures empty { IsNone result → prices.new ≡ [] }
 {
     let least = cheapest(prices)?;
     prices.remove(&least.0);
+    let _content = prices.len();
     Some(least)
+}
+
+/// Sets the value of a key, for which a pair with the least value is taken out if there is no room.
+/// It returns the pair that was taken out, if any.
+pub fn set_evicting<const N: usize>(
+    prices: &mut Map<u8, u32, N>,
+    key: u8,
+    price: u32,
+) -> Option<(u8, u32)>
+    requires { 0 < N }
+    ensures fit { IsTrue (fits nat_eq N prices.old key) → prices.new ≡ put nat_eq prices.old key price }
+    ensures evicted { IfSome result (λ least. prices.new ≡ put nat_eq (take_out nat_eq prices.old least.0) key price) }
+    ensures stored { at nat_eq prices.new key ≡ Some price }
+{
+    if prices.fits(&key) {
+        prices.insert(key, price);
+        return None;
+    }
+    let least = take_cheapest(prices);
+    prices.insert(key, price);
+    least
 }
 
 /// Finds the first key that passes a test.
@@ -115,6 +139,19 @@ pub fn other_than<'a, T: Eq, const N: usize>(set: &'a Set<T, N>, item: &T) -> Op
         }
     }
     None
+}
+
+/// Finds the first number of a range that isn't in a set, in a loop.
+/// It returns 255 if all of them are.
+pub fn least_free<const N: usize>(used: &Set<u8, N>) -> u8
+    ensures { result ≡ unwrap_or (find (λ n. not (is_member nat_eq used.now n)) (range_with_len 0 255)) 255 }
+{
+    for number in 0..255_u8 {
+        if !used.contains(&number) {
+            return number;
+        }
+    }
+    255
 }
 
 /// Finds the index of a value.

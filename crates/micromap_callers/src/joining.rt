@@ -1,13 +1,14 @@
 //! Changing one by another.
 #![tactic(auto, using(micromap::proofs::Rules::caller))]
 
-ghost use Rattle.std.specs.Prelude.{◌≡◌, ◌<◌, ◌||◌, ◌↔◌, [], ℕ, IfSome, IsFalse, IsNone, IsTrue, List, filter, fold, length, nat_eq, not};
+ghost use Rattle.std.specs.Prelude.{◌≡◌, ◌<◌, ◌||◌, ◌↔◌, [], ℕ, IfSome, IsFalse, IsNone, IsTrue, List, filter, fold, if◌then◌else◌, length, nat_eq, not};
 ghost use Rattle.std.specs.Bool.{OnTrue};
+ghost use Rattle.std.specs.List.{list_all, range_with_len};
 ghost use Rattle.std.specs.Set.{is_member};
 ghost use Rattle.micromap.specs.Build.{put_all};
-ghost use Rattle.micromap.specs.Items.{put_item_if_fits, take_item};
+ghost use Rattle.micromap.specs.Items.{put_item, put_item_if_fits, take_item};
 ghost use Rattle.micromap.specs.Operations.{difference, union};
-ghost use Rattle.micromap.specs.Pairs.{fits, put_if_fits};
+ghost use Rattle.micromap.specs.Pairs.{fits, has, put_if_fits};
 ghost use Rattle.micromap.specs.Same.{Same};
 
 use micromap::{Map, Set};
@@ -94,6 +95,45 @@ pub fn include<const N: usize, const M: usize>(
     let whole = add_all_items(permissions, others);
     let _content = permissions.len();
     whole
+}
+
+/// Puts the pairs of another map whose keys are missing, as far as they fit, as defaults are filled in.
+#[tactic(auto, using(micromap::proofs::Rules::loops))]
+pub fn fill_in<const N: usize, const M: usize>(
+    settings: &mut Map<u16, u32, N>,
+    defaults: &Map<u16, u32, M>,
+)
+    ensures { settings.new ≡ fold (λ m p. if has nat_eq m p.0 then m else put_if_fits nat_eq N m p.0 p.1) settings.old defaults.now }
+{
+    for (key, value) in defaults {
+        if !settings.contains_key(key) {
+            settings.checked_insert(*key, *value);
+        }
+    }
+}
+
+/// Puts a value at each number below another that fits, by a loop over a range.
+/// Rounds that call a function go the same way. Without an early return the invariant names the counter `l.key`; with one,
+/// as in `least_free`, its name ends in `-counter`.
+#[tactic(auto, using(micromap::proofs::Rules::loops))]
+pub fn add_zeros<const N: usize>(map: &mut Map<u8, u8, N>, count: u8)
+    ensures { map.new ≡ fold (λ m k. put_if_fits nat_eq N m k 0) map.old (range_with_len 0 count) }
+{
+    for key in 0..count {
+        map.checked_insert(key, 0);
+    }
+}
+
+/// Adds a key of a map to a set of its keys, which has room for each.
+/// So does a search with the nodes of a graph that it has seen. Both have the capacity `N`, so it needs no test.
+pub fn see<const N: usize>(graph: &Map<u8, Set<u8, 4>, N>, seen: &mut Set<u8, N>, node: u8)
+    requires nodes { IsTrue (list_all (has nat_eq graph.now) seen.old) }
+    requires known { IsTrue (has nat_eq graph.now node) }
+    ensures seen { seen.new ≡ put_item nat_eq seen.old node }
+    ensures nodes { IsTrue (list_all (has nat_eq graph.now) seen.new) }
+{
+    let _contents = (graph.len(), seen.len());
+    seen.insert(node);
 }
 
 /// Moves the items of a set into another, as far as they fit.

@@ -2,13 +2,16 @@
 //! `clone()?` in the place of `copied()`.
 #![tactic(auto, using(micromap::proofs::Rules::caller))]
 
-ghost use Rattle.std.specs.Prelude.{◌≡◌, ◌↔◌, ◌<◌, ◌+◌, ◌-◌, ◌^◌, [], IfOk, IsFalse, IsNone, filter, length, map, min, nat_eq, unwrap_or};
+ghost use Rattle.std.specs.Prelude.{◌≡◌, ◌↔◌, ◌<◌, ◌+◌, ◌-◌, ◌^◌, [], ℕ, IfOk, IsFalse, IsNone, List, filter, fold, length, map, min, nat_eq, unwrap_or};
 ghost use Rattle.std.specs.Bool.{OnTrue};
+ghost use Rattle.std.specs.Borrow.{Bor};
 ghost use Rattle.std.specs.List.{starts_with};
-ghost use Rattle.std.specs.Option.{IfSome, option_map_or};
+ghost use Rattle.std.specs.Option.{IfSome, option_map_or, option_or};
+ghost use Rattle.std.specs.Set.{is_member};
 ghost use Rattle.std.specs.Str.{bytes_eq};
 ghost use Rattle.micromap.specs.Build.{put_all};
 ghost use Rattle.micromap.specs.Extend.{put_all_items};
+ghost use Rattle.micromap.specs.Items.{take_item};
 ghost use Rattle.micromap.specs.Operations.{union};
 ghost use Rattle.micromap.specs.Pairs.{at, fits, has, put, put_if_fits, take_out};
 
@@ -23,6 +26,19 @@ pub fn age_at<const N: usize>(ages: &Map<TextBuf, u8, N>, name: &str) -> Option<
     ensures { result ≡ at bytes_eq ages.now name.now }
 {
     ages.get_by(&Text(name)).copied()
+}
+
+/// Reads the value at a text in a map, or else in another.
+pub fn age_or_other(
+    ages: &Map<TextBuf, u8, 16>,
+    others: &Map<TextBuf, u8, 16>,
+    name: &str,
+) -> Option<u8>
+    ensures { result ≡ option_or (at bytes_eq ages.now name.now) (at bytes_eq others.now name.now) }
+{
+    ages.get_by(&Text(name))
+        .or_else(|| others.get_by(&Text(name)))
+        .copied()
 }
 
 /// Sets the value at a text, if it fits, and returns whether it did.
@@ -59,6 +75,24 @@ pub fn count<const N: usize>(
             let word = TextBuf::new(alloc, word)?;
             Ok(counts.checked_insert(word, 1).is_some())
         }
+    }
+}
+
+/// Takes a text out of a set, and returns whether it was there.
+pub fn untag<const N: usize>(tags: &mut Set<TextBuf, N>, name: &str) -> bool
+    ensures answer { result ≡ is_member bytes_eq tags.old name.now }
+    ensures tags { tags.new ≡ take_item bytes_eq tags.old name.now }
+{
+    tags.remove_by(&Text(name))
+}
+
+/// Removes the texts of a list from a map.
+#[tactic(auto, using(micromap::proofs::Rules::caller, micromap::proofs::Rules::loops))]
+pub fn remove_each<const N: usize>(ages: &mut Map<TextBuf, u8, N>, names: &[&str])
+    ensures { ages.new ≡ fold (λ m (name : Bor (List ℕ)). take_out bytes_eq m name.now) ages.old names.now }
+{
+    for name in names {
+        ages.remove_by(&Text(*name));
     }
 }
 
