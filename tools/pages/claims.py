@@ -14,7 +14,7 @@ CLAIMS = "docs/CLAIMS.md"
 PROGRAMS = {
     "micromap_testing": "The worked rows",
     "micromap_uses": "Example libraries",
-    "micromap_contract": "A caller with a contract",
+    "micromap_first": "A caller with a contract",
 }
 HEAD = """# Claims
 
