@@ -50,8 +50,8 @@ A call that returns a `&mut` has one more clause, [`writes_back`](#written-throu
 Other parameters are named in the same way, as `key.now`. `K.eq` is `==` of the keys. The [words](#words) of this library and those of the [standard \
 library](#words-of-the-standard-library) are explained at the end.
 
-A `size_hint` has two more clauses, which the trait asks for: `ensures lower {{ IsWithinCount result.0 (remaining self.now) }}` and \
-`ensures upper {{ IfSome result.1 (UpTo (remaining self.now)) }}`, where `remaining` is the iterator's.
+Each `size_hint` has two more clauses, which the trait asks for and which aren't shown below: `ensures lower {{ IsWithinCount result.0 (remaining self.now) }}` and \
+`ensures upper {{ IfSome result.1 (UpTo (remaining self.now)) }}`. Here `remaining` is the ghost member of the iterator's impl.
 
 Examples are proved. Their files are in {HOME}, and their imports are left out here.
 """
@@ -207,7 +207,8 @@ class Api:
 
     def texts(self):
         """Each piece of code and each view, with the imports of its file."""
-        yield from (("\n".join(code), it.imports) for pieces in self.entries.values() for _, code, it in pieces)
+        lines = lambda code: "\n".join(it for it in code if not it.lstrip().startswith("///"))
+        yield from ((lines(code), it.imports) for pieces in self.entries.values() for _, code, it in pieces)
         yield from ((it.ghosts[0][3], it.imports) for it in self.views.values())
         hints = ((it, function) for it in self.sources.items for function in it.functions if function.name == "size_hint")
         yield from ((text, it.imports) for it, function in hints for _, _, text in function.clauses)

@@ -6,6 +6,7 @@ import re
 from pages.laws import parts_of
 from pages.names import unbroken
 from pages.sources import anchor, read
+from pages.vocabulary import groups_of
 
 LAWS = "crates/micromap/LAWS.md"
 FOLDERS = ("crates/micromap_core/proofs/Laws", "crates/micromap/proofs/Laws")
@@ -20,8 +21,8 @@ Each law below is proved. From the tag `v0.3.0-1` on it keeps its name and its s
 module that has its laws. The rulesets of `micromap::proofs::Rules` have those that a search needs, so most callers name
 no law; [PROVING](PROVING.md) says when one is named. A line `module _` has the arguments that come first in each law
 that is indented below it. The checker finds those in braces. The name of a law about a change has the reader first and then the change: `length_take_out` is the length after a removal. [API](API.md) explains the words of the calls, and `rt lemma WORD` prints the definition of any other. `rt lemma NAME` prints a law too, and
-the statements of those that serve a search alone, which stand here by name. Where a statement begins with `x ≡ x ×`, this part
-is there for the search, and what the law says stands behind it.
+the statements of those that serve a search alone, which stand here by name. `Where x P` says what `P` says: a search
+takes up such a law where it sees `x`, and a proof by hand takes `.1` of it.
 """
 
 
@@ -44,9 +45,21 @@ def broken(indent, text):
         joined = f"{lines[-1]} → {part}" if number else indent + part
         if len(joined) <= WIDTH or not number:
             lines[-1] = joined
+        elif part.startswith("Where "):
+            word, seen, says = groups_of(part)
+            lines += [f"{indent}    → {word} {seen}", *(f"{indent}        {it}" for it in wrapped(says, WIDTH - len(indent) - 8))]
         else:
             lines.append(f"{indent}    → {part}")
     return "\n".join(lines)
+
+
+def wrapped(text, width):
+    """A text in lines of about a width, each but the first of which begins with `×` or `→`."""
+    lines = [""]
+    for part in re.split(r" (?=[×→] )", text):
+        joined = f"{lines[-1]} {part}".strip()
+        lines = [*lines[:-1], joined] if len(joined) <= width or not lines[-1] else [*lines, part]
+    return lines
 
 
 def laws_in(text):
@@ -79,6 +92,8 @@ def shared_lines(text):
         depth = len(line) - len(line.lstrip(" "))
         later = next((it for it in lines[number + 1 :] if it.strip() and not it.lstrip().startswith(("--", "→"))), "")
         if line.lstrip().startswith("module _") and len(later) - len(later.lstrip(" ")) <= depth:
+            while kept and kept[-1].lstrip().startswith("--"):  # what the module is about
+                kept.pop()
             continue
         kept.append(line)
     if kept != lines:  # a line around those that are gone may have none left either

@@ -14,12 +14,12 @@ WORDS = "Words and laws of their own"
 LISTED = "A file of `specs/` is listed in `specs/Lib.antt`, as `pub mod Totals`, and one of laws in `proofs/Lib.antt`."
 INTRO = """# Recipes
 
-A recipe is a small function over a map or a set, with a contract. Each is proved as it stands here. Take its block and what
-its section begins with, and put your own types and tests in the place of its own. Another type of keys may need another equality in the clauses ([words](CALLING.md#words)). [CALLING](CALLING.md#when-a-check-fails) has what to do when a check fails.
+A recipe is a small function over a map or a set, with a contract. Each is proved as it stands here. Copy its blocks, the head
+with which its section begins, and what it says that it calls or needs. Then put your own types and tests in the place of the recipe's. Another type of keys may need another equality in the clauses ([words](CALLING.md#words)). [CALLING](CALLING.md#when-a-check-fails) has what to do when a check fails.
 
-- What a section begins with is the head of a file: the line under which its recipes are proved, and the imports of all of them. An import may stay that you don't need. A recipe with a line `#[tactic(..)]` of its own is proved under that.
-- A block `antt` is a file of definitions, of a loop's [invariant](PROVING.md#an-invariant), or of *answers*, which are proofs of single goals. It has
-the path of its function: that of `total` of `src/walks.rt` is `proofs/walks/total/Invariants.antt`, and in `main.rt` or `lib.rt` `proofs/total/Invariants.antt`. `my_crate` stands for your crate, and what follows `proofs.`, `contracts.` or `declared.`, as `counting`, for your file.
+- The head of a section is the head of a file: the line under which its recipes are proved, and their imports. An import may stay that you don't need. A recipe with a line `#[tactic(..)]` of its own is proved under that. A file with recipes of two sections has each import once, and one line `#![tactic(..)]`.
+- A block `antt` stands below the path of its file. An [invariant](PROVING.md#an-invariant), and *answers*, which are proofs of single goals, have
+the path of their function: that of `total` of `src/walks.rt` is `proofs/walks/total/Invariants.antt`, and in `main.rt` or `lib.rt` `proofs/total/Invariants.antt`. `my_crate` stands for your crate, and what follows `proofs.`, `contracts.` or `declared.`, as `counting`, for your file.
 - What a comment says of other types, calls or bodies, as "goes the same way", isn't proved here. The check of your crate tells.
 - The line of your crate in `crates.txt` is `name: micromap micromap_core`.
 - The proof of a recursive function `f` is in the folder `+f`. It says what falls at each call.
@@ -48,7 +48,7 @@ WANTS = {
     "the neighbours of a node": ["Inserts an item into the set of a key, if it fits", "Takes a pair out, and its key out of each set"],
     "nested scopes": ["Finds a key's value in the first of several maps with it", "`scopes.rt` in `micromap_uses`"],
     "JSON": ["Reads a map with owned texts as keys from JSON, or says what is wrong with it", "Reads a set of owned texts from JSON, or says what is wrong with it",
-        "Writes a map with owned texts as keys as JSON, which is read back as the same map"],
+        "Writes a map with owned texts as keys as JSON, which is read back as the same map", "Writes a set of owned texts as JSON, which is read back as the same set"],
     "what was visited, and a work list": ["Adds a key of a map to a set of its keys, which has room for each", "Moves the items of a set into another, as far as they fit",
         "`reached` of `graph.rt` and `affected` of `order.rt` in `micromap_uses`"],
     "mark and unmark, in a search for cycles": ["Puts an item on a path and takes it off again, which leaves the path as it was"],
@@ -60,8 +60,8 @@ WANTS = {
     "how many pairs were dropped": ["Keeps the pairs that pass"],
     "a copy with other values": ["Copies the pairs that pass", "Copies the pairs that pass, with other values, or returns `None`"],
     "whether all keys of a map are in another": ["Returns whether all items of a list are in a set"],
-    "how many items two sets share": ["Adds up the members of an operation on two sets"],
-    "what one set has and another lacks": ["Makes a set of the union of two sets", "Copies the texts of two sets into one, and knows exactly that there are too many"],
+    "how many items two sets share": ["Counts the items of a set that are in another", "Adds up the members of an operation on two sets"],
+    "what one set has and another lacks": ["Finds the first item of a set that another lacks", "Makes a set of the union of two sets", "Copies the texts of two sets into one, and knows exactly that there are too many"],
     "all pairs in a `Vec`": ["Lists the keys whose value passes a test in a `Vec`"],
     "keep the pairs whose value is in a set": ["Drops the pairs whose key is in a set"],
     "compare maps with `&str` keys": ["Returns whether two maps from `&str` to a struct with a derived `==` are the same"],
@@ -120,14 +120,15 @@ def recipes_of(path, wrong):
 def head_of(path):
     """The line `tactic` and the imports with which a file begins, but for those of other recipes."""
     head = re.search(r"^#!\[tactic(?:.*\n)*?(?=(?:///?(?: |$)|#\[|pub |fn |impl |struct |enum |const ))", read(path), re.M)[0]
-    return re.sub(r"^use (?:crate|super)::.*\n", "", head, flags=re.M)
+    return re.sub(rf"^(?:use (?:crate|super)::|ghost use Rattle\.{CRATE}\.).*\n", "", head, flags=re.M)
 
 
 def imports_of_own(recipe):
     """The imports of the crate's own words that a recipe names."""
     code = "\n".join(it.code for it in recipe.items)
-    own_words = re.findall(rf"^(ghost use Rattle\.{CRATE}\..*\.\{{(.*)\}};)$", read(recipe.path), re.M)
-    return [line for line, names in own_words if any(re.search(rf"\b{it}\b", code) for it in names.split(", "))]
+    own_words = re.findall(rf"^(ghost use Rattle\.{CRATE}\..*\.\{{)(.*)\}};$", read(recipe.path), re.M)
+    used = ((begins, [it for it in names.split(", ") if re.search(rf"\b{it}\b", code)]) for begins, names in own_words)
+    return [f"{begins}{', '.join(names)}}};" for begins, names in used if names]
 
 
 def proofs_of(recipe):
@@ -146,14 +147,15 @@ def own(texts):
 
 
 def needed(recipe, known):
-    """The recipes that another one calls, of its own file or of one that its file imports, and those that its comment names."""
+    """The recipes that another one calls, of its own file or of one that its file imports, and those that its comment names;
+    each with whether it is called."""
     code, text = "\n".join(it.code for it in recipe.items), read(recipe.path)
     for it in (it for it in known if it.name != recipe.name):
         imported = rf"^use (?:super|crate)::{os.path.basename(it.path)[:-3]}::(?:{it.name};|\{{[^}}]*\b{it.name}\b)"
         is_called = re.search(rf"(?<![\w.]){it.name}(?:::<[^;]*?>)?\(", code)
         is_near = it.path == recipe.path or is_called and re.search(imported, text, re.M)
         if is_called and is_near or f" in `{it.name}`" in " ".join(recipe.rest.split()):
-            yield it
+            yield it, bool(is_called and is_near)
 
 
 def block(language, text):
@@ -173,9 +175,11 @@ def section(recipe, known):
     """A recipe with its text, the line under which it is proved, its block and its proofs; and the files of its own words."""
     code, proofs = "\n\n".join(it.above + it.code for it in recipe.items), proofs_of(recipe)
     words = own([code, *map(read, proofs), *imports_of_own(recipe)])
-    needs = [f"`{it.name}`: {linked(it.heading)}." for it in needed(recipe, known)]
-    needs += [f"Definitions and laws that it needs: {', '.join(linked(own_title(it)) for it in sorted(words))}."] if words else []
-    source = block("rust", code)
+    needs = [f"It calls `{it.name}`, of {linked(it.heading)}." if is_called else f"`{it.name}` is in {linked(it.heading)}."
+             for it, is_called in needed(recipe, known)]
+    needs += [f"It needs {', '.join(linked(own_title(it)) for it in sorted(words))}."] if words else []
+    mine = imports_of_own(recipe)
+    source = block("rust", "\n".join([*mine, *[""] * bool(mine), code]))
     quoted = [f"In {own_title(it)}:\n\n{block('antt', read(it))}" for it in proofs]
     return "\n\n".join(filter(None, [f"### {recipe.heading}", recipe.rest, " ".join(needs), source, *quoted])), words
 

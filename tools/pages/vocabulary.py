@@ -11,7 +11,7 @@ OWN_WORDS = """## Words
 
 Each word of the calls' contracts has its arguments and its meaning here. The words of a module stand together, below its name. They are imported from it, as by \
 `ghost use Rattle.micromap.specs.Pairs.{put};`. `rt lemma WORD` prints the definition of any other, as of \
-`has_value`; `nat_eq` of `std.specs.Prelude` is whether two numbers are equal, and `nat_lt` whether the first is less. Signs: `≡` is equality, `→` "if, then" or a function, \
+`has_value`. `nat_eq` of `std.specs.Prelude` is whether two numbers are equal. Signs: `≡` is equality, `→` "if, then" or a function, \
 `↔` "exactly if", `×` "and", `λ x. ..` a function of `x`. `(k : K) → P` says that `P` holds for each `k`, \
 `(xs : List K) × P` that there is an `xs` for which `P` holds, and `⊤ → P` means `P`. `[]` is the empty list, `x ∷ xs` the list `xs` with `x` before \
 it, `++` joins two lists, `x == y` is whether two numbers are equal, `⊤` always holds, `ℕ` are the natural numbers.
@@ -114,7 +114,7 @@ def with_marks(meaning, form):
 
 def rows_of(modules):
     """The rows of the words of each module, below a row with its name."""
-    for module in sorted(modules):
+    for module in sorted(modules, key=lambda it: it.strip("`")):
         yield from (f"| **{module}** | |", *modules[module])
 
 

@@ -82,6 +82,21 @@ pub fn first_key_above<const N: usize>(pairs: &Map<u8, u32, N>, limit: u8) -> Op
     pairs.keys().find(|k| **k > limit)
 }
 
+/// Finds the first item of a set that another lacks.
+#[tactic(auto)]
+pub fn first_unmet<const N: usize, const M: usize>(
+    targets: &Set<u8, N>,
+    met: &Set<u8, M>,
+) -> Option<u8>
+    ensures { result ≡ find (λ x. not (is_member nat_eq met.now x)) targets.now }
+{
+    targets.iter().copied().find(
+        |x: &u8| -> bool
+            ensures { result ≡ not (is_member nat_eq met.entry.now x.now) }
+        { !met.contains(x) },
+    )
+}
+
 /// Finds the first pair that passes a test, by reference.
 /// It returns `None` if none does. A `find` over pairs needs an answer, which is one law. A loop finds the pair by
 /// value, as `first_over` does in `over`.

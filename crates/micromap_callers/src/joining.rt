@@ -113,8 +113,7 @@ pub fn fill_in<const N: usize, const M: usize>(
 }
 
 /// Puts a value at each number below another that fits, by a loop over a range.
-/// Rounds that call a function go the same way. Without an early return the invariant names the counter `l.key`; with one,
-/// as in `least_free`, its name ends in `-counter`.
+/// A loop that calls a function in each turn goes the same way.
 #[tactic(auto, using(micromap::proofs::Rules::loops))]
 pub fn add_zeros<const N: usize>(map: &mut Map<u8, u8, N>, count: u8)
     ensures { map.new ≡ fold (λ m k. put_if_fits nat_eq N m k 0) map.old (range_with_len 0 count) }

@@ -8,7 +8,7 @@ ghost use Rattle.micromap.specs.Json.{IsFault, pairs_for, texts_for};
 ghost use Rattle.micromap.specs.Same.{Same};
 ghost use Rattle.micromap.specs.declared.json.JsonFault.TheVariants.{Memory};
 
-use micromap::json::{JsonFault, map_from_json, map_to_json, set_from_json};
+use micromap::json::{JsonFault, map_from_json, map_to_json, set_from_json, set_to_json};
 use micromap::{Map, Set, TextBuf};
 use std::alloc::Global;
 
@@ -47,4 +47,17 @@ pub fn numbers_to_json<const N: usize>(
     let numbers = numbers.into_strings();
     let _content = numbers.len();
     map_to_json(alloc, &numbers)
+}
+
+/// Writes a set of owned texts as JSON, which is read back as the same set.
+pub fn names_to_json<const N: usize>(
+    alloc: Global,
+    names: Set<TextBuf, N>,
+) -> Result<String, JsonFault>
+    ensures text { IfOk result (λ text. texts_for N (string_bytes text) ≡ Ok names.entry) }
+    ensures fault { IfErr result (λ fault. fault ≡ Memory) }
+{
+    let names = names.into_strings();
+    let _content = names.len();
+    set_to_json(alloc, &names)
 }

@@ -54,7 +54,7 @@ impl Probe<Guest> for Number {
 
 /// Puts a value at a key whose `==` reads one field.
 /// The type `Guest` of the file says its `==` and proves the laws of it. The contract says what `b` finds then: the new
-/// value if it equals `a`, and else what it found before. A key type with a derived `==` needs no laws.
+/// value if it equals `a`, and else what it found before. A key type with a derived `==` proves none.
 pub fn put_guest(map: &mut Map<Guest, u8, 8>, a: Guest, b: &Guest) -> Option<u8>
     requires { IsTrue (fits (on (λ k. k.number) nat_eq) 8 map.old a) }
     ensures { result ≡ (if nat_eq a.number b.now.number then Some 1 else at (on (λ k. k.number) nat_eq) map.old b.now) }

@@ -34,7 +34,7 @@ pub struct Square {
 
 /// Returns whether a certain value of an enum is stored.
 /// The contract names the derived `==` by a word of one's own, `permission_eq`. The search doesn't find it by
-/// `⟦<Permission as PartialEq>⟧.eq`, and a clause of a closure refuses this.
+/// `⟦<Permission as PartialEq>⟧.eq`.
 pub fn is_held<const N: usize>(holders: &Map<u8, Permission, N>, permission: Permission) -> bool
     ensures { result ≡ list_any (λ held. permission_eq held permission) (values_of holders.now) }
 {

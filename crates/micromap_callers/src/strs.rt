@@ -147,7 +147,7 @@ fn are_keys(needs: &Map<&str, Set<&str, 2>, 32>, words: &Set<&str, 2>) -> bool
 }
 
 /// Returns whether all words of a map's sets are its keys.
-/// The type is written out with elided lifetimes: an alias with one lifetime is refused here.
+/// The type is written out, with its lifetimes left out.
 pub fn names_its_keys(needs: &Map<&str, Set<&str, 2>, 32>) -> bool
     ensures { result ≡ list_all (list_all (λ word. is_some (lookup (is_str word.now) needs.now))) (values_of needs.now) }
 {
