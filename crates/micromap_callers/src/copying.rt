@@ -178,8 +178,8 @@ pub fn set_of_union<const N: usize, const M: usize, const L: usize>(
 }
 
 /// Writes a map of numbers as a text.
-/// A set goes the same way, by `set_text`. Of keys that are owned texts the clause has `λ name. Some name` in the place
-/// of `λ key. Some (decimal key)`.
+/// Of keys that are owned texts the clause has `λ name. Some name` in the place of `λ key. Some (decimal key)`. Of a set,
+/// by `set_text`, the search finds no proof.
 pub fn text_of_amounts<const N: usize>(
     alloc: Global,
     amounts: &Map<u8, u8, N>,
