@@ -1,5 +1,6 @@
 -- What the callers in `merging.rt` merge, amounts of numbers and members of groups; and sums of signed numbers.
 use Rattle.std.specs.Prelude.{ℕ, ◌+◌, ◌-◌, ◌^◌, ◌+ℤ◌, ◌&&◌, Bool, max, min, nat_eq, int_lt, negsuc, not, pos, List, [], Option, Some, None, unwrap_or, ℤ, if◌then◌else◌}
+use Rattle.std.specs.Int.{saturate_signed, w64}
 use Rattle.micromap.specs.Items.{put_item_if_fits}
 
 -- a total with one amount more
@@ -17,6 +18,14 @@ greater stored amount = max (unwrap_or stored amount) amount
 -- the members of a group with one more, unless there are M others
 abbrev pub with_member : ℕ → Option (List ℕ) → ℕ → List ℕ
 with_member M members member = put_item_if_fits nat_eq M (unwrap_or members []) member
+
+-- whether a balance is below 0
+unfoldable pub is_debt : ℤ → Bool
+is_debt balance = int_lt balance (pos 0)
+
+-- a balance, 0 if there is none, with one amount more, or the end of the range of 64 bits
+unfoldable pub balance_with : Option ℤ → ℤ → ℤ
+balance_with balance amount = saturate_signed w64 (unwrap_or balance (pos 0) +ℤ amount)
 
 -- whether a number is one of 64 bits with a sign
 abbrev pub fits_64 : ℤ → Bool

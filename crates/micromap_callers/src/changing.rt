@@ -1,7 +1,7 @@
 //! Changing one in place.
 #![tactic(auto, using(micromap::proofs::Rules::caller))]
 
-ghost use Rattle.std.specs.Prelude.{◌≡◌, ◌&&◌, ◌*ℤ◌, ◌+ℤ◌, ◌*◌, ◌+◌, ◌-◌, ◌<◌, ◌^◌, [], IfSome, IsFalse, IsTrue, None, Some, drop, false, filter, if◌then◌else◌, length, map, min, nat_eq, nat_lt, not, pos, slice_get, sum, sum_by, true, unwrap_or};
+ghost use Rattle.std.specs.Prelude.{◌≡◌, ◌&&◌, ◌*ℤ◌, ◌+ℤ◌, ◌*◌, ◌+◌, ◌-◌, ◌<◌, ◌^◌, [], IfSome, IsFalse, IsTrue, None, Some, drop, false, filter, if◌then◌else◌, int_lt, length, map, min, nat_eq, nat_lt, not, pos, slice_get, sum, sum_by, true, unwrap_or};
 ghost use Rattle.std.specs.Int.{saturate_signed, w64};
 ghost use Rattle.std.specs.List.{list_all};
 ghost use Rattle.std.specs.Map.{values_of};
@@ -91,6 +91,15 @@ pub fn post_checked<const N: usize>(
     let sum = add_signed(*balances.get(&account)?, amount)?;
     balances.insert(account, sum);
     Some(sum)
+}
+
+/// Changes the signed values that pass a test.
+/// The capacity is a number or a constant. With an `if` without `else` in the closure the search finds no proof.
+#[tactic(auto, using(micromap::proofs::Rules::caller, micromap::proofs::Rules::signed))]
+pub fn charge(balances: &mut Map<u8, i64, 16>, fee: i64)
+    ensures { balances.new ≡ map (λ p. (p.0, if int_lt p.1 (pos 0) then saturate_signed w64 (p.1 +ℤ fee) else p.1)) balances.old }
+{
+    balances.update_all(|_, b| *b = if *b < 0 { b.saturating_add(fee) } else { *b });
 }
 
 /// Puts an item on a path and takes it off again, which leaves the path as it was.

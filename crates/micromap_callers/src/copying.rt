@@ -10,6 +10,7 @@ ghost use Rattle.micromap.specs.Operations.{union};
 ghost use Rattle.micromap.specs.Pairs.{has, put_if_fits};
 ghost use Rattle.micromap.specs.Print.{map_text};
 ghost use Rattle.micromap.specs.Same.{has_value};
+ghost use Rattle.micromap_callers.specs.Totals.{is_debt};
 
 use micromap::{Map, Overfull, Set};
 use std::alloc::{AllocError, Global};
@@ -158,6 +159,29 @@ pub fn keys_over<const N: usize>(map: &Map<u8, u8, N>, limit: u8) -> Set<u8, N>
     let mut keys = Set::new();
     for (key, value) in map {
         if *value > limit {
+            keys.insert(*key);
+        }
+    }
+    keys
+}
+
+// Returns whether a balance is below 0.
+#[tactic(auto, using(micromap::proofs::Rules::signed), unfolding(crate::specs::Totals::is_debt))]
+fn owes(balance: &i64) -> bool
+    ensures { result ≡ is_debt balance.now }
+{
+    *balance < 0
+}
+
+/// Makes a set of the keys whose signed value passes.
+/// The test is a function of its own, whose word a search doesn't unfold in the loop.
+#[tactic(auto, using(micromap::proofs::Rules::loops))]
+pub fn overdrawn<const N: usize>(balances: &Map<u8, i64, N>) -> Set<u8, N>
+    ensures { result ≡ keys_of (filter (λ p. is_debt p.1) balances.now) }
+{
+    let mut keys = Set::new();
+    for (key, balance) in balances {
+        if owes(balance) {
             keys.insert(*key);
         }
     }
