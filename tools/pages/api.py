@@ -50,9 +50,6 @@ A call that returns a `&mut` has one more clause, [`writes_back`](#written-throu
 Other parameters are named in the same way, as `key.now`. `K.eq` is `==` of the keys. The [words](#words) of this library and those of the [standard \
 library](#words-of-the-standard-library) are explained at the end.
 
-Each `size_hint` has two more clauses, which the trait asks for and which aren't shown below: `ensures lower {{ IsWithinCount result.0 (remaining self.now) }}` and \
-`ensures upper {{ IfSome result.1 (UpTo (remaining self.now)) }}`. Here `remaining` is the ghost member of the iterator's impl.
-
 Examples are proved. Their files are in {HOME}, and their imports are left out here.
 """
 LENT = """## Written through a reference
@@ -65,11 +62,10 @@ once the borrow ends: at the key, the value that was written last.
 
 
 def signature(function, where=(), indent=""):
-    """The lines of a function's signature and of its clauses but `writes_back` and those of every `size_hint`."""
+    """The lines of a function's signature and of its clauses but `writes_back`."""
     head, _, own = function.head.partition(" where ")
     where = ", ".join([*where, *parts(own)])
-    hidden = {("ensures*", "writes_back"), *((("ensures", "lower"), ("ensures", "upper")) if function.name == "size_hint" else ())}
-    shown = (it for it in function.clauses if it[:2] not in hidden)
+    shown = (it for it in function.clauses if it[:2] != ("ensures*", "writes_back"))
     clauses = (f"{kind} {label}".strip() + f" {{ {text} }}" for kind, label, text in shown)
     return [indent + head, *[f"{indent}where {where}"] * bool(where), *(f"{indent}    {it}" for it in clauses)]
 
@@ -210,7 +206,5 @@ class Api:
         lines = lambda code: "\n".join(it for it in code if not it.lstrip().startswith("///"))
         yield from ((lines(code), it.imports) for pieces in self.entries.values() for _, code, it in pieces)
         yield from ((it.ghosts[0][3], it.imports) for it in self.views.values())
-        hints = ((it, function) for it in self.sources.items for function in it.functions if function.name == "size_hint")
-        yield from ((text, it.imports) for it, function in hints for _, _, text in function.clauses)
         imports = {name: module for it in self.sources.items for name, module in it.imports.items()}
         yield from ((text, imports) for _, text in self.lent)
