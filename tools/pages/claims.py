@@ -26,18 +26,18 @@ types of key. The edits of `into_iter_gives` are of the bodies by value. `requir
 
 TOTALS
 
-An *edit* changes the source to a wrong body. A row below has the clauses that the edit is for, what is wrong, and the *goal*, the statement to be proved, at which it was refused. The call is linked to its contract, and a call without a name behind \
+An *edit* changes the source to a wrong body. Some narrow the call by a bound, or change a `tactic` line, so that the body can be written. The two `probe_of_marked_keys_..` add a probe. A row below has the clauses that the edit is for, what is wrong, and the *goal*, the statement to be proved, at which it was refused. The call is linked to its contract, and a call without a name behind \
 it has one clause. The gate, `.ci/run`, tries those that are linked to `must-fail/`, and \
 [`tools/claims`](MAINTAINING.md#edits) all.
 
 - CHANGED of the EDITS edits change lines of the proof too, and are marked †. Most take out an *answer*, a goal's proof by hand, so that the search tries the goal. \
-Some rewrite answers, or the loop's invariant, for the wrong body. If the search fails on the right body there too, which isn't tried, the refusal shows nothing.
+An answer mostly stands where the search fails on the right body, or is slow, which isn't tried. So such a refusal shows little. Some rewrite answers, or the loop's invariant, for the wrong body.
 - One goal of each edit is recorded. If it names a clause, the row's others may hold of the body.
 - A refusal shows that the search found no proof, not that there is none. After a loop without an invariant nothing is known of what \
 it changed, so a right body with such a loop would be refused too. Such are both `remove_moves_the_last_..`, `into_capacity_reverses_the_pairs`, `into_iter_from_the_end` and `read_entries_empties_the_source`.
 - Some bodies are those of an inner function on which the call rests. Then the recorded goal is one of that function's. It belongs to the same \
 clause, or to one that the call's proof uses. This doesn't show that the call's own clause says enough. \
-Seven clauses, counted above, have no other body: `into_iter_gives` of a map, those of `Iter::over`, `Keys::over` and `Values::over`, `succeeds` of `Map::clone`, and `memory` of `map_from_json` and of `set_from_json`.
+Seven of the SHOWN clauses have no other body: `into_iter_gives` of a map, those of `Iter::over`, `Keys::over` and `Values::over`, `succeeds` of `Map::clone`, and `memory` of `map_from_json` and of `set_from_json`.
 - A goal after *written proof*, of a proof by hand, a `loop-..` and a `..-requires` show no more than that this proof, invariant or call doesn't serve the wrong body.
 - The goals are those of the last run of `tools/claims`. `tools/documents --check` wants one for each edit as it, the contract and the body stand, \
 and doesn't see that a definition or another proof has changed.
@@ -45,6 +45,8 @@ and doesn't see that a definition or another proof has changed.
 A goal has its file before it, in `src/` of the edit's crate, or the function of the written proof. [CALLING](../crates/micromap/CALLING.md#when-a-check-fails) says how goals are named. \
 Here `invariant_of-..` is also the invariant of a type, `-value` is a law, `-after-f` follows a call of `f`, and a number tells apart goals of one name. The check calls the clause of `next_gives` `steps`, and that of `output` `writes`.
 """
+# The clauses that HEAD names, of which only an inner function's body was refused at a goal of its contract, with the proof as it is.
+INNER = {"Iter::over", "Keys::over", "Values::over", "Map::clone: succeeds", "map_from_json: memory", "set_from_json: memory"}
 # What the clauses are called that ghost members of traits stand in.
 GHOSTS = {"next_gives": "steps", "output": "writes"}
 WITHOUT = "Clauses without an edit"
@@ -149,7 +151,7 @@ class Claims:
             sections[self.section(edit)[0]].append(edit)
         order = [*self.api.groups, *PROGRAMS.values(), *sections]
         changed = sum(map(self.changes_proof, self.edits))
-        head = HEAD.replace("CHANGED", str(changed)).replace("EDITS", str(len(self.edits)))
+        head = HEAD.replace("CHANGED", str(changed)).replace("EDITS", str(len(self.edits))).replace("SHOWN", str(self.counts()[0]))
         out = [head.replace("TOTALS", "\n".join(self.totals()))]
         for title in dict.fromkeys(it for it in order if it in sections):
             out.append(f"- [{title}](#{anchor(title)}): {len(sections[title])}")
@@ -195,7 +197,7 @@ class Claims:
 
     def counts(self):
         """How many clauses have an edit that a goal refuses, for how many of these such an edit leaves the proof as it is, and its
-        goal is one of the contract and names no other clause, for how many none does, how many have such as only a written proof refuses, how many have refused
+        goal is one of the call's own contract and names no other clause, for how many none does, how many have such as only a written proof refuses, how many have refused
         planted bodies alone, how many have none, and all."""
         unnamed, library = self.unnamed(), self.library()
         without = {call: len(names) for call, names in unnamed.items()}
@@ -204,11 +206,12 @@ class Claims:
         shown = {*library} & {name for edit in strong for _, names in edit.claims for name in names}
         best = {it for edit in strong if not self.changes_proof(edit) and kind_of(self.goals[edit.path]) == CONTRACT for _, names in edit.claims for it in names if is_of(self.goals[edit.path], it)}
         named = len(library) - sum(without.values())
+        best -= INNER
         return len(shown), len(shown & best), len(shown - best), named - len(shown), tried, sum(without.values()) - tried, len(library)
 
     def totals(self):
         """The table of these."""
-        names = ["with an edit that a goal of a contract, an invariant or a call's condition refuses", "of these, by an edit that leaves the proof as it is, at a goal of the contract that names no other clause", "of these, only by edits that change the proof too, or at another goal"]
+        names = ["with an edit that a goal of a contract, an invariant or a call's condition refuses", "of these, by an edit that leaves the proof as it is, at a goal of the call's own contract that names no other clause", "of these, only by edits that change the proof too, or at another goal"]
         names += ["with edits that only a written proof refuses"]
         names += [f"[without an edit](#{anchor(WITHOUT)}), but of a call of which the kit's `rt plant` had a wrong body refused, by whichever clause", "with none of these", "all"]
         yield "| The library's clauses | |\n|---|---|"
@@ -216,7 +219,7 @@ class Claims:
 
     def wrong_of_readme(self):
         """What is amiss in the README's sentence about these."""
-        shown, _, weaker, _, _, untried, library = self.counts()
-        wanted = (f"For {shown} of the library's {library} clauses one was refused. For {weaker} of these the proof was changed too, or the refused goal isn't the clause itself. "
-                  f"Of {untried} no refusal is known.")
+        shown, plain, _, written, planted, untried, library = self.counts()
+        wanted = (f"For {shown} of the library's {library} clauses, one that was made for the clause was refused: for {plain} of these without a change of the proof, at a goal of the call's own contract that names no other clause. "
+                  f"For {written + planted} others the evidence is weaker, and for {untried} there is none.")
         return [] if wanted in read("README.md") else [f"README.md doesn't say: {wanted}"]

@@ -118,24 +118,29 @@ def has_row(name, rows):
     return any(all(re.search(rf"`(?:[^`]*[ .])?{it}(?: [^`]*)?`", row) for it in parts) for row in rows)
 
 
-def has_family_row(name, rows, now):
-    """Whether the first column of a row says `each law of` the file that the name is of. For a law that is gone this says
-    enough if its file is gone too."""
-    law = re.fullmatch(r"law (\w+)\.(\w+)\..*", name)
-    is_told = bool(law) and any(f"`{law[2]}`" in row.partition("each law of ")[2] for row in rows)
-    return is_told and (name in now or not any(it.startswith(f"law {law[1]}.{law[2]}.") for it in now))
+def has_family_row(name, families, now):
+    """Whether a row about `each law of` the file that the name is of says where it is: it is there still, the row says that they
+    are gone, or a file that the row names has it."""
+    law = re.fullmatch(r"law (\w+)\.(\w+)\.(.*)", name)
+    if not law:
+        return False
+    told = [now_at for first, now_at in families if f"`{law[2]}`" in first]
+    homes = [f"law {crate}.{it}.{law[3]}" for now_at in told for it in re.findall(r"`(\w+)`", now_at) for crate in ("micromap_core", "micromap")]
+    return bool(told) and (name in now or any("gone" in it for it in told) or any(it in now for it in homes))
 
 
 def moved_names(sources):
     """Which recorded names are gone or say something else, and have no row in CHANGELOG.md."""
-    rows = re.findall(r"^\|((?:\\\||[^|\n])*)\|", read(CHANGES), re.M)
+    columns = re.findall(r"^\|((?:\\\||[^|\n])*)\|((?:\\\||[^|\n])*)\|", read(CHANGES), re.M)
+    rows = [first for first, _ in columns]
+    families = [(first.partition("each law of ")[2], second) for first, second in columns if "each law of " in first]
     recorded = recorded_names()
     now = names(sources)
     calls = {it.removeprefix("call ") for it in recorded if it.startswith("call ") and it not in now}
     lost = {it.removeprefix("ruleset ") for it in recorded if it.startswith("ruleset ") and it not in now}
     moved = [it for it in recorded if now.get(it) != recorded[it] and not is_clause_of(it, calls)]
     moved = [it for it in moved if it.removeprefix("law of ruleset ").partition(": ")[0] not in lost]
-    without = [it for it in moved if not has_row(it, rows) and not has_family_row(it, rows, now)]
+    without = [it for it in moved if not has_row(it, rows) and not has_family_row(it, families, now)]
     print(f"{CHANGES}: of {len(recorded)} names that callers rest on, {len(moved)} are gone or say something else")
     said = {True: "says something else", False: "is gone"}
     return [f"{CHANGES} has no row for the {it}, which {said[it in now]}" for it in without]

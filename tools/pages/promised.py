@@ -20,9 +20,9 @@ INTRO = """# The laws of micromap
 Each law below is proved. From the tag `v0.3.0-1` on it keeps its name and its statement. The first line of a block is the
 module that has its laws. The rulesets of `micromap::proofs::Rules` have those that a search needs, so most callers name
 no law; [PROVING](PROVING.md) says when one is named. A line `module _` has the arguments that come first in each law
-that is indented below it. The checker finds those in braces. The name of a law about a change has the reader first and then the change: `length_take_out` is the length after a removal. [API](API.md) explains the words of the calls, and `rt lemma WORD` prints the definition of any other. `rt lemma NAME` prints a law too, and
-the statements of those that serve a search alone, which stand here by name. `Where x P` says what `P` says: a search
-takes up such a law where it sees `x`, and a proof by hand takes `.1` of it.
+that is indented below it. Leave out arguments in braces: the checker finds them. The name of a law about a change has the reader first and then the change: `length_take_out` is the length after a removal. [API](API.md) explains the words of the calls, and `rt lemma WORD` prints the definition of any other. `rt lemma NAME` prints a law too, and
+the statements of those that serve a search alone, which stand here by name. `Where x P` is `P`, marked so that
+a search finds it where it sees `x`. A proof by hand takes `.1` of it.
 """
 
 

@@ -7,6 +7,9 @@ from collections import defaultdict
 from pages.chart import Frame, chart, coarse, shown
 from pages.sources import read
 
+# A line `time` has the kind of elements, the workload, the capacity, the Rust crate's nanoseconds, and then the times over these
+# of RIVALS, as far as they were timed. Lines `alone`, `build` and `size` have nanoseconds of JSON, nanoseconds of a call or its
+# loop, and bytes of this library and of the Rust crate.
 RECORD = "docs/speed.tsv"
 README, SPEED = "README.md", "docs/SPEED.md"
 # What is compared with the Rust crate, in the order of the driver's ratios.

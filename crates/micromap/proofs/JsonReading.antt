@@ -16,7 +16,7 @@ use Rattle.serde_json.specs.declared.value.Value.{Value}
 use Rattle.serde_json.proofs.Views.{Entry}
 use Rattle.micromap.specs.Items.{put_item, put_item_if_fits, item_fits}
 use Rattle.micromap.specs.Json.{Bytes, Pairs, all_texts, and_then, whole_number, whole_members, items_for}
-use Rattle.micromap.proofs.Laws.SetLaws.{length_put_item, not_fits}
+use Rattle.micromap.proofs.Laws.SetLaws.{length_put_item, not_item_fits}
 use Rattle.micromap.proofs.Laws.SetTextLaws.{item_texts_put_item, length_item_texts, unique_item_texts}
 use Rattle.micromap.specs.declared.json.JsonFault.{JsonFault}
 use Rattle.micromap.specs.declared.json.JsonFault.TheVariants.{NotWhole, TooMany}
@@ -109,7 +109,7 @@ module _ {N : ℕ} {fault : JsonFault} {answer : Result (List Bytes) JsonFault} 
       (λ misfit. grind (
         arith,
         put,
-        not_fits string_eq items x N (sym tells ∙ misfit),
+        not_item_fits string_eq items x N (sym tells ∙ misfit),
         length_put_item string_eq items x,
         length_item_texts string_bytes (put_item string_eq items x),
       ))

@@ -12,13 +12,13 @@ abbrev pub item_fits_by : {T : Type 0} → (T → Bool) → ℕ → List T → B
 item_fits_by test N items = list_any test items || nat_lt (length items) N
 
 module _ {T : Type 0} (eq : T → T → Bool) where
-  -- what a set of capacity N may hold
+  -- no two items are equal (`unique`), there are at most N (`bounded`), and eq is an equivalence (`lawful`)
   pub record IsItems (N : ℕ) (items : List T) : Type 0 where
     pub unique : IsDistinct eq items
     pub bounded : length items ≤ N
     pub lawful : Lawful eq
 
-  -- both lists are what a set of capacity N may hold
+  -- `IsItems` holds of both lists
   abbrev pub AreItems : ℕ → List T → List T → Type 0
   AreItems N old new = IsItems N old × IsItems N new
 

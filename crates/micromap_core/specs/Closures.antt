@@ -54,7 +54,7 @@ module _ {F K V R : Type 0} (g : Mut F (Bor K × (MutBor V × Unit {0})) (R × (
   abbrev pub MayUpdateAll : F → List (K × V) → Type 0
   MayUpdateAll f pairs = AtEachTurn UpdateAllTurn (f, []) pairs (λ s p. AcceptsPair s.0 p.0 p.1)
 
-  -- f was called at each pair in turn, and new has the values that the calls left
+  -- f was called at each pair in turn, and `new` has the values that the calls left
   pub record UpdatesAll (f : F) (pairs new : List (K × V)) : Type 0 where
     pub last : F
     pub turns : FoldsTo UpdateAllTurn (f, []) pairs (last, new)
@@ -68,7 +68,7 @@ module _ {F K V R : Type 0} (eq : K → K → Bool) (g : Mut F (ℕ × (MutBor V
   abbrev pub MayUpdateDisjoint : F → List (K × V) → List K → Type 0
   MayUpdateDisjoint f pairs keys = AtEachTurn UpdateDisjointTurn (f, pairs) (enumerate_from 0 keys) (λ s e. ForSome (at eq s.1 e.1) (AcceptsValue g s.0 e.0))
 
-  -- f was called in turn at the position and the value of each key that is stored, and new has the values that they left
+  -- f was called in turn at the position and the value of each key that is stored, and `new` has the values that they left
   pub record UpdatesDisjoint (f : F) (pairs : List (K × V)) (keys : List K) (new : List (K × V)) : Type 0 where
     pub last : F
     pub turns : FoldsTo UpdateDisjointTurn (f, pairs) (enumerate_from 0 keys) (last, new)

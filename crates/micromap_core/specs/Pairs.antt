@@ -32,13 +32,13 @@ module _ {K V : Type 0} where
     abbrev pub IsUnique : List (K × V) → Type 0
     IsUnique pairs = IsDistinct eq (keys_of pairs)
 
-    -- what a map of capacity N may hold
+    -- no two keys are equal (`unique`), there are at most N pairs (`bounded`), and eq is an equivalence (`lawful`)
     pub record IsContent (N : ℕ) (pairs : List (K × V)) : Type 0 where
       pub unique : IsUnique pairs
       pub bounded : length pairs ≤ N
       pub lawful : Lawful eq
 
-    -- both lists are what a map of capacity N may hold
+    -- `IsContent` holds of both lists
     abbrev pub AreContents : ℕ → List (K × V) → List (K × V) → Type 0
     AreContents N old new = IsContent N old × IsContent N new
 

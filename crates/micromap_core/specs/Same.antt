@@ -26,7 +26,7 @@ module _ {K V : Type 0} (eq : K → K → Bool) (same : V → V → Bool) where
   abbrev pub Same : List (K × V) → List (K × V) → Type 0
   Same = HaveEqualItems pair_eq
 
-  -- whether what the two lists have at the key agrees
+  -- whether both lists lack the key, or have it with values that agree
   abbrev pub same_at : List (K × V) → List (K × V) → K → Bool
   same_at first second k = option_eq same (at eq first k) (at eq second k)
 

@@ -6,6 +6,22 @@
 //! `index_map`, `hash_map` and `btree_map` have them at types that a user might take in their place. `builds` has calls beside
 //! the loops that they replace, and `json` is timed alone. A workload is proved to be safe and to end. The driver compares
 //! what it returns. `tests` runs each without proof.
+//!
+//! A new workload has a function in the file of its trait, an arm in `run` and a name in `NAMES`. A method that the trait
+//! lacks is added to each type that implements it, unless it has a default: in `library.rs`, `tools/speed/rust_crate.rs`
+//! and `tools/speed/layout.rs`, and for numbers in `scan.rs`, `index_map.rs`, `hash_map.rs` and `btree_map.rs`. A workload
+//! of `json.rs` has a name in `ALONE` of `tools/speed/main.rs`, and is counted in `tests.rs`.
+//!
+//! A new call beside its loop has its loop in `builds/loops.rs`, two workloads in `builds/maps.rs` or `builds/sets.rs`,
+//! two arms in `run` of `builds.rs`, which `tests.rs` counts, and a row in `BUILDS` of `tools/speed/main.rs`.
+//!
+//! A new type implements the trait, as `scan.rs` does. It has a `mod` and an arm here, and its library in `LINE` of
+//! `tools/compare`; a line in `tests.rs`; a number in the table of `tools/speed/main.rs`, and a name at the same place in
+//! `RIVALS` of `tools/pages/speed.py`; and a number in `CHARTS` or `CHOICES` there if it has a line in a chart, or columns
+//! in the second table of SPEED and in the README's, whose head and other rows get it by hand. A type in Rust is an
+//! argument of `subject!` in `main.rs`, and has a place in `measured`.
+//!
+//! Then `tools/compare --check` passes, the figures are recorded anew, and SPEED says what a new workload does.
 #![tactic(auto)]
 
 ghost use Rattle.std.specs.Prelude.{◌≤◌};

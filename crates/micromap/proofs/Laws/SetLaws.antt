@@ -197,9 +197,9 @@ module _ {T : Type 0} (eq : T → T → Bool) (items : List T) (x : T) where
   put_item_new missing = ap (λ b. if b then items else items ++ x ∷ []) missing
 
   -- an item that doesn't fit is missing, and there is no room
-  pub not_fits : (N : ℕ) → item_fits eq N items x ≡ false
+  pub not_item_fits : (N : ℕ) → item_fits eq N items x ≡ false
       → (is_member eq items x ≡ false) × (N ≤ length items)
-  not_fits N refused = (grind (arith, refused), grind (arith, nat_tests, refused))
+  not_item_fits N refused = (grind (arith, refused), grind (arith, nat_tests, refused))
 
   pub take_item_missing : is_member eq items x ≡ false → take_item eq items x ≡ items
   take_item_missing missing =
@@ -347,7 +347,7 @@ module _ {T : Type 0} (eq : T → T → Bool) (xs ys : List T) where
 
 pub ruleset set_laws = (
   put_item_new,
-  not_fits,
+  not_item_fits,
   any_put_all_items,
   any_put_item,
   any_replace_item,

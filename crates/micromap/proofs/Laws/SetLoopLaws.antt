@@ -25,7 +25,7 @@ use Rattle.micromap.specs.Items.{item_fits, put_item, take_item}
 use Rattle.micromap.specs.Operations.{difference, union}
 use Rattle.micromap.proofs.ExtendLemmas.{items_keyed}
 use Rattle.micromap.proofs.ItemLemmas.{keys_put_item, keys_put_all_items}
-use Rattle.micromap.proofs.Laws.SetLaws.{is_member_put_item, items_take_item, length_put_item, not_fits}
+use Rattle.micromap.proofs.Laws.SetLaws.{is_member_put_item, items_take_item, length_put_item, not_item_fits}
 use Rattle.micromap.proofs.Laws.SetLaws.{all_put_item, put_item_back, put_item_new, unique_put_item}
 
 module _ {T : Type 0} (eq : T → T → Bool) where
@@ -92,7 +92,7 @@ pub ruleset set_loop_laws = (
   length-keys_of,
   copied_item_next,
   IsDistinct-filter,
-  not_fits,
+  not_item_fits,
   length_put_item,
   length_le_put_all_items,
   put_all_items_union,
@@ -172,7 +172,7 @@ module _ {K V : Type 0} (eq : K → K → Bool) (pairs : List (K × V)) (items :
   fits_there laws unique all N x room there = elim (cases_Bool (item_fits eq N items x)) [
     | inl fits ↦ fits
     | inr refused ↦
-        let apart = not_fits eq items x N refused in
+        let apart = not_item_fits eq items x N refused in
         let long = length_put_item eq items x in
         let short = missing_in_shorter (of_lawful eq laws) (put_item eq items x) (keys_of pairs)
         (unique_put_item eq items x laws unique)

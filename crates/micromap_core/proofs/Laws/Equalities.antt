@@ -1,5 +1,5 @@
 -- For callers: the equalities that are known to be lawful, and the tests that are known to be probes for them. For an
--- equality of your own, `lawful` proves `lawful_mine : Lawful my_eq` in one line. `Where x P` says what `P` does.
+-- equality of your own, `lawful` proves `lawful_mine : Lawful my_eq` in one line.
 use Rattle.std.proofs.Common.{◌≡◌, Bool, true, sym, ◌∙◌, ℕ, List, String, nat_eq, string_bytes}
 use Rattle.std.specs.Cmp.{both_ways, IsEquivalence, bool_eq_equiv}
 use Rattle.std.specs.Bool.{beq}

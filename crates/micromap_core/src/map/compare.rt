@@ -14,7 +14,8 @@ impl<K: Eq, V: Eq, const N: usize> Map<K, V, N> {
     /// other. Neither order nor capacity matters.
     ///
     /// The result is `true` exactly if no fair list of keyed calls tells the two maps apart. After `true`, every fair
-    /// list of calls has results that agree, and leaves the two maps the same. `specs/Fair` defines fair.
+    /// list of calls has results that agree, and leaves the two maps the same. A list is fair if none of its calls
+    /// inserts a key that neither map has while only one of them has room.
     ///
     /// Compares no key if the lengths differ. Else it makes one scan of `other` for each key of this map, up to and
     /// including the first that `other` lacks or has with an unequal value. At most as many keys are compared as the

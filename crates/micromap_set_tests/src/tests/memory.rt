@@ -8,6 +8,12 @@ fn keyed_calls_on_numbers_ask_for_no_memory(rt: HostRuntime) {
     assert!(rt; map.checked_insert(1, 11) == Some(Some(10)));
     assert!(rt; map.checked_insert(4, 40).is_none());
     assert!(rt; map.get(&1) == Some(&11));
+    if map.fits(&1) {
+        assert!(rt; map.insert(1, 12) == Some(11));
+    }
+    if map.fits(&1) {
+        assert!(rt; map.insert_key_value(1, 13) == Some((1, 12)));
+    }
     assert!(rt; map.get_key_value(&2) == Some((&2, &20)));
     assert!(rt; map.get_mut(&3).is_some());
     assert!(rt; map.get_mut(&4).is_none());

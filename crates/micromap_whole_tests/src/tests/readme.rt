@@ -4,6 +4,7 @@ use std::alloc::AllocError;
 
 #[test]
 fn insertions(rt: HostRuntime) {
+    // `checked_insert` returns `Some(None)` for a new key, `Some(Some(old))` for a stored one, `None` if there is no room.
     let mut map: Map<u64, &str, 2> = Map::new();
     assert_eq!(rt; map.checked_insert(1, "foo"), Some(None));
     assert_eq!(rt; map.checked_insert(2, "bar"), Some(None));
@@ -22,7 +23,7 @@ fn look_ups_and_removals(rt: HostRuntime) {
         *value = "bim";
     }
     assert_eq!(rt; map.remove(&1), Some("baz"));
-    assert_eq!(rt; map.get(&2), Some(&"bim"));
+    assert!(rt; map.iter().eq([(&2, &"bim")]));
 }
 
 #[test]
@@ -42,6 +43,7 @@ fn entries_and_closures(rt: HostRuntime) {
 
 #[test]
 fn a_text_finds_its_key(rt: HostRuntime) -> Result<(), AllocError> {
+    // An owned text asks for memory.
     let alloc = rt.alloc();
     let mut ages: Map<TextBuf, u8, 4> = Map::new();
     ages.checked_insert(TextBuf::new(alloc, "Ada")?, 7);
