@@ -206,6 +206,6 @@ def recipes(wrong):
     uses = sorted(it for it in glob.glob(f"crates/{WHOLE}/src/*.rt") if not it.endswith("/lib.rt"))
     listed = "\n".join(f"- `{os.path.basename(it)}`: {title_of(it)[0]}" for it in uses)
     ends = [f"### {own_title(it)}\n\n{block('antt', read(it))}" for it in sorted(words, key=lambda it: ("/specs/" not in it, it))]
-    wanted = "\n".join(["| Looked for | Recipe |", "|---|---|", *(f"| {want} | {', '.join(it if it[0] == '`' else linked(it) for it in WANTS[want])} |" for want in WANTS)])
+    wanted = "\n".join(["| Looked for | Recipe |", "|---|---|", *(f"| {want} | {', '.join(it if it[0] == '`' else linked(it) for it in WANTS[want])} |" for want in sorted(WANTS, key=str.lower))])
     wrong += [f"{RECIPES}: no heading is {it}" for those in WANTS.values() for it in those if it[0] != "`" and it not in {one.heading for one in known}]
     return "\n\n".join([INTRO.strip(), listed, "## Index", wanted, "\n".join(rows), *sections, *([f"## {WORDS}", LISTED, *ends] if ends else [])]) + "\n"
