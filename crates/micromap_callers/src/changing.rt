@@ -5,13 +5,13 @@ ghost use Rattle.std.specs.Prelude.{◌≡◌, ◌&&◌, ◌*ℤ◌, ◌+ℤ◌,
 ghost use Rattle.std.specs.Int.{saturate_signed, w64};
 ghost use Rattle.std.specs.List.{list_all};
 ghost use Rattle.std.specs.Map.{values_of};
-ghost use Rattle.std.specs.Option.{option_and_then, option_map_or};
+ghost use Rattle.std.specs.Option.{is_some, option_and_then, option_map_or};
 ghost use Rattle.std.specs.Set.{distinct_count, is_member};
 ghost use Rattle.micromap.specs.Closures.{updated_disjoint};
 ghost use Rattle.micromap.specs.Items.{item_fits, put_item};
 ghost use Rattle.micromap.specs.Memory.{IntoIterFits};
 ghost use Rattle.micromap.specs.Pairs.{at, fits, has, has_room, put, put_if_fits, take_out};
-ghost use Rattle.micromap_callers.specs.Totals.{checked_sum};
+ghost use Rattle.micromap_callers.specs.Totals.{checked_difference, checked_sum, credited, debited};
 
 use crate::counting::add_signed;
 use micromap::{Map, Set};
@@ -91,6 +91,64 @@ pub fn post_checked<const N: usize>(
     let sum = add_signed(*balances.get(&account)?, amount)?;
     balances.insert(account, sum);
     Some(sum)
+}
+
+// Subtracts two signed numbers, or returns `None` if the difference doesn't fit.
+#[tactic(auto, using(micromap::proofs::Rules::signed), unfolding(crate::specs::Totals::checked_difference))]
+fn subtract_signed(a: i64, b: i64) -> Option<i64>
+    ensures { result ≡ checked_difference a b }
+{
+    a.checked_sub(b)
+}
+
+// Takes an amount from a stored balance, and returns whether it is there and the difference fits.
+fn debit<const N: usize>(balances: &mut Map<u8, i64, N>, account: u8, amount: i64) -> bool
+    ensures answer { result ≡ is_some (debited balances.old account amount) }
+    ensures balances { balances.new ≡ unwrap_or (debited balances.old account amount) balances.old }
+{
+    let Some(balance) = balances.get(&account) else {
+        return false;
+    };
+    let Some(difference) = subtract_signed(*balance, amount) else {
+        return false;
+    };
+    balances.insert(account, difference);
+    true
+}
+
+// Adds an amount to a stored balance, and returns whether it is there and the sum fits.
+fn credit<const N: usize>(balances: &mut Map<u8, i64, N>, account: u8, amount: i64) -> bool
+    ensures answer { result ≡ is_some (credited balances.old account amount) }
+    ensures balances { balances.new ≡ unwrap_or (credited balances.old account amount) balances.old }
+{
+    let Some(balance) = balances.get(&account) else {
+        return false;
+    };
+    let Some(sum) = add_signed(*balance, amount) else {
+        return false;
+    };
+    balances.insert(account, sum);
+    true
+}
+
+/// Moves a signed amount from one stored key to another, or changes nothing.
+/// It returns `false` if a key is missing, or a balance doesn't fit then. The two changes are made on a copy. In one
+/// function the search doesn't find both.
+pub fn transfer<const N: usize>(
+    balances: &mut Map<u8, i64, N>,
+    from: u8,
+    to: u8,
+    amount: i64,
+) -> bool
+    ensures answer { result ≡ is_some (option_and_then (λ m. credited m to amount) (debited balances.old from amount)) }
+    ensures balances { balances.new ≡ unwrap_or (option_and_then (λ m. credited m to amount) (debited balances.old from amount)) balances.old }
+{
+    let mut copy = balances.copied();
+    if !debit(&mut copy, from, amount) || !credit(&mut copy, to, amount) {
+        return false;
+    }
+    *balances = copy;
+    true
 }
 
 /// Changes the signed values that pass a test.

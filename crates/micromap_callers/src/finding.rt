@@ -49,7 +49,6 @@ pub fn take_cheapest<const N: usize>(prices: &mut Map<u8, u32, N>) -> Option<(u8
 {
     let least = cheapest(prices)?;
     prices.remove(&least.0);
-    let _content = prices.len();
     Some(least)
 }
 
@@ -63,6 +62,7 @@ pub fn set_evicting<const N: usize>(
     requires { 0 < N }
     ensures fit { IsTrue (fits nat_eq N prices.old key) → prices.new ≡ put nat_eq prices.old key price }
     ensures evicted { IfSome result (λ least. prices.new ≡ put nat_eq (take_out nat_eq prices.old least.0) key price) }
+    ensures none { IsNone result ↔ IsTrue (fits nat_eq N prices.old key) }
     ensures stored { at nat_eq prices.new key ≡ Some price }
 {
     if prices.fits(&key) {

@@ -45,7 +45,6 @@ pub fn numbers_to_json<const N: usize>(
     ensures fault { IfErr result (λ fault. fault ≡ Memory) }
 {
     let numbers = numbers.into_strings();
-    let _content = numbers.len();
     map_to_json(alloc, &numbers)
 }
 
@@ -58,6 +57,5 @@ pub fn names_to_json<const N: usize>(
     ensures fault { IfErr result (λ fault. fault ≡ Memory) }
 {
     let names = names.into_strings();
-    let _content = names.len();
     set_to_json(alloc, &names)
 }

@@ -144,6 +144,14 @@ pub fn meets(groups: &Map<u8, Set<u8, 8>, 16>, group: u8, needs: &Set<u8, 8>) ->
     needs.is_subset(groups.get(&group).unwrap_or(&none))
 }
 
+/// Returns whether each set that is a value is within another set.
+/// The capacities are numbers or constants.
+pub fn all_within(groups: &Map<u8, Set<u8, 8>, 16>, whole: &Set<u8, 32>) -> bool
+    ensures { result ≡ list_all (list_all (is_member nat_eq whole.now)) (values_of groups.now) }
+{
+    groups.values().all(|members| members.is_subset(whole))
+}
+
 /// Returns whether the sets of two keys share an item, where a missing set is the empty one.
 pub fn have_conflict(groups: &Map<u8, Set<u8, 8>, 16>, group: u8, other: u8) -> bool
     ensures { result ≡ not (list_all (λ x. not (is_member nat_eq (unwrap_or (at nat_eq groups.now other) []) x)) (unwrap_or (at nat_eq groups.now group) [])) }

@@ -1,12 +1,12 @@
 //! Enums and structs with a derived `==` as values or keys.
 #![tactic(auto, using(micromap::proofs::Rules::caller))]
 
-ghost use Rattle.std.specs.Prelude.{◌≡◌, ◌↔◌, IfSome, IsTrue, Some, nat_eq};
+ghost use Rattle.std.specs.Prelude.{◌≡◌, ◌↔◌, IfSome, IsFalse, IsNone, IsTrue, Some, nat_eq};
 ghost use Rattle.std.specs.Bool.{OnTrue};
 ghost use Rattle.std.specs.List.{list_any};
 ghost use Rattle.std.specs.Map.{lookup, values_of};
 ghost use Rattle.std.specs.Option.{option_eq};
-ghost use Rattle.micromap.specs.Pairs.{at};
+ghost use Rattle.micromap.specs.Pairs.{at, fits, put_if_fits};
 ghost use Rattle.micromap.specs.Probe.{is_str};
 ghost use Rattle.micromap.specs.Same.{Same};
 ghost use Rattle.micromap.specs.Texts.{str_eq};
@@ -57,6 +57,20 @@ pub fn user_with<const N: usize>(
         }
     }
     None
+}
+
+/// Puts a value at a key that is a struct, if it fits.
+/// It returns `None` exactly if it doesn't fit.
+pub fn place<const N: usize>(
+    board: &mut Map<Square, char, N>,
+    square: Square,
+    piece: char,
+) -> Option<char>
+    ensures answer { IsNone result ↔ IsFalse (fits ⟦<Square as PartialEq>⟧.eq N board.old square) }
+    ensures board { board.new ≡ put_if_fits ⟦<Square as PartialEq>⟧.eq N board.old square piece }
+{
+    board.checked_insert(square, piece)?;
+    Some(piece)
 }
 
 /// Finds a key that is a struct, by its value.

@@ -4,7 +4,7 @@
 
 ghost use Rattle.std.specs.Prelude.{◌≡◌, ◌↔◌, ◌+◌, ◌-◌, ◌<◌, ◌^◌, ◌≤◌, IfErr, IfOk, IfSome, IsFalse, None, OnOk, Some, filter, if◌then◌else◌, is_some, length, map, min, not, unwrap_or};
 ghost use Rattle.std.specs.Bool.{OnTrue};
-ghost use Rattle.std.specs.List.{list_all};
+ghost use Rattle.std.specs.List.{list_all, list_any};
 ghost use Rattle.std.specs.Map.{lookup, values_of};
 ghost use Rattle.std.specs.Option.{option_map_or};
 ghost use Rattle.std.specs.Str.{bytes_eq};
@@ -139,6 +139,16 @@ pub fn keep_unknown(words: &mut Set<&str, 16>, known: &Map<&str, u32, 32>)
     words.retain(|word| !known.contains_key_by(&Text(*word)));
 }
 
+/// Removes the words of a set from another.
+/// The capacity of `gone` is a number or a constant. The words of a list are removed in a loop, as in `remove_each`:
+/// `words.remove_by(&Text(*word))` in each turn makes
+/// `fold (λ s (word : Bor (List ℕ)). remove_key (is_str word.now) s) words.old list.now`.
+pub fn remove_words<const N: usize>(words: &mut Set<&str, N>, gone: &Set<&str, 8>)
+    ensures { words.new ≡ filter (λ word. not (list_any (is_str word.now) gone.now)) words.old }
+{
+    words.retain(|word| !gone.contains_by(&Text(*word)));
+}
+
 // Returns whether all of these words are keys.
 fn are_keys(needs: &Map<&str, Set<&str, 2>, 32>, words: &Set<&str, 2>) -> bool
     ensures { result ≡ list_all (λ word. is_some (lookup (is_str word.now) needs.now)) words.now }
@@ -165,8 +175,8 @@ pub fn words_in<'a, const N: usize>(text: &'a str) -> Result<Set<&'a str, N>, Ov
 }
 
 /// Counts how often each word of a text comes, or returns `None` if there are more than `N` different ones.
-/// The contract says only that no two words are equal and that there are at most `N`. A list of words is counted as in
-/// `counts_or_none`, whose helper has the counts.
+/// The contract says only that no two words are equal and that there are at most `N`. The words of a `&[&str]` are counted
+/// exactly as in `counts_or_none`, by `str_eq` in the place of `nat_eq`.
 pub fn count_words_in<'a, const N: usize>(text: &'a str) -> Option<Map<&'a str, usize, N>>
     ensures { IfSome result (IsContent str_eq N) }
 {
