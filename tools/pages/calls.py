@@ -1,17 +1,41 @@
 """The table of every call atop API.md: what it requires, and its scans of the stored keys."""
-import os
 import re
 
-from pages.sources import TYPES, anchor, read
+from pages.sources import TYPES, anchor
 
-GUIDE = "crates/micromap/CALLING.md"  # has the table of preconditions
 HEAD = """## Every call
 
-What tests a precondition stands in parentheses; [`CALLING.md`](CALLING.md#preconditions) says what a *sound* entry is, and \
-lists the calls by what they require. A *scan* compares the stored keys from the front, each at most once.
+What tests a precondition stands in parentheses. [`CALLING.md`](CALLING.md#preconditions) says what most types and closures meet, \
+and what a *sound* entry is. A *scan* compares the stored keys from the front, each at most once.
 
 | Call | Requires | Scans |
 |---|---|---|"""
+# What calls require, and what tests it.
+REQUIRED = [
+    ("Map::insert, Map::insert_unchecked, Map::insert_key_value", "the key is stored, or there is room", "`fits`, `fits_by`"),
+    ("Set::insert, Set::insert_unchecked, Set::replace", "an equal item is stored, or there is room", "`fits`, `fits_by`"),
+    ("Map::index, Map::index_mut, Index for Map, IndexMut for Map", "the key is stored", "`contains_key`"),
+    ("Map::index_by, Map::index_mut_by", "a stored key matches", "`contains_key_by`"),
+    ("Entry::or_insert, Entry::or_insert_with, Entry::or_insert_with_key, Entry::or_default, Entry::insert_entry", "the entry is occupied, or there is room",
+     "`has_room` of the entry, or `fits` of the map before `entry`"),
+    ("VacantEntry::insert, VacantEntry::insert_entry", "there is room", "`has_room`"),
+    ("Map::update_disjoint", "no two of the keys are equal", "`==`"),
+    ("Map::with_capacity", "the capacity is `N`", "`==`"),
+    ("Map::clone", "a key's clone equals it", ""),
+    ("Set::clone, Set::bitand, Set::sub", "an item's clone equals it", ""),
+    ("Map::counts_of, Map::try_from_iter, Map::try_extend, Set::try_from_iter, Set::try_extend",
+     "`next` may be called, and the iterator ends after fewer than `usize::MAX` items", ""),
+    ("Map::from_all, Map::from_fitting, Set::from_all, Set::from_fitting", "`next` may be called, and the iterator ends", ""),
+    ("Map::write_entries, Map::read_entries, Set::write_entries, Set::read_entries, EntrySink, EntrySource",
+     "the sink or source has returned fewer than `u128::MAX` errors", "`faults`"),
+    ("Steps::same", "`count() + 1` is below 2^128", "`count`"),
+    ("Map::get_counted", "`count() + len()` is below 2^128", "`count`"),
+    ("Map::eq_with_counted", "`count() + len() * len()` is below 2^128", "`count`"),
+    ("Map::drain, IntoIterator for Map, Map::into_keys, Map::into_values, Set::drain, IntoIterator for Set",
+     "in a generic function: the iterator [fits in memory](CALLING.md#any-capacity)", ""),
+    ("Iter::over, IntoIter::over, IntoKeys::over, IntoValues::over", "each slot is filled, and there are as many keys as values", ""),
+    ("Keys::over, Values::over", "each slot is filled", ""),
+]
 # The scans of calls whose documentation doesn't say them.
 SCANS = {
     "one scan": "IndexMut for Map, Map::insert_unchecked, Set::insert_unchecked",
@@ -60,29 +84,20 @@ def scans(call, docs, of_type):
     return said if said[0] == "`" else said[0].lower() + said[1:]
 
 
-def preconditions():
-    """The rows of the table of preconditions: what is required and its test, by the anchor of each call."""
-    table = read(GUIDE).partition("\n## Preconditions\n")[2].partition("\n\n- ")[0]
-    rows = re.findall(r"^\| (.*\]\(API\.md#.*) \| (.+) \| (.*?) ?\|$", table, re.M)
-    for calls, required, test in rows:
-        required = required.replace("](#", f"]({os.path.basename(GUIDE)}#")
-        yield from ((it, (required, test)) for it in re.findall(r"\(API\.md#([\w-]+)\)", calls))
-
-
 class Calls:
     """The table, by the entries of API.md. What is amiss is added to `wrong`."""
 
     def __init__(self, api):
-        self.api, self.required = api, dict(preconditions())
+        self.api, self.required = api, {call: (said, test) for calls, said, test in REQUIRED for call in calls.split(", ")}
 
     def requires(self, call):
-        """What a call requires, as CALLING.md says it, and what entries and closures require."""
+        """What a call requires, as REQUIRED says it, and what entries and closures require."""
         clauses = [line.strip() for _, code, _ in self.api.entries[call] for line in code]
         clauses = [it for it in clauses if re.match(r"requires\b|ghost can_", it)]
-        said, test = self.required.get(anchor(call), ("", ""))
+        said, test = self.required.get(call, ("", ""))
         has_own = any(not re.search(f"{SOUND}|{CLOSURE}", it) for it in clauses)
         if has_own != (said != "" and not said.startswith("in a generic function")):
-            self.api.wrong.append(f"{GUIDE}: the table of preconditions and the contract of {call} don't agree")
+            self.api.wrong.append(f"tools/pages/calls.py: REQUIRED and the contract of {call} don't agree")
         yield from [f"{said} ({test})" if test else said] if said else []
         yield from ["a sound entry"] * any(re.search(SOUND, it) for it in clauses)
         yield from ["a closure that can be called on what it is given"] * any(re.search(CLOSURE, it) for it in clauses)
@@ -105,6 +120,4 @@ class Calls:
         for title, calls in self.api.groups.items():
             yield f"| **[{title}](#{anchor(title)})** | | |"
             yield from map(self.row, calls)
-        known = {anchor(it) for it in self.api.entries}
-        self.api.wrong += [f"{GUIDE}: no call of {it}" for it in self.required if it not in known]
-        self.api.wrong += [f"tools/pages/calls.py: no call is {it}" for it in SAID if it not in self.api.entries]
+        self.api.wrong += [f"tools/pages/calls.py: no call is {it}" for it in {**self.required, **SAID} if it not in self.api.entries]
