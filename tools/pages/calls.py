@@ -103,7 +103,7 @@ class Calls:
         yield from ["a closure that can be called on what it is given"] * any(re.search(CLOSURE, it) for it in clauses)
 
     def row(self, call):
-        """The row of a call or a type."""
+        """The row of a call, or of a type that requires something, or nothing."""
         docs = [it for it, _, _ in self.api.entries[call]]
         items = [it for _, _, it in self.api.entries[call]]
         is_type = any(it.kind in TYPES for it in items)
@@ -112,12 +112,13 @@ class Calls:
         cost = "" if is_type else scans(call, docs, of_type)
         if not cost and not is_type:
             self.api.wrong.append(f"tools/pages/calls.py: nothing says how many keys {call} compares")
-        return f"| [`{call}`](#{anchor(call)}) | {'; '.join(self.requires(call))} | {cost} |"
+        required = "; ".join(self.requires(call))
+        return "" if is_type and not required else f"| [`{call}`](#{anchor(call)}) | {required} | {cost} |"
 
     def lines(self):
         """The lines of the table, by groups."""
         yield HEAD
         for title, calls in self.api.groups.items():
             yield f"| **[{title}](#{anchor(title)})** | | |"
-            yield from map(self.row, calls)
+            yield from filter(None, map(self.row, calls))
         self.api.wrong += [f"tools/pages/calls.py: no call is {it}" for it in {**self.required, **SAID} if it not in self.api.entries]
