@@ -34,8 +34,7 @@ CHOICE_WORDS = {
     "clone": "a map is cloned",
 }
 # The README's table has the times of one of these, at some capacities, in a row that begins with these words.
-FOUND, FOUND_CAPACITIES = "get, hit", [2, 4, 8, 32]
-FOUND_WORDS = f"Finds one of {', '.join(map(str, FOUND_CAPACITIES[:-1]))} or {FOUND_CAPACITIES[-1]} numbers in"
+FOUND, FOUND_CAPACITIES, FOUND_WORDS = "get, hit", [2, 4, 8, 16, 32], "Finds one of"
 NEW_MAPS = ["copied", "put one, hand on"]  # without which SPEED.md says the means too
 # The table of calls that build a map or a set: its capacities, and the ways that the calls are set beside.
 BUILD_CAPACITIES, LOOPS = [2, 8, 64], ["loop", "loop in place"]
@@ -166,15 +165,15 @@ def choice_table(times):
 
 
 def found_table(times, part):
-    """The README's table of what to take, with the rows that it has, its row of times, and what the mean of all workloads
+    """The README's table of what to take, with the rows that it has, its rows of times, and what the mean of all workloads
     over the Rust crate is."""
     yield from (line for line in part.splitlines() if line.startswith("|") and not line.startswith(f"| {FOUND_WORDS}"))
     cells = times["numbers", FOUND]
-    at_each = [cells[at] for at in FOUND_CAPACITIES]
-    own = ([nanoseconds * ratios[rival][0] for nanoseconds, ratios in at_each] for rival in [0, *CHOICES])
-    yield row([FOUND_WORDS, *(f"{', '.join(map(brief, it))} ns" for it in own)])
+    for at in FOUND_CAPACITIES:
+        nanoseconds, ratios = cells[at]
+        yield row([f"{FOUND_WORDS} {at} numbers in", *(f"{brief(nanoseconds * ratios[rival][0])}{ratios[rival][1]} ns" for rival in [0, *CHOICES])])
     every = mean([one for it in times.values() for one in own_of(it)])[0]
-    yield f"\nIn the geometric mean of {len(times)} workloads, this library takes {every:.2f} times the Rust crate's time."
+    yield f"\nIn the geometric mean of {len(times)} workloads, this library takes {every:.2f} times the Rust crate's time. A `~` marks a figure that [isn't steady](docs/SPEED.md#how-it-was-measured)."
 
 
 def alone_table(alone):
