@@ -98,6 +98,7 @@ pub fn lacking_any<const N: usize, const M: usize>(
 }
 
 /// Copies the pairs that another map lacks or has with another value.
+/// Of signed values the closure says what it returns at any capacity.
 pub fn changed<const N: usize, const M: usize>(
     settings: &Map<u8, u8, N>,
     other: &Map<u8, u8, M>,
@@ -116,8 +117,8 @@ pub fn changed<const N: usize, const M: usize>(
 
 /// Copies a map whose values are cloned, in a loop.
 /// The copy is the very same list. `plan.clone()` makes it in one call. It does so too where keys or items are owned
-/// texts, since a clone of a `TextBuf` is the same value. The loop is the form to start from if a value changes on its
-/// way.
+/// texts, since a clone of a `TextBuf` is the same value. A loop that also changes each value into another type is
+/// as in `first_halves`.
 #[tactic(auto, using(micromap::proofs::Rules::loops))]
 pub fn copied<const N: usize, const M: usize>(
     plan: &Map<u8, Set<u8, M>, N>,

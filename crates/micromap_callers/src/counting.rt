@@ -119,7 +119,8 @@ pub fn total_wide<const N: usize>(pairs: &Map<u8, u32, N>) -> u64
 }
 
 /// Adds up the values in a wider type, where the capacity is bounded.
-/// If the capacity is a number or a constant, the function requires nothing.
+/// The sum stands in a function of its own, as here: beside `let _content` in one function the search doesn't find it. If
+/// the capacity is a number or a constant, this one requires nothing.
 pub fn total_bounded<const N: usize>(pairs: &Map<u8, u32, N>) -> u64
     requires { N ≤ 65536 }
     ensures { result ≡ sum (values_of pairs.now) }

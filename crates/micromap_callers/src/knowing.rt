@@ -49,7 +49,7 @@ fn are_below<const N: usize>(amounts: &Map<u8, u8, N>, limit: u8) -> bool
 }
 
 /// Tells that each value that `get` finds passes, where all do.
-/// It does so if it returns `true`. That each member of a set passes goes the same way, by a chain over `items.iter()`.
+/// It does so if it returns `true`.
 #[tactic(auto, using(micromap::proofs::Rules::caller))]
 pub fn each_below<const N: usize>(amounts: &Map<u8, u8, N>, limit: u8) -> bool
     ensures { IsTrue result → (k v : _) → at nat_eq amounts.now k ≡ Some v → IsTrue (nat_lt v limit) }

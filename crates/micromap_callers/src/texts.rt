@@ -2,11 +2,11 @@
 //! `clone()?` in the place of `copied()`.
 #![tactic(auto, using(micromap::proofs::Rules::caller))]
 
-ghost use Rattle.std.specs.Prelude.{◌≡◌, ◌↔◌, ◌<◌, ◌+◌, ◌-◌, ◌^◌, [], ℕ, IfOk, IsFalse, IsNone, List, filter, fold, length, map, min, nat_eq, unwrap_or};
+ghost use Rattle.std.specs.Prelude.{◌≡◌, ◌↔◌, ◌&&◌, ◌<◌, ◌+◌, ◌-◌, ◌^◌, [], ℕ, IfOk, IsFalse, IsNone, List, filter, fold, if◌then◌else◌, length, map, min, nat_eq, unwrap_or};
 ghost use Rattle.std.specs.Bool.{OnTrue};
 ghost use Rattle.std.specs.Borrow.{Bor};
-ghost use Rattle.std.specs.List.{starts_with};
-ghost use Rattle.std.specs.Option.{IfSome, option_map_or, option_or};
+ghost use Rattle.std.specs.List.{find, starts_with};
+ghost use Rattle.std.specs.Option.{IfSome, option_and_then, option_copied, option_map_or, option_or};
 ghost use Rattle.std.specs.Set.{is_member};
 ghost use Rattle.std.specs.Str.{bytes_eq};
 ghost use Rattle.micromap.specs.Build.{put_all};
@@ -29,6 +29,7 @@ pub fn age_at<const N: usize>(ages: &Map<TextBuf, u8, N>, name: &str) -> Option<
 }
 
 /// Reads the value at a text in a map, or else in another.
+/// For any capacity write a `match` in the place of `or_else`, whose closure would say what it returns.
 pub fn age_or_other(
     ages: &Map<TextBuf, u8, 16>,
     others: &Map<TextBuf, u8, 16>,
@@ -39,6 +40,19 @@ pub fn age_or_other(
     ages.get_by(&Text(name))
         .or_else(|| others.get_by(&Text(name)))
         .copied()
+}
+
+/// Finds a text's value in the first of several maps with it.
+/// It returns `None` if no map has the text.
+pub fn first_age<'a>(layers: &'a [Map<TextBuf, u32, 16>], name: &str) -> Option<&'a u32>
+    ensures { option_copied result ≡ option_and_then (λ m. at bytes_eq m name.now) (find (λ m. has bytes_eq m name.now) layers.now) }
+{
+    for layer in layers {
+        if let Some(age) = layer.get_by(&Text(name)) {
+            return Some(age);
+        }
+    }
+    None
 }
 
 /// Sets the value at a text, if it fits, and returns whether it did.
@@ -84,6 +98,29 @@ pub fn untag<const N: usize>(tags: &mut Set<TextBuf, N>, name: &str) -> bool
     ensures tags { tags.new ≡ take_item bytes_eq tags.old name.now }
 {
     tags.remove_by(&Text(name))
+}
+
+/// Moves the pair of a text into another map, if it is there and fits.
+#[tactic(auto, using(micromap::proofs::Rules::caller, micromap_core::proofs::Laws::TextLaws::stored_text))]
+pub fn hand_over<const N: usize, const M: usize>(
+    ages: &mut Map<TextBuf, u8, N>,
+    others: &mut Map<TextBuf, u8, M>,
+    name: &str,
+) -> bool
+    ensures answer { result ≡ (fits bytes_eq M others.old name.now && has bytes_eq ages.old name.now) }
+    ensures ages { ages.new ≡ (if fits bytes_eq M others.old name.now then take_out bytes_eq ages.old name.now else ages.old) }
+    ensures others { others.new ≡ option_map_or (λ age. put_if_fits bytes_eq M others.old name.now age) (at bytes_eq ages.old name.now) others.old }
+{
+    if !others.fits_by(&Text(name)) {
+        return false;
+    }
+    match ages.remove_entry_by(&Text(name)) {
+        Some((key, age)) => {
+            others.insert(key, age);
+            true
+        }
+        None => false,
+    }
 }
 
 /// Removes the texts of a list from a map.

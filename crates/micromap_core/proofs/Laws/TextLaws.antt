@@ -22,7 +22,7 @@ use Rattle.micromap_core.specs.Same.{is_same}
 use Rattle.micromap_core.specs.Texts.{items_by, texts_by}
 use Rattle.micromap_core.proofs.MapLemmas.{lookup-entry}
 use Rattle.micromap_core.proofs.Views.{distinct-map, equal_items-map, printed-map}
-use Rattle.micromap_core.proofs.Laws.MapLaws.{pair_key}
+use Rattle.micromap_core.proofs.Laws.MapLaws.{pair_key, stored_key}
 use Rattle.micromap_core.proofs.Laws.Equalities.{Where}
 
 both_known : (a b : Option (List ℕ)) → is_some a ≡ true → is_some b ≡ true
@@ -249,6 +249,11 @@ module _ {K V W : Type 0} (see : K → List ℕ) (read : V → W) (value_text : 
         (printed-map _ (pair_text (λ name. Some name) value_text) [] pairs),
     λ known. map_text_known (λ k. Some (see k)) (λ v. value_text (read v)) (λ k. refl) known pairs,
   )
+
+-- the key that an owned text finds is that text
+pub stored_text : {V : Type 0} (pairs : List (List ℕ × V)) (text : List ℕ) (p : List ℕ × V)
+    → pair bytes_eq pairs text ≡ Some p → p.0 ≡ text
+stored_text = stored_key bytes_eq (λ x y. (bytes_eq-Decides x y).0)
 
 pub ruleset text_laws = (
   each_map_text,
