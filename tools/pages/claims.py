@@ -220,6 +220,6 @@ class Claims:
     def wrong_of_readme(self):
         """What is amiss in the README's sentence about these."""
         shown, plain, _, written, planted, untried, library = self.counts()
-        wanted = (f"For {shown} of the library's {library} clauses, one that was made for the clause was refused: for {plain} of these without a change of the proof, at a goal of the call's own contract that names no other clause. "
-                  f"For {written + planted} others the evidence is weaker, and for {untried} there is none.")
+        wanted = (f"The library has {library} clauses. For {shown} of them a wrong body was refused that was made for the clause. For {plain} of these the evidence is strongest: "
+                  f"the proof was left as it is, and the refused goal is of the call's own contract and names no other clause. For {written + planted} others it is weaker, and for {untried} there is none.")
         return [] if wanted in read("README.md") else [f"README.md doesn't say: {wanted}"]
