@@ -45,12 +45,13 @@ the bounds `K: Eq` and `T: Eq` are left out.
 
 In a clause `result` is what the call returns. `self.now` is what `&self` points to. `self.old` and `self.new` are \
 what `&mut self` points to at the call and at the return. `self`, also written `self.entry`, is a `self` that the call \
-takes, as it was passed, and `self.exit` is what is left of it. Of `&mut self`, `self.entry` is the reference itself. \
+takes, as it was passed, and `self.exit` is what is left of it: of an entry, `self.exit.0.now` is the map afterwards. Of `&mut self`, `self.entry` is the reference itself. \
 A call that returns a `&mut` has one more clause, [`writes_back`](#written-through-a-reference). \
 Other parameters are named in the same way, as `key.now`. `K.eq` is `==` of the keys. The [words](#words) of this library and those of the [standard \
 library](#words-of-the-standard-library) are explained at the end.
 
-Examples are proved. Their files are in {HOME}, and their imports are left out here.
+Examples are proved. Their files are in {HOME}, and their imports are left out here. In comments `rt` is the test's `HostRuntime`, and \
+`alloc` is `rt.alloc()`.
 """
 LENT = """## Written through a reference
 

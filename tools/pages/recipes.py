@@ -17,7 +17,7 @@ INTRO = """# Recipes
 A recipe is a small function over a map or a set, with a contract. Each is proved as it stands here. Copy its blocks, the head
 with which its section begins, and what it says that it calls or needs. Then put your own types and tests in the place of the recipe's. Another type of keys may need another equality in the clauses ([words](CALLING.md#words)). [CALLING](CALLING.md#when-a-check-fails) has what to do when a check fails.
 
-- The head of a section is the head of a file: the line under which its recipes are proved, and their imports. An import may stay that you don't need. A recipe with a line `#[tactic(..)]` of its own is proved under that. A file with recipes of two sections has each import once, and one line `#![tactic(..)]`.
+- The head of a section is the head of a file: the line under which its recipes are proved, and their imports. An import may stay that you don't need, and what a comment says of another form may need more. A recipe with a line `#[tactic(..)]` of its own is proved under that. A file with recipes of two sections has each import once, and one line `#![tactic(..)]`.
 - A block `antt` stands below the path of its file. An [invariant](PROVING.md#an-invariant), and *answers*, which are proofs of single goals, have
 the path of their function: that of `total` of `src/walks.rt` is `proofs/walks/total/Invariants.antt`, and in `main.rt` or `lib.rt` `proofs/total/Invariants.antt`. `my_crate` stands for your crate, and what follows `proofs.`, `contracts.` or `declared.`, as `counting`, for your file.
 - What a comment says of other types, calls or bodies, as "goes the same way", isn't proved here. The check of your crate tells.
@@ -36,56 +36,58 @@ WANTS = {
         "Copies settings with others put over them, or returns `None` if they don't all fit"],
     "settings in layers": ["Finds a key's value in the first of several maps with it", "Finds a text's value in the first of several maps with it", "Reads the value at a text in a map, or else in another",
         "Copies settings with others put over them, or returns `None` if they don't all fit"],
-    "the words of a text": ["Makes a set of the words of a text, or an error if there are more than `N` different ones",
+    "words of a text": ["Makes a set of the words of a text, or an error if there are more than `N` different ones",
         "Counts how often each word of a text comes, or returns `None` if there are more than `N` different ones"],
-    "the union of a map's sets": ["Makes a set of the items of all sets of a map"],
+    "union of a map's sets": ["Makes a set of the items of all sets of a map"],
     "remove while iterating": ["Keeps the pairs that pass"],
-    "a sum": ["Adds up the values, whose sum must fit", "Adds up signed values, where a sum that doesn't fit stays at the end of the range"],
-    "the least or the greatest value": ["Finds a key with the least value, and that value", "Finds the greatest value"],
-    "a closure over sets of `&str`": ["Returns whether all words of a map's sets are its keys"],
+    "sum": ["Adds up the values, whose sum must fit", "Adds up signed values, where a sum that doesn't fit stays at the end of the range"],
+    "least or greatest value": ["Finds a key with the least value, and that value", "Finds the greatest value"],
+    "closure over sets of `&str`": ["Returns whether all words of a map's sets are its keys"],
     "rename a key": ["Moves a value from one text to another, which goes to its index or to the end"],
     "print a map": ["Writes a map of numbers as a text"],
-    "the neighbours of a node": ["Inserts an item into the set of a key, if it fits", "Takes a pair out, and its key out of each set"],
+    "neighbours of a node": ["Inserts an item into the set of a key, if it fits", "Takes a pair out, and its key out of each set"],
     "nested scopes": ["Finds a key's value in the first of several maps with it", "`scopes.rt` in `micromap_uses`"],
     "JSON": ["Reads a map with owned texts as keys from JSON, or says what is wrong with it", "Reads a set of owned texts from JSON, or says what is wrong with it",
         "Writes a map with owned texts as keys as JSON, which is read back as the same map", "Writes a set of owned texts as JSON, which is read back as the same set"],
-    "what was visited, and a work list": ["Adds a key of a map to a set of its keys, which has room for each", "Moves the items of a set into another, as far as they fit",
+    "visited, and a work list": ["Adds a key of a map to a set of its keys, which has room for each", "Moves the items of a set into another, as far as they fit",
         "`reached` of `graph.rt` and `affected` of `order.rt` in `micromap_uses`"],
     "mark and unmark, in a search for cycles": ["Puts an item on a path and takes it off again, which leaves the path as it was"],
-    "the newest `N` items": ["Inserts an item into a set, which loses its first if it's full"],
-    "the pair at an index": ["Finds the first key and the last value"],
-    "the value at a `&str`": ["Reads the value at a `&str`, or returns an error if there is none",
+    "newest `N` items": ["Inserts an item into a set, which loses its first if it's full"],
+    "index, the pair at one": ["Finds the first key and the last value"],
+    "value at a `&str`": ["Reads the value at a `&str`, or returns an error if there is none",
         "Sets the value at a `&str`, if it fits, and returns the old one"],
     "move the pairs of a map into another": ["Puts pairs into a map, up to the first that doesn't fit"],
-    "how many pairs were dropped": ["Keeps the pairs that pass"],
-    "a copy with other values": ["Copies the pairs that pass", "Copies the pairs that pass, with other values, or returns `None`"],
-    "whether all keys of a map are in another": ["Returns whether all items of a list are in a set"],
-    "how many items two sets share": ["Counts the items of a set that are in another", "Adds up the members of an operation on two sets"],
-    "what one set has and another lacks": ["Finds the first item of a set that another lacks", "Makes a set of the union of two sets", "Copies the texts of two sets into one, and knows exactly that there are too many"],
-    "all pairs in a `Vec`": ["Lists the keys whose value passes a test in a `Vec`"],
+    "dropped, how many pairs were": ["Keeps the pairs that pass"],
+    "copy with other values": ["Copies the pairs that pass", "Copies the pairs that pass, with other values, or returns `None`"],
+    "keys of a map in another, whether all are": ["Returns whether all items of a list are in a set"],
+    "shared by two sets, how many items are": ["Counts the items of a set that are in another", "Adds up the members of an operation on two sets"],
+    "missing in another set": ["Finds the first item of a set that another lacks", "Makes a set of the union of two sets", "Copies the texts of two sets into one, and knows exactly that there are too many"],
+    "`Vec` of all pairs": ["Lists the keys whose value passes a test in a `Vec`"],
     "keep the pairs whose value is in a set": ["Drops the pairs whose key is in a set"],
     "compare maps with `&str` keys": ["Returns whether two maps from `&str` to a struct with a derived `==` are the same"],
-    "a key at which two maps differ": ["Reads two maps at a key where they differ"],
+    "key at which two maps differ": ["Reads two maps at a key where they differ"],
     "leave pairs out of a copy": ["Copies the pairs that pass"],
     "evict a pair of a full map": ["Sets the value of a key, for which a pair with the least value is taken out if there is no room"],
-    "a loop over a range": ["Puts a value at each number below another that fits, by a loop over a range", "Finds the first number of a range that isn't in a set, in a loop"],
+    "range, a loop over one": ["Puts a value at each number below another that fits, by a loop over a range", "Finds the first number of a range that isn't in a set, in a loop"],
     "remove the keys of a list": ["Removes the texts of a list from a map", "Takes the items of a list out of a set in place", "Removes the words of a set from another"],
-    "a set within another": ["Returns whether each set that is a value is within another set", "Returns whether the set of a key has all items of a set, where a missing set is the empty one",
+    "set within another": ["Returns whether each set that is a value is within another set", "Returns whether the set of a key has all items of a set, where a missing set is the empty one",
         "Returns whether all items of a list are in a set"],
-    "a transfer between two keys": ["Moves a signed amount from one stored key to another, or changes nothing"],
-    "a struct as a key": ["Puts a value at a key that is a struct, if it fits", "Finds a key that is a struct, by its value"],
+    "transfer between two keys": ["Moves a signed amount from one stored key to another, or changes nothing"],
+    "struct as a key": ["Puts a value at a key that is a struct, if it fits", "Finds a key that is a struct, by its value"],
     "fill in defaults": ["Puts the pairs of another map whose keys are missing, as far as they fit, as defaults are filled in"],
-    "an edge and its way back": ["Puts two pairs into a map, both or none, as an edge and its way back"],
+    "edge and its way back": ["Puts two pairs into a map, both or none, as an edge and its way back"],
     "signed amounts, with a check for overflow": ["Moves a signed amount from one stored key to another, or changes nothing", "Adds a signed amount to a stored value, or returns `None` if the key is missing or the sum doesn't fit",
         "Adds up signed values, or returns `None` if a sum doesn't fit", "Adds the signed amounts of another map to the balances of a map", "Adds each signed amount of a list to the balance of its key",
         "Makes a set of the keys whose signed value passes", "Changes the signed values that pass a test",
         "Adds a signed amount to the value of a key, where a sum that doesn't fit stays at the end of the range",
         "Adds up signed values, where a sum that doesn't fit stays at the end of the range",
         "Multiplies all values of a signed type, where a product that doesn't fit stays at the end of the range"],
+    "count how often": ["Counts how often each item of a list comes", "Counts one more of a key, if that fits"],
+    "get or insert": ["Reads the value at a `&str`, which is put there if it is missing and there is room"],
     "invert a map": ["Makes a map with key and value exchanged"],
     "group by a key": ["Groups a list: makes a map of the members of each key"],
-    "the total of each key": ["Adds each amount of a list to the total of its key", "Groups a list: makes a map of the members of each key"],
-    "a copy with another capacity": ["Copies the pairs that pass into a map of another capacity"],
+    "total of each key": ["Adds each amount of a list to the total of its key", "Groups a list: makes a map of the members of each key"],
+    "copy with another capacity": ["Copies the pairs that pass into a map of another capacity"],
 }
 # An item at the margin, with the comments and the attributes above it.
 BLOCK = r"(?:.*[;}]$|(?s:.*?)^\}$)"
@@ -210,6 +212,6 @@ def recipes(wrong):
     uses = sorted(it for it in glob.glob(f"crates/{WHOLE}/src/*.rt") if not it.endswith("/lib.rt"))
     listed = "\n".join(f"- `{os.path.basename(it)}`: {title_of(it)[0]}" for it in uses)
     ends = [f"### {own_title(it)}\n\n{block('antt', read(it))}" for it in sorted(words, key=lambda it: ("/specs/" not in it, it))]
-    wanted = "\n".join(["| Looked for | Recipe |", "|---|---|", *(f"| {want} | {', '.join(it if it[0] == '`' else linked(it) for it in WANTS[want])} |" for want in sorted(WANTS, key=str.lower))])
+    wanted = "\n".join(["| Looked for | Recipe |", "|---|---|", *(f"| {want} | {', '.join(it if it[0] == '`' else linked(it) for it in WANTS[want])} |" for want in sorted(WANTS, key=lambda it: it.lower().strip("`")))])
     wrong += [f"{RECIPES}: no heading is {it}" for those in WANTS.values() for it in those if it[0] != "`" and it not in {one.heading for one in known}]
     return "\n\n".join([INTRO.strip(), listed, "## Index", wanted, "\n".join(rows), *sections, *([f"## {WORDS}", LISTED, *ends] if ends else [])]) + "\n"
