@@ -32,15 +32,15 @@ it has one clause. The gate, `.ci/run`, tries those that are linked to `must-fai
 
 - CHANGED of the EDITS edits change lines of the proof too, and are marked †. Most take out an *answer*, a goal's proof by hand, so that the search tries the goal. \
 An answer mostly stands where the search fails on the right body, or is slow, which isn't tried. So such a refusal shows little. Some rewrite answers, or the loop's invariant, for the wrong body.
-- One goal of each edit is recorded. If it names a clause, the row's others may hold of the body.
+- Of an edit's goals one of the strongest kind is recorded. If it names a clause, the row's others may hold of the body. If it names none, any clause of the call may have failed, as for four of the clauses in the second row.
 - A refusal shows that the search found no proof, not that there is none. After a loop without an invariant nothing is known of what \
-it changed, so a right body with such a loop would be refused too. Such are both `remove_moves_the_last_..`, `into_capacity_reverses_the_pairs`, `into_iter_from_the_end` and `read_entries_empties_the_source`.
+it changed, so a right body with such a loop would be refused too. Such are both `remove_moves_the_last_..`, `into_capacity_reverses_the_pairs`, `into_capacity_keeps_the_first_pairs` (of its clause `pairs`), `into_iter_from_the_end` and `read_entries_empties_the_source`.
 - Some bodies are those of an inner function on which the call rests. Then the recorded goal is one of that function's. It belongs to the same \
 clause, or to one that the call's proof uses. This doesn't show that the call's own clause says enough. \
-Seven of the SHOWN clauses have no other body: `into_iter_gives` of a map, those of `Iter::over`, `Keys::over` and `Values::over`, `succeeds` of `Map::clone`, and `memory` of `map_from_json` and of `set_from_json`.
+Of seven of the SHOWN clauses no other body was refused at such a goal: `into_iter_gives` of a map, those of `Iter::over`, `Keys::over` and `Values::over`, `succeeds` of `Map::clone`, and `memory` of `map_from_json` and of `set_from_json`.
 - A goal after *written proof*, of a proof by hand, a `loop-..` and a `..-requires` show no more than that this proof, invariant or call doesn't serve the wrong body.
-- The goals are those of the last run of `tools/claims`. `tools/documents --check` wants one for each edit as it, the contract and the body stand, \
-and doesn't see that a definition or another proof has changed.
+- The goals are those of the last run of `tools/claims`. `tools/documents --check` wants one for each edit as it and the changed function with its contract stand. It \
+doesn't see that a ghost member, a clause of a trait, the contract of a call that rests on that function, a definition or another proof has changed.
 
 A goal has its file before it, in `src/` of the edit's crate, or the function of the written proof. [CALLING](../crates/micromap/CALLING.md#when-a-check-fails) says how goals are named. \
 Here `invariant_of-..` is also the invariant of a type, `-value` is a law, `-after-f` follows a call of `f`, and a number tells apart goals of one name. The check calls the clause of `next_gives` `steps`, and that of `output` `writes`.
