@@ -6,7 +6,7 @@ import re
 from pages.api import API
 from pages.edits import edits
 from pages.logs import NONE, plants_of
-from pages.record import CONTRACT, PROOF, kind_of, recorded
+from pages.record import CONTRACT, PROOF, PROVED, changes_proof, kind_of, of_right_bodies, recorded
 from pages.sources import LIBRARY, Sources, anchor, read
 
 CLAIMS = "docs/CLAIMS.md"
@@ -30,14 +30,15 @@ An *edit* changes the source to a wrong body. Some narrow the call by a bound, o
 it has one clause. The gate, `.ci/run`, tries those that are linked to `must-fail/`, and \
 [`tools/claims`](MAINTAINING.md#edits) all.
 
-- CHANGED of the EDITS edits change lines of the proof too, and are marked †. Most take out an *answer*, a goal's proof by hand, so that the search tries the goal. \
-An answer mostly stands where the search fails on the right body, or is slow, which isn't tried. So such a refusal shows little. Some rewrite answers, or the loop's invariant, for the wrong body.
+- CHANGED of the EDITS edits change lines of the proof too. Most take out an *answer*, a goal's proof by hand, so that the search tries the goal. Some rewrite answers, or the loop's invariant. \
+With each such change the right body was tried too. It is proved for HELD, which are marked †: there the body alone is at fault. For the others, marked ‡, it isn't, since the search doesn't find what was \
+taken out, or an answer was made for the wrong body. These show little.
 - Of an edit's goals one of the strongest kind is recorded. If it names a clause, the row's others may hold of the body. If it names none, any clause of the call may have failed, as for four of the clauses in the second row.
 - A refusal shows that the search found no proof, not that there is none. After a loop without an invariant nothing is known of what \
 it changed, so a right body with such a loop would be refused too. Such are both `remove_moves_the_last_..`, `into_capacity_reverses_the_pairs`, `into_capacity_keeps_the_first_pairs` (of its clause `pairs`), `into_iter_from_the_end` and `read_entries_empties_the_source`.
 - Some bodies are those of an inner function on which the call rests. Then the recorded goal is one of that function's. It belongs to the same \
 clause, or to one that the call's proof uses. This doesn't show that the call's own clause says enough. \
-Of seven of the SHOWN clauses no other body was refused at such a goal: `into_iter_gives` of a map, those of `Iter::over`, `Keys::over` and `Values::over`, `succeeds` of `Map::clone`, and `memory` of `map_from_json` and of `set_from_json`.
+Of seven clauses no other body was refused at such a goal: `into_iter_gives` of a map, those of `Iter::over`, `Keys::over` and `Values::over`, `succeeds` of `Map::clone`, and `memory` of `map_from_json` and of `set_from_json`.
 - A goal after *written proof*, of a proof by hand, a `loop-..` and a `..-requires` show no more than that this proof, invariant or call doesn't serve the wrong body.
 - The goals are those of the last run of `tools/claims`. `tools/documents --check` wants one for each edit as it and the changed function with its contract stand. It \
 doesn't see that a ghost member, a clause of a trait, the contract of a call that rests on that function, a definition or another proof has changed.
@@ -100,7 +101,7 @@ class Claims:
         self.clauses = {it.name: it for it in reversed(every)}
         self.required = {it.name: it for it in api.sources.clauses(required=True)}
         self.edits = [edit_of(it, self.required | self.clauses, wrong) for it in paths]
-        page, self.goals = read(CLAIMS) if os.path.exists(CLAIMS) else "", recorded()
+        page, self.goals, self.right = read(CLAIMS) if os.path.exists(CLAIMS) else "", recorded(), of_right_bodies()
         rest = page.partition(f"\n## {WITHOUT}\n")[2]
         tried = re.findall(r"^\| \[`(.+?)`\][^|]*\| (.+) \|$", rest, re.M)
         self.tried = {it: said for it, said in tried if said not in (SHARED, OF_TRAIT, UNKNOWN)}
@@ -138,20 +139,20 @@ class Claims:
         wrong = f"[{edit.wrong[:1].upper()}{edit.wrong[1:]}](../{edit.path})"
         goal = re.sub(r"(`.*`) in (`.*`)$", r"\2 \1", self.goals.get(edit.path, UNKNOWN))
         goal = re.sub(r"(`.*`) in the proof of (`.*`)$", r"*written proof* of \2: \1", goal)
-        mark = " †" * self.changes_proof(edit)
+        mark = f" {'†' if self.keeps_right(edit) else '‡'}" * changes_proof(edit.path)
         return f"| {'<br>'.join(self.clauses_of(*it) for it in edit.claims)} | {wrong}{mark} | {goal} |"
 
-    @staticmethod
-    def changes_proof(edit):
-        return re.search(r"^file: proofs/", read(edit.path), re.M) is not None
+    def keeps_right(self, edit):
+        """Whether the right body is proved with an edit's proof."""
+        return not changes_proof(edit.path) or self.right.get(edit.path) == PROVED
 
     def text(self):
         sections = collections.defaultdict(list)
         for edit in sorted(self.edits, key=lambda it: (self.section(it)[1], it.path)):
             sections[self.section(edit)[0]].append(edit)
         order = [*self.api.groups, *PROGRAMS.values(), *sections]
-        changed = sum(map(self.changes_proof, self.edits))
-        head = HEAD.replace("CHANGED", str(changed)).replace("EDITS", str(len(self.edits))).replace("SHOWN", str(self.counts()[0]))
+        changed = [it for it in self.edits if changes_proof(it.path)]
+        head = HEAD.replace("CHANGED", str(len(changed))).replace("HELD", str(sum(map(self.keeps_right, changed)))).replace("EDITS", str(len(self.edits)))
         out = [head.replace("TOTALS", "\n".join(self.totals()))]
         for title in dict.fromkeys(it for it in order if it in sections):
             out.append(f"- [{title}](#{anchor(title)}): {len(sections[title])}")
@@ -196,23 +197,24 @@ class Claims:
         return [head, *(f"| {self.clauses_of(call, names)} | {verdict} |" for call, (names, verdict) in rows.items())]
 
     def counts(self):
-        """How many clauses have an edit that a goal refuses, for how many of these such an edit leaves the proof as it is, and its
-        goal is one of the call's own contract and names no other clause, for how many none does, how many have such as only a written proof refuses, how many have refused
-        planted bodies alone, how many have none, and all."""
+        """How many clauses have an edit that a goal refuses, with whose proof the right body is proved; for how many of these such a goal
+        is one of the call's own contract and names no other clause, for how many none is; how many have other edits, refused planted
+        bodies alone, and none; and all."""
         unnamed, library = self.unnamed(), self.library()
         without = {call: len(names) for call, names in unnamed.items()}
         tried = sum(count for call, count in without.items() if self.verdict(call) not in SILENT)
-        strong = [it for it in self.edits if it.path in self.goals and kind_of(self.goals[it.path]) != PROOF]
+        strong = [it for it in self.edits if it.path in self.goals and kind_of(self.goals[it.path]) != PROOF and self.keeps_right(it)]
         shown = {*library} & {name for edit in strong for _, names in edit.claims for name in names}
-        best = {it for edit in strong if not self.changes_proof(edit) and kind_of(self.goals[edit.path]) == CONTRACT for _, names in edit.claims for it in names if is_of(self.goals[edit.path], it)}
+        best = {it for edit in strong if kind_of(self.goals[edit.path]) == CONTRACT for _, names in edit.claims for it in names if is_of(self.goals[edit.path], it)}
         named = len(library) - sum(without.values())
         best -= INNER
         return len(shown), len(shown & best), len(shown - best), named - len(shown), tried, sum(without.values()) - tried, len(library)
 
     def totals(self):
         """The table of these."""
-        names = ["with an edit that a goal of a contract, an invariant or a call's condition refuses", "of these, by an edit that leaves the proof as it is, at a goal of the call's own contract that names no other clause", "of these, only by edits that change the proof too, or at another goal"]
-        names += ["with edits that only a written proof refuses"]
+        names = ["with an edit that a goal of a contract, an invariant or a call's condition refuses, and with whose proof the right body is proved",
+                 "of these, at a goal of the call's own contract that names no other clause", "of these, only at another goal"]
+        names += ["with other edits, which only a written proof refuses, or with whose proof the right body isn't proved"]
         names += [f"[without an edit](#{anchor(WITHOUT)}), but of a call of which the kit's `rt plant` had a wrong body refused, by whichever clause", "with none of these", "all"]
         yield "| The library's clauses | |\n|---|---|"
         yield from (f"| {what} | {count} |" for what, count in zip(names, self.counts()))
@@ -220,6 +222,6 @@ class Claims:
     def wrong_of_readme(self):
         """What is amiss in the README's sentence about these."""
         shown, plain, _, written, planted, untried, library = self.counts()
-        wanted = (f"The library has {library} clauses. For {shown} of them a wrong body was refused that was made for the clause. For {plain} of these the evidence is strongest: "
-                  f"the proof was left as it is, and the refused goal is of the call's own contract and names no other clause. For {written + planted} others it is weaker, and for {untried} there is none.")
+        wanted = (f"The library has {library} clauses. For {shown} of them a wrong body was refused that was made for the clause, and the right body is proved with the same proof. "
+                  f"For {plain} of these the evidence is strongest: the refused goal is of the call's own contract and names no other clause. For {written + planted} others it is weaker, and for {untried} there is none.")
         return [] if wanted in read("README.md") else [f"README.md doesn't say: {wanted}"]
