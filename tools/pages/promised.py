@@ -10,6 +10,8 @@ from pages.vocabulary import groups_of
 
 LAWS = "crates/micromap/LAWS.md"
 FOLDERS = ("crates/micromap_core/proofs/Laws", "crates/micromap/proofs/Laws")
+# The files that most callers want, in the order of the page. The others follow.
+FIRST = "MapLaws ProbedLaws SetLaws LoopLaws SetLoopLaws ChainLaws CountLaws TextLaws SetTextLaws ComparisonLaws".split()
 WIDTH = 110
 COMMENT = r"(?:^ *--.*\n)+"
 MODULE = r"^ *module _ .*\n(?:^ +[({].*\n)*"
@@ -20,7 +22,7 @@ INTRO = """# The laws of micromap
 Each law below is proved. From the tag `v0.3.0-1` on it keeps its name and its statement. The first line of a block is the
 module that has its laws. The rulesets of `micromap::proofs::Rules` have those that a search needs, so most callers name
 no law; [PROVING](PROVING.md) says when one is named. A line `module _` has the arguments that come first in each law
-that is indented below it. Leave out arguments in braces: the checker finds them. The name of a law about a change has the reader first and then the change: `length_take_out` is the length after a removal. [API](API.md) explains the words of the calls, and `rt lemma WORD` prints the definition of any other. `rt lemma NAME` prints a law too, and
+that is indented below it. Leave out arguments in braces: the checker finds them. The name of a law about a change has first the word that reads, and then that of the change: `length_take_out` is the length after a removal. [API](API.md) explains the words of the calls, and `rt lemma WORD` prints the definition of any other. `rt lemma NAME` prints a law too, and
 the statements of those that serve a search alone, which stand here by name. `Where x P` is `P`, marked so that
 a search finds it where it sees `x`. A proof by hand takes `.1` of it.
 """
@@ -111,7 +113,8 @@ def section(path):
 
 def promised():
     """The page."""
-    paths = [it for folder in FOLDERS for it in sorted(glob.glob(f"{folder}/*.antt"))]
+    named = {os.path.basename(it).removesuffix(".antt"): it for folder in FOLDERS for it in sorted(glob.glob(f"{folder}/*.antt"))}
+    paths = [named[it] for it in dict.fromkeys([*FIRST, *named])]
     titles = [re.match(r"## (.+)", it)[1] for it in map(section, paths)]
     links = ", ".join(f"[{it}](#{anchor(it)})" for it in titles)
     return "\n\n".join([INTRO.strip(), f"Sections: {links}.", *map(section, paths)]) + "\n"
