@@ -19,7 +19,7 @@ EXAMPLES = {
     "Set: remove": "micromap_uses/src/permissions.rt: pub fn revoke",
     "Set: iterate": "micromap_callers/src/counting.rt: pub fn count_known",
     "Set: compare": "micromap_uses/src/permissions.rt: pub fn may_the_same",
-    "Owned texts": "micromap_callers/src/texts.rt: pub fn set",
+    "Owned texts": "micromap_callers/src/texts.rt: pub fn set_age",
     "Probes": "micromap_callers/src/keys.rt: impl Probe<Guest> for Number",
     "Streams": "micromap_whole_tests/src/tests/streams.rt: fn in_capacity",
     "JSON": "micromap_whole_tests/src/tests/json.rt: fn rewritten",

@@ -16,6 +16,7 @@ def dead_links(document, top="."):
         path, _, at = where.partition("#")
         path = os.path.normpath(os.path.join(top, os.path.dirname(document), path) if path else f"{top}/{document}")
         is_page = path.endswith(".md") and os.path.exists(path)
-        anchors = re.findall(r"^#+ (.*)$", prose(read(path)), re.M) if is_page else []
-        if not re.match(r"\w+:", where) and (not os.path.exists(path) or (at and at not in map(anchor, anchors))):
+        text = prose(read(path)) if is_page else ""
+        anchors = {*map(anchor, re.findall(r"^#+ (.*)$", text, re.M)), *re.findall(r'^<a id="(.*?)"></a>$', text, re.M)}
+        if not re.match(r"\w+:", where) and (not os.path.exists(path) or (at and at not in anchors)):
             yield f"{document}: the link {where} leads nowhere"

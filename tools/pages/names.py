@@ -129,10 +129,20 @@ def has_family_row(name, families, now):
     return bool(told) and (name in now or any("gone" in it for it in told) or any(it in now for it in homes))
 
 
+def wrongly_gone(columns, recorded, now):
+    """The names of laws that a row says are gone, though they are where they were."""
+    there = {it.rpartition(".")[2]: it for it in recorded if it.startswith("law ") and "ruleset" not in it and it in now}
+    for first, second in columns:
+        named = re.findall(r"`([\w'-]+)`", first) if second.strip().startswith("gone") else ()
+        yield from (f"{CHANGES}: a row says that the {there[it]} is gone" for it in named if it in there)
+
+
 def moved_names(sources):
     """Which recorded names are gone or say something else, and have no row in CHANGELOG.md."""
-    columns = re.findall(r"^\|((?:\\\||[^|\n])*)\|((?:\\\||[^|\n])*)\|", read(CHANGES), re.M)
-    rows = [first for first, _ in columns]
+    columns, rows = [], []
+    for heads, table in re.findall(r"^((?:Of .*\n\n)?)((?:\|.*\n)+)", read(CHANGES), re.M):
+        columns += (those := re.findall(r"^\|((?:\\\||[^|\n])*)\|((?:\\\||[^|\n])*)\|", table, re.M))
+        rows += [f"{first} {heads}" for first, _ in those]  # with what the table is of
     families = [(first.partition("each law of ")[2], second) for first, second in columns if "each law of " in first]
     recorded = recorded_names()
     now = names(sources)
@@ -143,4 +153,4 @@ def moved_names(sources):
     without = [it for it in moved if not has_row(it, rows) and not has_family_row(it, families, now)]
     print(f"{CHANGES}: of {len(recorded)} names that callers rest on, {len(moved)} are gone or say something else")
     said = {True: "says something else", False: "is gone"}
-    return [f"{CHANGES} has no row for the {it}, which {said[it in now]}" for it in without]
+    return [*(f"{CHANGES} has no row for the {it}, which {said[it in now]}" for it in without), *wrongly_gone(columns, recorded, now)]

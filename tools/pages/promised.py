@@ -3,7 +3,7 @@ import glob
 import os
 import re
 
-from pages.laws import parts_of
+from pages.laws import PROVING, parts_of
 from pages.names import unbroken
 from pages.sources import anchor, read
 from pages.vocabulary import groups_of
@@ -15,16 +15,27 @@ FIRST = "MapLaws ProbedLaws SetLaws LoopLaws SetLoopLaws ChainLaws CountLaws Tex
 WIDTH = 110
 COMMENT = r"(?:^ *--.*\n)+"
 MODULE = r"^ *module _ .*\n(?:^ +[({].*\n)*"
-SEARCHED = r"pub (each_[\w'-]+) :"  # a law that a search alone uses
 LAW = r"^(?P<within> *)pub [\w'≢-]+ :.*\n(?:^(?P=within) +\S.*\n)*"
+RULES = "crates/micromap/proofs/Rules.antt"
+NAMED = ("caller", "loops", "comparison", "signed")  # the rulesets that callers name
+# The lemmas of other files that PROVING.md promises.
+OTHERS = {
+    "crates/micromap_core/proofs/MapLemmas.antt": ["lookup-set", "length-remove_entry"],
+    "crates/micromap_core/proofs/ClosureLemmas.antt": ["retained_keys"],
+    "crates/micromap/proofs/ItemLemmas.antt": ["keys_put_item", "keys_put_all_items"],
+    "crates/micromap/proofs/OperationLaws.antt": ["same_members"],
+    "crates/micromap/proofs/SetStreamLemmas.antt": ["items_read"],
+}
 INTRO = """# The laws of micromap
 
-Each law below is proved. From the tag `v0.3.0-1` on it keeps its name and its statement. The first line of a block is the
-module that has its laws. The rulesets of `micromap::proofs::Rules` have those that a search needs, so most callers name
-no law; [PROVING](PROVING.md) says when one is named. A line `module _` has the arguments that come first in each law
-that is indented below it. Leave out arguments in braces: the checker finds them. The name of a law about a change has first the word that reads, and then that of the change: `length_take_out` is the length after a removal. [API](API.md) explains the words of the calls, and `rt lemma WORD` prints the definition of any other. `rt lemma NAME` prints a law too, and
-the statements of those that serve a search alone, which stand here by name. `Where x P` is `P`, marked so that
-a search finds it where it sees `x`. A proof by hand takes `.1` of it.
+Each law below is proved. From the tag `v0.3.0-1` on it keeps its name and its statement. Most callers name no law, since [rulesets](PROVING.md#rulesets) have those that a search needs. The end of a block says which of its laws \
+aren't in `caller`. [CALLING](CALLING.md#when-a-check-fails) says when to name one.
+
+- The first line of a block has the path by which a proof file imports its laws, and the path by which `using(..)` names them.
+- A line `module _` has the arguments that come first in each law that is indented below it. Leave out arguments in braces: the checker finds them.
+- The name of a law about a change has first the word that reads, and then that of the change: `length_take_out` is the length after a removal. In names `pair` stands for `lookup_entry`, `any` for `list_any`, and `unique` for `IsUnique` or `IsDistinct`.
+- `Where x P` is `P`, marked so that a search finds it where it sees `x`. A proof by hand takes `.1` of it. A law `each_..` says several things at once, or one thing of every key or item. Most of these serve a search alone, and stand here by name: `rt lemma NAME` prints one.
+- [API](API.md) explains the words of the calls, and `rt lemma WORD` prints the definition of any other.
 """
 
 
@@ -37,6 +48,7 @@ def first_comment(text):
     """The comment that a file begins with, without its marks."""
     lines = re.match(COMMENT, text, re.M)[0].rstrip("\n").split("\n")
     words = " ".join(it.removeprefix("--").strip() for it in lines).removeprefix("For callers: ")
+    words = re.sub(r" The rulesets? [^.]* of `Rules` ha[^.]*\.", "", words)  # the end of a block says it of each law
     return words[0].upper() + words[1:]
 
 
@@ -57,33 +69,32 @@ def broken(indent, text):
 
 def wrapped(text, width):
     """A text in lines of about a width, each but the first of which begins with `×` or `→`."""
-    lines = [""]
-    for part in re.split(r" (?=[×→] )", text):
+    lines, depth, parts = [""], 0, [""]
+    for it in re.split(r"([(){}]| (?=[×→] ))", text):
+        depth += (it in ("(", "{")) - (it in (")", "}"))
+        parts = [*parts, ""] if it == " " and depth <= 1 else [*parts[:-1], parts[-1] + it]
+    for part in parts:
         joined = f"{lines[-1]} {part}".strip()
         lines = [*lines[:-1], joined] if len(joined) <= width or not lines[-1] else [*lines, part]
     return lines
 
 
-def laws_in(text):
-    """The statements of a file's public laws, with the arguments that they share and the comments before them."""
-    lines, comment, searched = [], "", re.findall(rf"^ *{SEARCHED}", text, re.M)
+def laws_in(text, wanted):
+    """The statements of some of a file's public laws, with the arguments that they share and the comments before them."""
+    lines, comment, depth, gap = [], "", 0, False
     after = text[re.match(COMMENT, text, re.M).end() :]
     for block in (it[0] for it in re.finditer(f"{COMMENT}|{MODULE}|{LAW}|^.+\n|^\n", after, re.M)):
         first = block.lstrip(" ")
         indent, flat = block[: len(block) - len(first)], unbroken(block)
         if first.startswith("--"):
             comment = block.rstrip("\n")
-        elif first.startswith("module _") and not indent and lines:
-            lines += ["", *[comment] * bool(comment), broken(indent, flat)]
-            comment = ""
-        elif re.match(SEARCHED, first):
-            comment = ""
-        elif first.startswith(("module _", "pub ")) and not first.startswith(("pub ruleset", "pub record", "pub abbrev")):
-            lines += [comment] * bool(comment) + [broken(indent, flat.removeprefix("pub "))]
-            comment = ""
+        elif first.startswith("module _") or re.match(r"pub ([\w'≢-]+) :", first) and re.match(r"pub (\S+)", first)[1] in wanted:
+            is_apart = lines and (gap and not comment or not indent and (depth or first.startswith("module _")))
+            lines += [""] * bool(is_apart) + [comment] * bool(comment) + [broken(indent, flat.removeprefix("pub "))]
+            comment, depth, gap = "", len(indent) + first.startswith("module _"), False
         elif block.strip():
-            comment = ""
-    return "\n".join([*lines, *["", "-- for a search alone", ", ".join(searched)] * bool(searched)])
+            gap, comment = gap or bool(comment), ""  # of a lemma that isn't public
+    return "\n".join(lines)
 
 
 def shared_lines(text):
@@ -100,21 +111,57 @@ def shared_lines(text):
         kept.append(line)
     if kept != lines:  # a line around those that are gone may have none left either
         return shared_lines("\n".join(kept))
-    without = re.sub(r"(?:^ *--(?! for a search alone).*\n)+(?=\n|-- for)", "", "\n".join(kept), flags=re.M)
+    without = re.sub(r"(?:^ *--.*\n)+(?=\n)", "", "\n".join(kept), flags=re.M)
     return re.sub(r"\n{3,}", "\n\n", without)
+
+
+def rulesets():
+    """The names in each ruleset, those of the rulesets in it among them."""
+    paths = [RULES, *(it for folder in FOLDERS for it in glob.glob(f"{folder}/*.antt"))]
+    found = {}
+    for name, names in re.findall(r"^pub ruleset (\w+) = \(([^)]*)\)", "\n".join(map(read, paths)), re.M):
+        found[name] = {it.strip() for it in names.split(",") if it.strip()}
+    while any(names & {*found} - {it for it in names if found.get(it, set()) <= names} for names in found.values()):
+        found = {name: names.union(*(found[it] for it in names & {*found})) for name, names in found.items()}
+    return found
+
+
+def elsewhere(laws, rules):
+    """What a block says of its laws that the ruleset `caller` hasn't."""
+    left = [it for it in laws if it not in rules["caller"]]
+    for name in NAMED[1:]:
+        here = [it for it in left if it in rules[name]]
+        left = [it for it in left if it not in here]
+        yield from [f"-- in `{name}`, not in `caller`: {', '.join(here)}"] * bool(here)
+    yield from [f"-- in none of the four rulesets: {', '.join(left)}"] * bool(left)
 
 
 def section(path):
     """The section of a file."""
-    text, module = read(path), os.path.basename(path).removesuffix(".antt")
-    block = f"-- Rattle.{path.split('/')[1]}.proofs.Laws.{module}\n{shared_lines(laws_in(text))}"
-    return f"## {title_of(path)}\n\n{first_comment(text)}\n\n```text\n{block}\n```"
+    text, module, page = read(path), os.path.basename(path).removesuffix(".antt"), read(PROVING)
+    names = re.findall(r"^ *pub ([\w'≢-]+) :", text, re.M)
+    searched = [it for it in names if it.startswith("each_") and f"`{it}`" not in page]
+    laws = shared_lines(laws_in(text, {*names} - {*searched})).strip("\n")
+    notes = [*elsewhere([it for it in names if it not in searched], rulesets())]
+    notes = [f"-- for the search alone: {', '.join(searched)}"] * bool(searched) + notes
+    paths = f"-- Rattle.micromap.proofs.Laws.{module}, in using(..) {path.split('/')[1]}::proofs::Laws::{module}"
+    return f"## {title_of(path)}\n\n{first_comment(text)}\n\n```text\n" + "\n".join([paths, laws, *[""] * bool(notes), *notes]) + "\n```"
+
+
+def others():
+    """The section of the promised lemmas of other files."""
+    blocks = []
+    for path, names in OTHERS.items():
+        home = path.removeprefix("crates/").removesuffix(".antt").replace("/", ".")
+        notes = "".join(f"\n{it}" for it in elsewhere(names, rulesets()))
+        blocks.append(f"-- Rattle.{home}, in using(..) {home.replace('.', '::')}\n{shared_lines(laws_in(read(path), names)).strip()}{notes}")
+    return "## Others\n\nLemmas of other files, whose names and statements are kept too.\n\n```text\n" + "\n\n".join(blocks) + "\n```"
 
 
 def promised():
     """The page."""
     named = {os.path.basename(it).removesuffix(".antt"): it for folder in FOLDERS for it in sorted(glob.glob(f"{folder}/*.antt"))}
-    paths = [named[it] for it in dict.fromkeys([*FIRST, *named])]
-    titles = [re.match(r"## (.+)", it)[1] for it in map(section, paths)]
+    sections = [*(section(named[it]) for it in dict.fromkeys([*FIRST, *named])), others()]
+    titles = [re.match(r"## (.+)", it)[1] for it in sections]
     links = ", ".join(f"[{it}](#{anchor(it)})" for it in titles)
-    return "\n\n".join([INTRO.strip(), f"Sections: {links}.", *map(section, paths)]) + "\n"
+    return "\n\n".join([INTRO.strip(), f"Sections: {links}.", *sections]) + "\n"

@@ -165,15 +165,13 @@ def choice_table(times):
 
 
 def found_table(times, part):
-    """The README's table of what to take, with the rows that it has, its rows of times, and what the mean of all workloads
-    over the Rust crate is."""
+    """The README's table of what to take, with the rows that it has and its rows of times."""
     yield from (line for line in part.splitlines() if line.startswith("|") and not line.startswith(f"| {FOUND_WORDS}"))
     cells = times["numbers", FOUND]
     for at in FOUND_CAPACITIES:
         nanoseconds, ratios = cells[at]
         yield row([f"{FOUND_WORDS} {at} numbers in", *(f"{brief(nanoseconds * ratios[rival][0])}{ratios[rival][1]} ns" for rival in [0, *CHOICES])])
-    every = mean([one for it in times.values() for one in own_of(it)])[0]
-    yield f"\nIn the geometric mean of {len(times)} workloads, this library takes {every:.2f} times the Rust crate's time. A `~` marks a figure that [isn't steady](docs/SPEED.md#how-it-was-measured)."
+    yield "\nA `~` marks a figure that [isn't steady](docs/SPEED.md#how-it-was-measured)."
 
 
 def alone_table(alone):
@@ -239,7 +237,7 @@ def causes_table(times, part):
     for name, cause in sorted(causes.items(), key=lambda it: -mean(over_layout(cells[it[0]]))[0]):
         yield row([name, *(worst(cells[name], of(cells[name])) for of in (own_of, over_layout)), cause])
     rest = [mean(over_layout(it))[0] for name, it in cells.items() if name not in causes]
-    yield f"\nAll others take {min(rest):.2f} to {max(rest):.2f} of the layout's time."
+    yield f"\nAll others take {min(rest):.2f} to {max(rest):.2f} times the layout's time."
     for words, without in ("over all workloads", []), (f"without `{'` and `'.join(NEW_MAPS)}`", NEW_MAPS):
         kept = [it for (_, workload), it in times.items() if workload not in without]
         own, layout = (mean([one for it in kept for one in of(it)])[0] for of in (own_of, over_layout))

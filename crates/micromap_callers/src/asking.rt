@@ -25,7 +25,7 @@ pub fn any_value<const N: usize>(pairs: &Map<u8, u32, N>, x: u32) -> bool
 
 /// Returns whether all items of a list are in a set.
 /// That all are keys of a map goes the same way, by `map.contains_key(x)`. The capacity is generic, so the closure says
-/// what it returns. If it is a number or a constant, the closure needs no clause. Then
+/// what it returns. If that is a number or a constant, the closure needs no clause. Then
 /// `a.iter().all(|(k, _)| b.contains_key(k))` says whether all keys of a map are in another, and is
 /// `list_all (λ p. has nat_eq b.now p.0) a.now`. That no key is there goes the same way, by `!b.contains_key(k)`, and
 /// that one is, by `any`. Whether all values are items of a set goes by `a.values()` and `set.contains(v)`.
@@ -42,7 +42,7 @@ pub fn all_stored<const N: usize>(set: &Set<u8, N>, list: &[u8]) -> bool
 
 /// Returns whether a map's values are those of a list, in order.
 /// Whether two maps have the same keys in one order goes the same way, by `first.keys().eq(second.keys())`. As far as
-/// both maps have some, `a.values().zip(b.values()).all(|(x, y)| *x == *y)` compares their values index by index. It is
+/// both maps go, `a.values().zip(b.values()).all(|(x, y)| *x == *y)` compares their values index by index. It is
 /// `list_all (λ p. p.0 == p.1) (zip (values_of a.now) (values_of b.now))`.
 pub fn has_values<const N: usize>(pairs: &Map<u8, u32, N>, list: &[u32]) -> bool
     ensures { result ≡ pointwise nat_eq (values_of pairs.now) list.now }

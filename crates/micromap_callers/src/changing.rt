@@ -1,19 +1,16 @@
 //! Changing one in place.
 #![tactic(auto, using(micromap::proofs::Rules::caller))]
 
-ghost use Rattle.std.specs.Prelude.{◌≡◌, ◌&&◌, ◌*ℤ◌, ◌+ℤ◌, ◌*◌, ◌+◌, ◌-◌, ◌<◌, ◌^◌, [], IfSome, IsFalse, IsTrue, None, Some, drop, false, filter, if◌then◌else◌, int_lt, length, map, min, nat_eq, nat_lt, not, pos, slice_get, sum, sum_by, true, unwrap_or};
-ghost use Rattle.std.specs.Int.{saturate_signed, w64};
+ghost use Rattle.std.specs.Prelude.{◌≡◌, ◌&&◌, ◌*◌, ◌+◌, ◌-◌, ◌<◌, ◌^◌, [], IfSome, IsFalse, IsTrue, None, Some, drop, false, filter, if◌then◌else◌, length, map, min, nat_eq, nat_lt, not, slice_get, sum, sum_by, true, unwrap_or};
 ghost use Rattle.std.specs.List.{list_all};
 ghost use Rattle.std.specs.Map.{values_of};
-ghost use Rattle.std.specs.Option.{is_some, option_and_then, option_map_or};
+ghost use Rattle.std.specs.Option.{option_map_or};
 ghost use Rattle.std.specs.Set.{distinct_count, is_member};
 ghost use Rattle.micromap.specs.Closures.{updated_disjoint};
 ghost use Rattle.micromap.specs.Items.{item_fits, put_item};
 ghost use Rattle.micromap.specs.Memory.{IntoIterFits};
 ghost use Rattle.micromap.specs.Pairs.{at, fits, has, has_room, put, put_if_fits, take_out};
-ghost use Rattle.micromap_callers.specs.Totals.{checked_difference, checked_sum, credited, debited};
 
-use crate::counting::add_signed;
 use micromap::{Map, Set};
 
 /// Keeps the pairs that pass.
@@ -55,109 +52,19 @@ pub fn scale<const N: usize>(amounts: &mut Map<u8, u32, N>, factor: u32) -> bool
     true
 }
 
-/// Multiplies all values of a signed type, where a product that doesn't fit stays at the end of the range.
-/// The capacity is a number or a constant.
-#[tactic(auto, using(micromap::proofs::Rules::caller, micromap::proofs::Rules::signed))]
-pub fn scale_signed(amounts: &mut Map<u8, i64, 16>, factor: i64)
-    ensures { amounts.new ≡ map (λ p. (p.0, saturate_signed w64 (p.1 *ℤ factor))) amounts.old }
+/// Adds one to a stored value below a limit, or changes nothing.
+/// It returns whether it did.
+pub fn raise_below<const N: usize>(levels: &mut Map<u8, u8, N>, key: u8, limit: u8) -> bool
+    ensures answer { result ≡ option_map_or (λ v. nat_lt v limit) (at nat_eq levels.old key) false }
+    ensures levels { levels.new ≡ (if result then put nat_eq levels.old key (unwrap_or (at nat_eq levels.old key) 0 + 1) else levels.old) }
 {
-    amounts.update_all(|_, amount| *amount = amount.saturating_mul(factor));
-}
-
-/// Adds a signed amount to the value of a key, where a sum that doesn't fit stays at the end of the range.
-/// A new key begins at 0. It returns `false`, and nothing changes, if the key doesn't fit.
-#[tactic(auto, using(micromap::proofs::Rules::caller, micromap::proofs::Rules::signed))]
-pub fn post<const N: usize>(balances: &mut Map<u8, i64, N>, account: u8, amount: i64) -> bool
-    ensures answer { result ≡ fits nat_eq N balances.old account }
-    ensures balances { balances.new ≡ put_if_fits nat_eq N balances.old account (saturate_signed w64 (unwrap_or (at nat_eq balances.old account) (pos 0) +ℤ amount)) }
-{
-    if !balances.fits(&account) {
-        return false;
+    match levels.get_mut(&key) {
+        Some(level) if *level < limit => {
+            *level += 1;
+            true
+        }
+        _ => false,
     }
-    let balance = balances.entry(account).or_insert(0);
-    *balance = balance.saturating_add(amount);
-    true
-}
-
-/// Adds a signed amount to a stored value, or returns `None` if the key is missing or the sum doesn't fit.
-pub fn post_checked<const N: usize>(
-    balances: &mut Map<u8, i64, N>,
-    account: u8,
-    amount: i64,
-) -> Option<i64>
-    ensures answer { result ≡ option_and_then (λ b. checked_sum b amount) (at nat_eq balances.old account) }
-    ensures balances { balances.new ≡ option_map_or (λ sum. put nat_eq balances.old account sum) (option_and_then (λ b. checked_sum b amount) (at nat_eq balances.old account)) balances.old }
-{
-    let sum = add_signed(*balances.get(&account)?, amount)?;
-    balances.insert(account, sum);
-    Some(sum)
-}
-
-// Subtracts two signed numbers, or returns `None` if the difference doesn't fit.
-#[tactic(auto, using(micromap::proofs::Rules::signed), unfolding(crate::specs::Totals::checked_difference))]
-fn subtract_signed(a: i64, b: i64) -> Option<i64>
-    ensures { result ≡ checked_difference a b }
-{
-    a.checked_sub(b)
-}
-
-// Takes an amount from a stored balance, and returns whether it is there and the difference fits.
-fn debit<const N: usize>(balances: &mut Map<u8, i64, N>, account: u8, amount: i64) -> bool
-    ensures answer { result ≡ is_some (debited balances.old account amount) }
-    ensures balances { balances.new ≡ unwrap_or (debited balances.old account amount) balances.old }
-{
-    let Some(balance) = balances.get(&account) else {
-        return false;
-    };
-    let Some(difference) = subtract_signed(*balance, amount) else {
-        return false;
-    };
-    balances.insert(account, difference);
-    true
-}
-
-// Adds an amount to a stored balance, and returns whether it is there and the sum fits.
-fn credit<const N: usize>(balances: &mut Map<u8, i64, N>, account: u8, amount: i64) -> bool
-    ensures answer { result ≡ is_some (credited balances.old account amount) }
-    ensures balances { balances.new ≡ unwrap_or (credited balances.old account amount) balances.old }
-{
-    let Some(balance) = balances.get(&account) else {
-        return false;
-    };
-    let Some(sum) = add_signed(*balance, amount) else {
-        return false;
-    };
-    balances.insert(account, sum);
-    true
-}
-
-/// Moves a signed amount from one stored key to another, or changes nothing.
-/// It returns `false` if a key is missing, or a balance doesn't fit then. The two changes are made on a copy. In one
-/// function the search doesn't find both.
-pub fn transfer<const N: usize>(
-    balances: &mut Map<u8, i64, N>,
-    from: u8,
-    to: u8,
-    amount: i64,
-) -> bool
-    ensures answer { result ≡ is_some (option_and_then (λ m. credited m to amount) (debited balances.old from amount)) }
-    ensures balances { balances.new ≡ unwrap_or (option_and_then (λ m. credited m to amount) (debited balances.old from amount)) balances.old }
-{
-    let mut copy = balances.copied();
-    if !debit(&mut copy, from, amount) || !credit(&mut copy, to, amount) {
-        return false;
-    }
-    *balances = copy;
-    true
-}
-
-/// Changes the signed values that pass a test.
-/// The capacity is a number or a constant. With an `if` without `else` in the closure the search finds no proof.
-#[tactic(auto, using(micromap::proofs::Rules::caller, micromap::proofs::Rules::signed))]
-pub fn charge(balances: &mut Map<u8, i64, 16>, fee: i64)
-    ensures { balances.new ≡ map (λ p. (p.0, if int_lt p.1 (pos 0) then saturate_signed w64 (p.1 +ℤ fee) else p.1)) balances.old }
-{
-    balances.update_all(|_, b| *b = if *b < 0 { b.saturating_add(fee) } else { *b });
 }
 
 /// Puts an item on a path and takes it off again, which leaves the path as it was.

@@ -10,7 +10,6 @@ ghost use Rattle.micromap.specs.Operations.{union};
 ghost use Rattle.micromap.specs.Pairs.{has, put_if_fits};
 ghost use Rattle.micromap.specs.Print.{map_text};
 ghost use Rattle.micromap.specs.Same.{has_value};
-ghost use Rattle.micromap_callers.specs.Totals.{is_debt};
 
 use micromap::{Map, Overfull, Set};
 use std::alloc::{AllocError, Global};
@@ -117,8 +116,8 @@ pub fn changed<const N: usize, const M: usize>(
 
 /// Copies a map whose values are cloned, in a loop.
 /// The copy is the very same list. `plan.clone()` makes it in one call. It does so too where keys or items are owned
-/// texts, since a clone of a `TextBuf` is the same value. A loop that also changes each value into another type is
-/// as in `first_halves`.
+/// texts, since a clone of a `TextBuf` is the same value. A loop that also makes a value of another type of each is
+/// as in `sizes`.
 #[tactic(auto, using(micromap::proofs::Rules::loops))]
 pub fn copied<const N: usize, const M: usize>(
     plan: &Map<u8, Set<u8, M>, N>,
@@ -130,6 +129,19 @@ pub fn copied<const N: usize, const M: usize>(
         copy.insert(*name, courses.clone()?);
     }
     Ok(copy)
+}
+
+/// Makes a map of the same keys with values of another type, in a loop.
+/// If the values are of the same type, `update_all` makes them in a copy, as in `above`.
+#[tactic(auto, using(micromap::proofs::Rules::loops))]
+pub fn sizes<const N: usize, const M: usize>(groups: &Map<u8, Set<u16, M>, N>) -> Map<u8, usize, N>
+    ensures { result ≡ map (λ p. (p.0, length p.1)) groups.now }
+{
+    let mut sizes = Map::new();
+    for (group, members) in groups {
+        sizes.insert(*group, members.len());
+    }
+    sizes
 }
 
 /// Makes a map of the pairs of two maps.
@@ -160,29 +172,6 @@ pub fn keys_over<const N: usize>(map: &Map<u8, u8, N>, limit: u8) -> Set<u8, N>
     let mut keys = Set::new();
     for (key, value) in map {
         if *value > limit {
-            keys.insert(*key);
-        }
-    }
-    keys
-}
-
-// Returns whether a balance is below 0.
-#[tactic(auto, using(micromap::proofs::Rules::signed), unfolding(crate::specs::Totals::is_debt))]
-fn owes(balance: &i64) -> bool
-    ensures { result ≡ is_debt balance.now }
-{
-    *balance < 0
-}
-
-/// Makes a set of the keys whose signed value passes.
-/// The test is a function of its own, whose word a search doesn't unfold in the loop.
-#[tactic(auto, using(micromap::proofs::Rules::loops))]
-pub fn overdrawn<const N: usize>(balances: &Map<u8, i64, N>) -> Set<u8, N>
-    ensures { result ≡ keys_of (filter (λ p. is_debt p.1) balances.now) }
-{
-    let mut keys = Set::new();
-    for (key, balance) in balances {
-        if owes(balance) {
             keys.insert(*key);
         }
     }

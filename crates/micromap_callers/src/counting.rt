@@ -1,15 +1,13 @@
 //! Counting and adding up.
 #![tactic(auto, using(micromap::proofs::Rules::caller))]
 
-ghost use Rattle.std.specs.Prelude.{◌≡◌, ◌&&◌, ◌+ℤ◌, ◌+◌, ◌<◌, ◌^◌, ◌≤◌, ℕ, None, Option, Some, count_by, drop, fold, if◌then◌else◌, length, nat_eq, nat_lt, not, pos, sum, unwrap_or};
-ghost use Rattle.std.specs.Int.{saturate_signed, w64};
+ghost use Rattle.std.specs.Prelude.{◌≡◌, ◌&&◌, ◌+◌, ◌<◌, ◌^◌, ◌≤◌, ℕ, None, Option, Some, count_by, drop, fold, if◌then◌else◌, length, nat_eq, nat_lt, not, sum, unwrap_or};
 ghost use Rattle.std.specs.List.{zip};
 ghost use Rattle.std.specs.Map.{values_of};
 ghost use Rattle.std.specs.Option.{option_and_then};
 ghost use Rattle.std.specs.Set.{is_member};
 ghost use Rattle.micromap.specs.Operations.{union};
 ghost use Rattle.micromap.specs.Pairs.{at, has};
-ghost use Rattle.micromap_callers.specs.Totals.{checked_sum};
 
 use micromap::{Map, Set};
 
@@ -127,38 +125,6 @@ pub fn total_bounded<const N: usize>(pairs: &Map<u8, u32, N>) -> u64
 {
     let _content = pairs.len();
     total_wide(pairs)
-}
-
-/// Adds two signed numbers, or returns `None` if the sum doesn't fit.
-/// Callers of this function need neither the ruleset `signed` nor what the word unfolds to. A difference goes the same
-/// way, by `-ℤ` and `checked_sub`.
-#[tactic(auto, using(micromap::proofs::Rules::signed), unfolding(crate::specs::Totals::checked_sum))]
-pub fn add_signed(a: i64, b: i64) -> Option<i64>
-    ensures { result ≡ checked_sum a b }
-{
-    a.checked_add(b)
-}
-
-/// Adds up signed values, or returns `None` if a sum doesn't fit.
-pub fn checked_net<const N: usize>(amounts: &Map<u8, i64, N>) -> Option<i64>
-    ensures { result ≡ fold (λ total amount. option_and_then (λ t. checked_sum t amount) total) (Some (pos 0)) (values_of amounts.now) }
-{
-    amounts.values().fold(
-        Some(0),
-        |total: Option<i64>, amount| add_signed(total?, *amount),
-    )
-}
-
-/// Adds up signed values, where a sum that doesn't fit stays at the end of the range.
-/// The search doesn't find a `fold` that computes with signed numbers itself, so this is a loop.
-pub fn net<const N: usize>(amounts: &Map<u8, i64, N>) -> i64
-    ensures { result ≡ fold (λ total amount. saturate_signed w64 (total +ℤ amount)) (pos 0) (values_of amounts.now) }
-{
-    let mut total: i64 = 0;
-    for amount in amounts.values() {
-        total = total.saturating_add(*amount);
-    }
-    total
 }
 
 /// Adds up the members of an operation on two sets.

@@ -15,6 +15,7 @@ pub mod knowing;
 pub mod merging;
 pub mod nested;
 pub mod own_types;
+pub mod signed;
 pub mod strings;
 pub mod strs;
 pub mod texts;

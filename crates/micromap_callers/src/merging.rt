@@ -9,7 +9,7 @@ ghost use Rattle.std.specs.Vec.{vec_items};
 ghost use Rattle.micromap.specs.Build.{counts, counts_or_refuse, merged};
 ghost use Rattle.micromap.specs.Extend.{put_all_items};
 ghost use Rattle.micromap.specs.Pairs.{at, fits, put};
-ghost use Rattle.micromap_callers.specs.Totals.{balance_with, greater, saturated_sum, with_member};
+ghost use Rattle.micromap_callers.specs.Totals.{greater, saturated_sum, with_member};
 
 use micromap::{Map, Set};
 
@@ -141,56 +141,6 @@ pub fn add_map<const N: usize, const M: usize>(
         {
             return false;
         }
-    }
-    true
-}
-
-// Adds an amount to a balance, which is 0 if there is none.
-#[tactic(auto, using(micromap::proofs::Rules::signed), unfolding(crate::specs::Totals::balance_with))]
-fn added(balance: Option<i64>, amount: &i64) -> i64
-    ensures { result ≡ balance_with balance amount.now }
-{
-    balance.unwrap_or(0).saturating_add(*amount)
-}
-
-/// Adds the signed amounts of another map to the balances of a map.
-/// A balance stays at the end of the range. There would be more than `N` keys if it returns `false`.
-#[tactic(auto, using(micromap::proofs::Rules::caller, micromap::proofs::Rules::signed))]
-pub fn add_signed_map<const N: usize, const M: usize>(
-    balances: &mut Map<u8, i64, N>,
-    amounts: &Map<u8, i64, M>,
-) -> bool
-    ensures balances { OnTrue result (balances.new ≡ merged nat_eq balance_with balances.old amounts.now) }
-    ensures refused { IsFalse result → N < length (merged nat_eq balance_with balances.old amounts.now) }
-{
-    for (account, amount) in amounts {
-        if !balances.fits(account) {
-            let _content = balances.len();
-            return false;
-        }
-        let balance = added(balances.get(account).copied(), amount);
-        balances.insert(*account, balance);
-    }
-    true
-}
-
-/// Adds each signed amount of a list to the balance of its key.
-/// A balance stays at the end of the range. There would be more than `N` keys if it returns `false`.
-#[tactic(auto, using(micromap::proofs::Rules::caller, micromap::proofs::Rules::signed))]
-pub fn add_signed_list<const N: usize>(
-    balances: &mut Map<u8, i64, N>,
-    amounts: &[(u8, i64)],
-) -> bool
-    ensures balances { OnTrue result (balances.new ≡ merged nat_eq balance_with balances.old amounts.now) }
-    ensures refused { IsFalse result → N < length (merged nat_eq balance_with balances.old amounts.now) }
-{
-    let _content = balances.len();
-    for (account, amount) in amounts {
-        if !balances.fits(account) {
-            return false;
-        }
-        let balance = added(balances.get(account).copied(), amount);
-        balances.insert(*account, balance);
     }
     true
 }

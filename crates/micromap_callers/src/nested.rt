@@ -1,7 +1,7 @@
 //! Sets as the values of a map.
 #![tactic(auto, using(micromap::proofs::Rules::caller))]
 
-ghost use Rattle.std.specs.Prelude.{◌≡◌, ◌&&◌, [], ℕ, List, false, filter, fold, if◌then◌else◌, length, map, nat_eq, nat_le, nat_lt, not, unwrap_or};
+ghost use Rattle.std.specs.Prelude.{◌≡◌, ◌&&◌, [], ℕ, IfSome, IsNone, List, false, filter, fold, if◌then◌else◌, length, map, nat_eq, nat_le, nat_lt, not, true, unwrap_or};
 ghost use Rattle.std.specs.List.{list_all};
 ghost use Rattle.std.specs.Map.{values_of};
 ghost use Rattle.std.specs.Option.{option_map_or};
@@ -9,7 +9,9 @@ ghost use Rattle.std.specs.Set.{is_member};
 ghost use Rattle.micromap.specs.Extend.{put_all_items};
 ghost use Rattle.micromap.specs.Items.{item_fits, put_item_if_fits, take_item};
 ghost use Rattle.micromap.specs.Pairs.{at, has, put, take_out};
+ghost use Rattle.micromap_callers.specs.Graphs.{is_closed};
 
+use crate::finding::first_unmet;
 use micromap::{Map, Set};
 
 /// Inserts an item into the set of a key, if it fits.
@@ -159,4 +161,59 @@ pub fn have_conflict(groups: &Map<u8, Set<u8, 8>, 16>, group: u8, other: u8) -> 
     let none = Set::new();
     let others = groups.get(&other).unwrap_or(&none);
     !groups.get(&group).unwrap_or(&none).is_disjoint(others)
+}
+
+// Finds a target that isn't in a set.
+#[tactic(auto, using(micromap::proofs::Rules::caller, crate::proofs::MemberLaws::member_passes))]
+fn unmet<const M: usize>(targets: &Set<u8, 8>, met: &Set<u8, M>) -> Option<u8>
+    ensures none { IsNone result → list_all (is_member nat_eq met.now) targets.now ≡ true }
+    ensures new { IfSome result (λ x. is_member nat_eq met.now x ≡ false) }
+    ensures within { IfSome result (λ x. (s : List ℕ) → list_all (is_member nat_eq s) targets.now ≡ true → is_member nat_eq s x ≡ true) }
+{
+    first_unmet(targets, met)
+}
+
+// Finds a node that isn't in a set, though an edge leads to it from one that is.
+#[tactic(auto, using(micromap::proofs::Rules::caller, crate::proofs::MemberLaws::member_passes))]
+fn next_node<const N: usize, const M: usize>(
+    graph: &Map<u8, Set<u8, 8>, N>,
+    met: &Set<u8, M>,
+) -> Option<u8>
+    ensures closed { IsNone result → is_closed graph.now met.now ≡ true }
+    ensures new { IfSome result (λ x. is_member nat_eq met.now x ≡ false) }
+    ensures within { IfSome result (λ x. (s : List ℕ) → is_closed graph.now s ≡ true → list_all (is_member nat_eq s) met.now ≡ true → is_member nat_eq s x ≡ true) }
+{
+    for (node, targets) in graph {
+        if met.contains(node) {
+            if let Some(target) = unmet(targets, met) {
+                return Some(target);
+            }
+        }
+    }
+    None
+}
+
+/// Makes a set of the nodes of a graph that are reached from one.
+/// It is the least set that has this node, and with each node all those to which its edges lead. It returns `None` if
+/// there are more than `M`.
+pub fn reached_from<const N: usize, const M: usize>(
+    graph: &Map<u8, Set<u8, 8>, N>,
+    start: u8,
+) -> Option<Set<u8, M>>
+    ensures start { IfSome result (λ met. is_member nat_eq met start ≡ true) }
+    ensures closed { IfSome result (λ met. is_closed graph.now met ≡ true) }
+    ensures least { IfSome result (λ met. (s : List ℕ) → is_member nat_eq s start ≡ true → is_closed graph.now s ≡ true → list_all (is_member nat_eq s) met ≡ true) }
+{
+    let mut met: Set<u8, M> = Set::new();
+    if !met.fits(&start) {
+        return None;
+    }
+    met.insert(start);
+    while let Some(node) = next_node(graph, &met) {
+        if !met.fits(&node) {
+            return None;
+        }
+        met.insert(node);
+    }
+    Some(met)
 }

@@ -1,7 +1,7 @@
 //! Enums and structs with a derived `==` as values or keys.
 #![tactic(auto, using(micromap::proofs::Rules::caller))]
 
-ghost use Rattle.std.specs.Prelude.{◌≡◌, ◌↔◌, IfSome, IsFalse, IsNone, IsTrue, Some, nat_eq};
+ghost use Rattle.std.specs.Prelude.{◌≡◌, ◌↔◌, IfSome, IsTrue, None, Some, if◌then◌else◌, nat_eq};
 ghost use Rattle.std.specs.Bool.{OnTrue};
 ghost use Rattle.std.specs.List.{list_any};
 ghost use Rattle.std.specs.Map.{lookup, values_of};
@@ -60,13 +60,13 @@ pub fn user_with<const N: usize>(
 }
 
 /// Puts a value at a key that is a struct, if it fits.
-/// It returns `None` exactly if it doesn't fit.
+/// It returns the value, or `None` if it doesn't fit.
 pub fn place<const N: usize>(
     board: &mut Map<Square, char, N>,
     square: Square,
     piece: char,
 ) -> Option<char>
-    ensures answer { IsNone result ↔ IsFalse (fits ⟦<Square as PartialEq>⟧.eq N board.old square) }
+    ensures answer { result ≡ (if fits ⟦<Square as PartialEq>⟧.eq N board.old square then Some piece else None) }
     ensures board { board.new ≡ put_if_fits ⟦<Square as PartialEq>⟧.eq N board.old square piece }
 {
     board.checked_insert(square, piece)?;

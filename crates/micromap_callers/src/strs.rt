@@ -20,7 +20,7 @@ use std::alloc::{AllocError, Global};
 
 /// Sets the value at a `&str`, if it fits, and returns the old one.
 /// Of a `&Map`, `numbers.get_by(&Text(word)).copied()` reads it, and is `at bytes_eq (key_strs numbers.now) word.now`.
-pub fn set<'a, const N: usize>(
+pub fn set_number<'a, const N: usize>(
     numbers: &mut Map<&'a str, u8, N>,
     word: &'a str,
     number: u8,

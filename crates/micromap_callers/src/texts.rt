@@ -58,7 +58,7 @@ pub fn first_age<'a>(layers: &'a [Map<TextBuf, u32, 16>], name: &str) -> Option<
 /// Sets the value at a text, if it fits, and returns whether it did.
 ///
 /// The text is copied before it is known whether it fits. `fits_by` asks without a copy.
-pub fn set<const N: usize>(
+pub fn set_age<const N: usize>(
     alloc: Global,
     ages: &mut Map<TextBuf, u8, N>,
     name: &str,
@@ -101,7 +101,6 @@ pub fn untag<const N: usize>(tags: &mut Set<TextBuf, N>, name: &str) -> bool
 }
 
 /// Moves the pair of a text into another map, if it is there and fits.
-#[tactic(auto, using(micromap::proofs::Rules::caller, micromap_core::proofs::Laws::TextLaws::stored_text))]
 pub fn hand_over<const N: usize, const M: usize>(
     ages: &mut Map<TextBuf, u8, N>,
     others: &mut Map<TextBuf, u8, M>,
@@ -221,7 +220,7 @@ fn overlay<const N: usize, const M: usize>(
 }
 
 /// Copies settings with others put over them, or returns `None` if they don't all fit.
-pub fn merged<const N: usize, const M: usize>(
+pub fn merged_settings<const N: usize, const M: usize>(
     settings: &Map<TextBuf, TextBuf, N>,
     other: &Map<TextBuf, TextBuf, M>,
 ) -> Result<Option<Map<TextBuf, TextBuf, N>>, AllocError>

@@ -21,7 +21,7 @@ use Rattle.micromap_core.proofs.BuildLemmas.{counts_keyed, pairs_keyed, whole_co
 use Rattle.micromap_core.proofs.DistinctLemmas.{IsDistinct-filter}
 use Rattle.micromap_core.proofs.MapLemmas.{lookup-entry}
 use Rattle.micromap_core.proofs.Laws.Equalities.{equalities, of_lawful, Where}
-use Rattle.micromap_core.proofs.Laws.LoopLaws.{build_unique}
+use Rattle.micromap_core.proofs.Laws.LoopLaws.{build_unique, unique_map}
 use Rattle.micromap_core.proofs.Laws.MapLaws.{at_alike}
 use Rattle.micromap.specs.Extend.{distinct, distinct_or_refuse}
 use Rattle.micromap.proofs.AddedItems.{added_all}
@@ -160,6 +160,7 @@ pub ruleset chain_laws = (
   member_find,
   all_members,
   distinct_unique,
+  unique_map,
   build_unique,
   build_or_refuse_is,
   counts_or_refuse_is,

@@ -278,6 +278,11 @@ module _ {T : Type 0} (test : T → Bool) where
   length_remove_key [] = refl
   length_remove_key (y ∷ items) = grind (arith, length_remove_key items)
 
+  pub remove_key_missing : (items : List T) → list_any test items ≡ false
+      → remove_key test items ≡ items
+  remove_key_missing [] none = refl
+  remove_key_missing (y ∷ items) none = grind (arith, none, remove_key_missing items)
+
   pub items_remove_key : (eq : T → T → Bool) (items : List T) → Probes eq test → IsDistinct eq items
       → remove_key test items ≡ filter (λ y. not (test y)) items
   items_remove_key eq items probes distinct =
@@ -366,6 +371,7 @@ pub ruleset set_laws = (
   take_item_missing,
   take_item_put_item,
   take_item_key,
+  remove_key_missing,
   length_remove_key,
   items_remove_key,
   each_put_item,

@@ -17,6 +17,7 @@ use Rattle.std.proofs.lemmas.List.Sums.{sum_by_push}
 use Rattle.std.proofs.lemmas.Map.Entries.{sum_by-remove_entry, sum_by-set_value}
 use Rattle.std.proofs.lemmas.Map.Made.{IsDistinct-keys_filter, is_some-lookup, filter_same_pairs}
 use Rattle.std.proofs.lemmas.Map.Steps.{lookup-le-sum}
+use Rattle.std.proofs.lemmas.Simd.{map-map}
 use Rattle.micromap_core.specs.Build.{build, put_all}
 use Rattle.micromap_core.specs.Closures.{CalledOnPair, CalledOnValue, UpdateAllTurn, UpdateDisjointTurn}
 use Rattle.micromap_core.specs.Closures.{updated_disjoint}
@@ -61,6 +62,13 @@ module _ {K V : Type 0} (eq : K → K → Bool) where
       → IsUnique eq (done ++ (k, v) ∷ rest) → put eq done k v ++ rest ≡ done ++ (k, v) ∷ rest
   copied_next done rest k v laws unique =
       put_first_of_rest done rest k v (has_done done rest (k, v) laws unique)
+
+  -- pairs with other values at the same keys have unequal keys too
+  pub unique_map : {W : Type 0} (f : K × V → K × W) (pairs : List (K × V))
+      → ((p : K × V) → (f p).0 ≡ p.0) → IsUnique eq pairs → IsUnique eq (map f pairs)
+  unique_map f pairs same unique =
+      subst (IsDistinct eq)
+      (sym (map-map (λ q. q.0) f pairs ∙ ap (λ key. map key pairs) (λ i p. same p i))) unique
 
   -- pairs with unequal keys are built as they are
   pub build_unique : (pairs : List (K × V)) → Lawful eq → IsUnique eq pairs → build eq pairs ≡ pairs
@@ -113,6 +121,7 @@ pub ruleset loop_laws = (
   not_fits,
   copied_next,
   IsDistinct-keys_filter,
+  unique_map,
   build_unique,
   length_put,
   length_le_put_all,

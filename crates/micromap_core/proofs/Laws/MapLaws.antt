@@ -442,6 +442,7 @@ pub ruleset map_laws = (
   put_again,
   take_out_missing,
   take_out_put,
+  set_value_same,
   set_value_missing,
   remove_entry_missing,
   take_out_entry,

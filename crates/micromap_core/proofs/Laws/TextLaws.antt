@@ -1,7 +1,8 @@
 -- For callers: what putting and taking out, by key or by text, does to the list that has the keys' bytes, and what is found
--- there. The laws hold for `String` and for `&str`, and for any way `read` of seeing a value: `key_texts` and `key_strs` see values as they are,
--- `texts` and `strs` by their bytes. `ComparesBy see eq` says that `eq x y ≡ bytes_eq (see x) (see y)` for all `x` and `y`. The
--- ruleset `caller` of `Rules` has those that a search needs.
+-- there. The laws with `see`, which shows a key's bytes, hold for `String` and for `&str`, and for any way `read` of seeing a
+-- value: `key_texts` and `key_strs` see values as they are, `texts` and `strs` by their bytes. `ComparesBy see eq` says that
+-- `eq x y ≡ bytes_eq (see x) (see y)` for all `x` and `y`. `stored_text` is of `TextBuf`. The ruleset `caller` of `Rules` has
+-- those that a search needs.
 use Rattle.std.proofs.Common.{◌≡◌, ℕ, true, List, [], ◌∷◌, Option, Some, None, is_some, codes, refl, Bool}
 use Rattle.std.proofs.Common.{◌++◌, Bor, length, String, ap, sym, subst, ◌∙◌, string_bytes, arith}
 use Rattle.std.proofs.Common.{bytes_eq, string_eq}
@@ -251,9 +252,11 @@ module _ {K V W : Type 0} (see : K → List ℕ) (read : V → W) (value_text : 
   )
 
 -- the key that an owned text finds is that text
-pub stored_text : {V : Type 0} (pairs : List (List ℕ × V)) (text : List ℕ) (p : List ℕ × V)
-    → pair bytes_eq pairs text ≡ Some p → p.0 ≡ text
-stored_text = stored_key bytes_eq (λ x y. (bytes_eq-Decides x y).0)
+pub stored_text : {V : Type 0} (pairs : List (List ℕ × V)) (text : List ℕ)
+    → Where (pair bytes_eq pairs text)
+    ((p : List ℕ × V) → pair bytes_eq pairs text ≡ Some p → p.0 ≡ text)
+stored_text pairs text =
+    (refl, stored_key bytes_eq (λ x y. (bytes_eq-Decides x y).0) pairs text)
 
 pub ruleset text_laws = (
   each_map_text,
@@ -263,6 +266,7 @@ pub ruleset text_laws = (
   pair_texts,
   pair_matched,
   pair_matched_str,
+  stored_text,
   matched_texts,
   texts_take_out_matched,
   texts_put,

@@ -2,7 +2,7 @@ use Rattle.std.specs.Prelude.{◌≡◌, ◌+ℤ◌, pos}
 use Rattle.std.specs.Int.{saturate_signed, w64}
 use Rattle.std.specs.List.{fold}
 use Rattle.std.specs.Map.{values_of}
-use Rattle.micromap_callers.proofs.counting.net.Given as goal
+use Rattle.micromap_callers.proofs.signed.net.Given as goal
 
 -- the amounts left, added to the total, make what all amounts make
 abbrev pub invariant-loop-amount : goal.invariant-loop-amount

@@ -1,7 +1,7 @@
 use Rattle.std.specs.Prelude.{◌≡◌, nat_eq}
 use Rattle.micromap.specs.Build.{merged}
-use Rattle.micromap_callers.specs.Totals.{balance_with}
-use Rattle.micromap_callers.proofs.merging.add_signed_map.Given as goal
+use Rattle.micromap_callers.specs.Signed.{balance_with}
+use Rattle.micromap_callers.proofs.signed.add_signed_map.Given as goal
 
 abbrev pub invariant-loop-account : goal.invariant-loop-account
 invariant-loop-account g l = merged nat_eq balance_with l.initial.balances l.amounts ≡ merged nat_eq balance_with l.balances l.account-iterator
