@@ -35,7 +35,7 @@ aren't in `caller`. [CALLING](CALLING.md#when-a-check-fails) says when to name o
 - A line `module _` has the arguments that come first in each law that is indented below it. Leave out arguments in braces: the checker finds them.
 - The name of a law about a change has first the word that reads, and then that of the change: `length_take_out` is the length after a removal. In names `pair` stands for `lookup_entry`, `any` for `list_any`, and `unique` for `IsUnique` or `IsDistinct`.
 - `Where x P` is `P`, marked so that a search finds it where it sees `x`. A proof by hand takes `.1` of it. A law `each_..` says several things at once, or one thing of every key or item. Most of these serve a search alone, and stand here by name: `rt lemma NAME` prints one.
-- [API](API.md) explains the words of the calls, and `rt lemma WORD` prints the definition of any other.
+- [API](API.md) explains the words of the calls, and `rt lemma WORD` prints the definition of any other. `option_filter` is of `Rattle.std.proofs.lemmas.Map.Entries`.
 """
 
 

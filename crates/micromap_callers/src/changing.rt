@@ -24,7 +24,8 @@ pub fn keep_above<const N: usize>(pairs: &mut Map<u8, u32, N>, limit: u32)
 
 /// Changes all values.
 /// The pairs that fail then are dropped by `retain` after it: `*value = value.saturating_sub(1)` and then `*value > 0`
-/// make `filter (λ p. nat_lt 0 p.1) (map (λ p. (p.0, p.1 - 1)) pairs.old)`.
+/// make `filter (λ p. nat_lt 0 p.1) (map (λ p. (p.0, p.1 - 1)) pairs.old)`. Of signed values the closure says
+/// `ensures { value.new ≡ int_min value.old most }`, with `int_min` of `std.specs.Int`.
 pub fn cap<const N: usize>(pairs: &mut Map<u8, u8, N>, most: u8)
     ensures { pairs.new ≡ map (λ p. (p.0, min p.1 most)) pairs.old }
 {

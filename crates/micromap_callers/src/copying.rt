@@ -97,7 +97,7 @@ pub fn lacking_any<const N: usize, const M: usize>(
 }
 
 /// Copies the pairs that another map lacks or has with another value.
-/// Of signed values the closure says what it returns at any capacity.
+/// At a generic capacity, of signed values too, the closure says what it returns.
 pub fn changed<const N: usize, const M: usize>(
     settings: &Map<u8, u8, N>,
     other: &Map<u8, u8, M>,
@@ -132,7 +132,8 @@ pub fn copied<const N: usize, const M: usize>(
 }
 
 /// Makes a map of the same keys with values of another type, in a loop.
-/// If the values are of the same type, `update_all` makes them in a copy, as in `above`.
+/// If the values are of the same type, `update_all` makes them in a copy, as in `above`. A signed field of a struct isn't
+/// found: there take `Map::from_fitting`, as in `first_halves`.
 #[tactic(auto, using(micromap::proofs::Rules::loops))]
 pub fn sizes<const N: usize, const M: usize>(groups: &Map<u8, Set<u16, M>, N>) -> Map<u8, usize, N>
     ensures { result ≡ map (λ p. (p.0, length p.1)) groups.now }

@@ -18,7 +18,7 @@ use std::alloc::{AllocError, Global};
 /// and what passes a test by `filter` before `map`. By `copied()` in the place of `map` the search doesn't find it. Of
 /// signed values it finds neither `max()` nor `min()`: take `max_by_key` or `min_by_key`. What is made of each goes the
 /// same way: `names.keys().map(|k| k.len()).max()` is how long the longest `&str` key is, as
-/// `reduce max (map (λ k. length k.now) (keys_of names.now))`.
+/// `reduce max (map (λ k. length k.now) (keys_of names.now))`. An `unwrap_or` behind it stands in a second function.
 pub fn greatest<const N: usize>(pairs: &Map<u8, u32, N>) -> Option<u32>
     ensures { result ≡ reduce max (values_of pairs.now) }
 {
@@ -109,7 +109,7 @@ pub fn pair_above<const N: usize>(pairs: &Map<u8, u32, N>, limit: u32) -> Option
 
 /// Finds the first key whose set has a certain member.
 /// It returns `None` if no set has it. Any other test of a pair goes the same way, as that its value is a certain one
-/// of an enum.
+/// of an enum. A signed amount with which a value is compared is passed as `&i64`.
 pub fn group_of<const N: usize, const M: usize>(
     groups: &Map<u8, Set<u8, M>, N>,
     member: u8,
@@ -157,7 +157,8 @@ pub fn other_than<'a, T: Eq, const N: usize>(set: &'a Set<T, N>, item: &T) -> Op
 }
 
 /// Finds the first number of a range that isn't in a set, in a loop.
-/// It returns 255 if all of them are.
+/// It returns 255 if all of them are. If the test is more than one look-up, make it and the answer `unfoldable` words of
+/// your own, each unfolded only by the function that answers it. Else the search writes out all 255 tests.
 pub fn least_free<const N: usize>(used: &Set<u8, N>) -> u8
     ensures { result ≡ unwrap_or (find (λ n. not (is_member nat_eq used.now n)) (range_with_len 0 255)) 255 }
 {

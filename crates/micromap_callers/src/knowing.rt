@@ -87,7 +87,8 @@ pub fn are_one<const N: usize>(leases: &Map<u8, u8, N>, one: u8, other: u8) -> b
 }
 
 /// Tells by a comparison that each key finds the same.
-/// If it returns `true`, each key finds the same in both maps. Signed values go the same way.
+/// If it returns `true`, each key finds the same in both maps. Of signed values the clause has
+/// `IsTrue (option_eq int_eq (at nat_eq one.now k) (at nat_eq other.now k))`: by `≡` the search doesn't find it.
 #[tactic(auto, using(micromap::proofs::Rules::caller))]
 pub fn find_same<const N: usize, const M: usize>(
     one: &Map<u8, u8, N>,

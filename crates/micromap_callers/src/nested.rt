@@ -1,7 +1,7 @@
 //! Sets as the values of a map.
 #![tactic(auto, using(micromap::proofs::Rules::caller))]
 
-ghost use Rattle.std.specs.Prelude.{◌≡◌, ◌&&◌, [], ℕ, IfSome, IsNone, List, false, filter, fold, if◌then◌else◌, length, map, nat_eq, nat_le, nat_lt, not, true, unwrap_or};
+ghost use Rattle.std.specs.Prelude.{◌≡◌, ◌&&◌, [], ℕ, IfSome, IsNone, List, false, filter, fold, if◌then◌else◌, length, map, nat_eq, nat_le, nat_lt, not, sum, true, unwrap_or};
 ghost use Rattle.std.specs.List.{list_all};
 ghost use Rattle.std.specs.Map.{values_of};
 ghost use Rattle.std.specs.Option.{option_map_or};
@@ -138,6 +138,19 @@ pub fn all_members(groups: &Map<u8, Set<u8, 8>, 8>) -> Set<u8, 16>
     })
 }
 
+/// Counts the items of all sets of a map.
+/// The capacities are numbers or constants, which bound the count.
+pub fn count_members(groups: &Map<u8, Set<u8, 8>, 16>) -> usize
+    ensures { result ≡ sum (map length (values_of groups.now)) }
+{
+    let _content = groups.len();
+    let mut count = 0;
+    for members in groups.values() {
+        count += members.len();
+    }
+    count
+}
+
 /// Returns whether the set of a key has all items of a set, where a missing set is the empty one.
 pub fn meets(groups: &Map<u8, Set<u8, 8>, 16>, group: u8, needs: &Set<u8, 8>) -> bool
     ensures { result ≡ list_all (is_member nat_eq (unwrap_or (at nat_eq groups.now group) [])) needs.now }
@@ -195,7 +208,7 @@ fn next_node<const N: usize, const M: usize>(
 
 /// Makes a set of the nodes of a graph that are reached from one.
 /// It is the least set that has this node, and with each node all those to which its edges lead. It returns `None` if
-/// there are more than `M`.
+/// there are more than `M`. A caller that asks for a member of the result names `member_passes` too.
 pub fn reached_from<const N: usize, const M: usize>(
     graph: &Map<u8, Set<u8, 8>, N>,
     start: u8,

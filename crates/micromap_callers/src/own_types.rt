@@ -5,8 +5,8 @@ ghost use Rattle.std.specs.Prelude.{◌≡◌, ◌↔◌, IfSome, IsTrue, None, 
 ghost use Rattle.std.specs.Bool.{OnTrue};
 ghost use Rattle.std.specs.List.{list_any};
 ghost use Rattle.std.specs.Map.{lookup, values_of};
-ghost use Rattle.std.specs.Option.{option_eq};
-ghost use Rattle.micromap.specs.Pairs.{at, fits, put_if_fits};
+ghost use Rattle.std.specs.Option.{option_eq, option_map_or};
+ghost use Rattle.micromap.specs.Pairs.{at, fits, has, put, put_if_fits};
 ghost use Rattle.micromap.specs.Probe.{is_str};
 ghost use Rattle.micromap.specs.Same.{Same};
 ghost use Rattle.micromap.specs.Texts.{str_eq};
@@ -102,6 +102,21 @@ pub fn square_at(places: &Map<&str, Square, 16>, name: &str) -> Option<Square>
     ensures { result ≡ lookup (is_str name.now) places.now }
 {
     places.get_by(&Text(name)).copied()
+}
+
+/// Changes one field of the struct at a key.
+/// It returns whether the key is stored.
+pub fn set_row<const N: usize>(places: &mut Map<u8, Square, N>, key: u8, row: u8) -> bool
+    ensures answer { result ≡ has nat_eq places.old key }
+    ensures places { places.new ≡ option_map_or (λ s. put nat_eq places.old key (record s { row = row })) (at nat_eq places.old key) places.old }
+{
+    match places.get_mut(&key) {
+        Some(square) => {
+            square.row = row;
+            true
+        }
+        None => false,
+    }
 }
 
 /// Returns whether two maps from `&str` to a struct with a derived `==` are the same.

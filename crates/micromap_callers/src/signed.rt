@@ -1,7 +1,7 @@
 //! Signed amounts.
 #![tactic(auto, using(micromap::proofs::Rules::caller, micromap::proofs::Rules::signed))]
 
-ghost use Rattle.std.specs.Prelude.{◌≡◌, ◌*ℤ◌, ◌+ℤ◌, ◌<◌, ◌≤◌, ◌≤ℤ◌, ◌^◌, IsFalse, Some, filter, fold, if◌then◌else◌, int_lt, length, map, nat_eq, pos, unwrap_or};
+ghost use Rattle.std.specs.Prelude.{◌≡◌, ◌↔◌, ◌*ℤ◌, ◌+ℤ◌, ◌<◌, ◌≤◌, ◌≤ℤ◌, ◌^◌, IsFalse, Some, filter, fold, if◌then◌else◌, int_lt, length, map, nat_eq, pos, unwrap_or};
 ghost use Rattle.std.specs.Bool.{OnTrue};
 ghost use Rattle.std.specs.Int.{saturate_signed, w64};
 ghost use Rattle.std.specs.Map.{keys_of, values_of};
@@ -94,7 +94,8 @@ pub fn overdrawn<const N: usize>(balances: &Map<u8, i64, N>) -> Set<u8, N>
 }
 
 /// Adds a signed amount to the value of a key, where a sum that doesn't fit stays at the end of the range.
-/// A new key begins at 0. It returns `false`, and nothing changes, if the key doesn't fit.
+/// A new key begins at 0. It returns `false`, and nothing changes, if the key doesn't fit. Keys with a derived `==` go by
+/// `fits`, `get` and `insert`, as in `add_signed_list`: by `entry` the search doesn't find it.
 pub fn post<const N: usize>(balances: &mut Map<u8, i64, N>, account: u8, amount: i64) -> bool
     ensures answer { result ≡ fits nat_eq N balances.old account }
     ensures balances { balances.new ≡ put_if_fits nat_eq N balances.old account (saturate_signed w64 (unwrap_or (at nat_eq balances.old account) (pos 0) +ℤ amount)) }
@@ -209,13 +210,14 @@ pub fn add_signed_map<const N: usize, const M: usize>(
 }
 
 /// Adds each signed amount of a list to the balance of its key.
-/// A sum that doesn't fit stays at the end of the range. It returns `false` only if there would be more than `N` keys.
+/// A sum that doesn't fit stays at the end of the range. It returns `false` exactly if there would be more than
+/// `N` keys.
 pub fn add_signed_list<const N: usize>(
     balances: &mut Map<u8, i64, N>,
     amounts: &[(u8, i64)],
 ) -> bool
     ensures balances { OnTrue result (balances.new ≡ merged nat_eq balance_with balances.old amounts.now) }
-    ensures refused { IsFalse result → N < length (merged nat_eq balance_with balances.old amounts.now) }
+    ensures refused { IsFalse result ↔ (N < length (merged nat_eq balance_with balances.old amounts.now)) }
 {
     let _content = balances.len();
     for (account, amount) in amounts {
@@ -225,5 +227,6 @@ pub fn add_signed_list<const N: usize>(
         let balance = added(balances.get(account).copied(), amount);
         balances.insert(*account, balance);
     }
+    let _content_after = balances.len();
     true
 }

@@ -2,7 +2,7 @@
 //! `clone()?` in the place of `copied()`.
 #![tactic(auto, using(micromap::proofs::Rules::caller))]
 
-ghost use Rattle.std.specs.Prelude.{◌≡◌, ◌↔◌, ◌&&◌, ◌<◌, ◌+◌, ◌-◌, ◌^◌, [], ℕ, IfOk, IsFalse, IsNone, List, filter, fold, if◌then◌else◌, length, map, min, nat_eq, unwrap_or};
+ghost use Rattle.std.specs.Prelude.{◌≡◌, ◌↔◌, ◌&&◌, ◌<◌, ◌+◌, ◌-◌, ◌^◌, [], ℕ, IfOk, IsFalse, IsNone, List, None, filter, fold, if◌then◌else◌, length, map, min, nat_eq, unwrap_or};
 ghost use Rattle.std.specs.Bool.{OnTrue};
 ghost use Rattle.std.specs.Borrow.{Bor};
 ghost use Rattle.std.specs.List.{find, starts_with};
@@ -98,6 +98,25 @@ pub fn untag<const N: usize>(tags: &mut Set<TextBuf, N>, name: &str) -> bool
     ensures tags { tags.new ≡ take_item bytes_eq tags.old name.now }
 {
     tags.remove_by(&Text(name))
+}
+
+// Takes the pair of a text out, and returns its value.
+fn taken_out<const N: usize>(ages: &mut Map<TextBuf, u8, N>, name: &str) -> Option<u8>
+    ensures old { result ≡ at bytes_eq ages.old name.now }
+    ensures ages { ages.new ≡ take_out bytes_eq ages.old name.now }
+{
+    ages.remove_by(&Text(name))
+}
+
+/// Takes the pair of a text out, and knows that it is gone.
+/// In one function the search doesn't find the last clause.
+pub fn forget<const N: usize>(ages: &mut Map<TextBuf, u8, N>, name: &str) -> Option<u8>
+    ensures old { result ≡ at bytes_eq ages.old name.now }
+    ensures ages { ages.new ≡ take_out bytes_eq ages.old name.now }
+    ensures gone { at bytes_eq ages.new name.now ≡ None }
+{
+    let _content = ages.len();
+    taken_out(ages, name)
 }
 
 /// Moves the pair of a text into another map, if it is there and fits.
