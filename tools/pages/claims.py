@@ -19,16 +19,16 @@ PROGRAMS = {
 }
 HEAD = """# Claims
 
-Made by `tools/documents` from the sources, from the edits and from what `tools/claims` recorded of them.
+Made by `tools/documents` from the sources, from the edits, and from what `tools/claims` and `rt plant` found.
 
 Every clause is proved, but may say too little. A refused wrong body suggests, within the limits below, that its clauses rule out this one mistake.
 
-An *edit* changes the source to a wrong body. Some narrow the call by a bound, or change a `tactic` line, so that the body can be written. The two `probe_of_marked_keys_..` add a probe. A row below has the clauses that the edit is for, what is wrong, and the *goal*, the statement to be proved, at which it was refused. The call is linked to its contract, and a call without a name behind \
+An *edit* changes the source to a wrong body. So that the body can be written, some narrow the call by a bound, add laws to a `tactic` line, or add a function with its own contract or a probe. The right body isn't tried with these. A row below has the clauses that the edit is for, what is wrong, and the *goal*, the statement to be proved, at which it was refused. The call is linked to its contract, and a call without a name behind \
 it has one clause. The gate, `.ci/run`, tries those that are linked to `must-fail/`, and \
 [`tools/claims`](MAINTAINING.md#edits) all.
 
 Counted are the clauses of `ensures` of public calls, the ghost members of impls and the laws of traits. Impls that have one name here count once, as `IntoIterator for Map` by value and by reference, and \
-`Probe for Text` for its three types of key. The edits of `into_iter_gives` are of the bodies by value. `requires callable` is a precondition, and isn't counted:
+`Probe for Text` for its three types of key. The edits of `into_iter_gives` are of the bodies by value. `requires callable` is a precondition, and isn't counted.
 
 TOTALS
 
@@ -57,7 +57,7 @@ GHOSTS = {"next_gives": "steps", "output": "writes"}
 WITHOUT = "Clauses without an edit"
 WITHOUT_HEAD = """
 These are proved as all others are. `rt plant` makes wrong bodies by itself. Some give up, as `None`. Others change an argument, a field or the result of the right body. A body is tried against all clauses of \
-a function at once, and an impl counts as one call. THROUGH For TRIED clauses, of calls without any edit for a clause of `ensures`, the second column says how many bodies were refused. That is of the last run of `rt plant`, even if the call has changed since. For the others it says why no refusal is known:
+a function at once, and an impl counts as one call. THROUGH For TRIED clauses, of calls without any edit for a clause of `ensures`, the second column says how many bodies were refused, and shows the shortest. That is of the last run of `rt plant`, even if the call has changed since. For the others it says why no refusal is known:
 
 SILENT
 

@@ -29,13 +29,13 @@ OTHERS = {
 INTRO = """# The laws of micromap
 
 Each law below is proved. From the tag `v0.3.0-1` on it keeps its name and its statement. Most callers name no law, since [rulesets](PROVING.md#rulesets) have those that a search needs. The end of a block says which of its laws \
-aren't in `caller`. [CALLING](CALLING.md#when-a-check-fails) says when to name one.
+aren't in `caller`. Name such a law in `using(..)`, or cite it in an [answer](PROVING.md#answers). Laws `at_..` and `has_..` are seldom needed in a search, since `at` and `has` unfold to `lookup`, and `caller` has `lookup_..`.
 
-- The first line of a block has the path by which a proof file imports its laws, and the path by which `using(..)` names them.
+- The first line of a block has the path by which a proof file imports its laws, and that for `using(..)`, before `::NAME`. A name with a hyphen can't stand in `using(..)`.
 - A line `module _` has the arguments that come first in each law that is indented below it. Leave out arguments in braces: the checker finds them.
 - The name of a law about a change has first the word that reads, and then that of the change: `length_take_out` is the length after a removal. In names `pair` stands for `lookup_entry`, `any` for `list_any`, and `unique` for `IsUnique` or `IsDistinct`.
 - `Where x P` is `P`, marked so that a search finds it where it sees `x`. A proof by hand takes `.1` of it. A law `each_..` says several things at once, or one thing of every key or item. Most of these serve a search alone, and stand here by name: `rt lemma NAME` prints one.
-- [API](API.md) explains the words of the calls, and `rt lemma WORD` prints the definition of any other. `option_filter` is of `Rattle.std.proofs.lemmas.Map.Entries`.
+- [API](API.md) explains the words of the calls, and `rt lemma WORD` prints the definition of any other. A proof file imports `option_filter` from `Rattle.std.proofs.lemmas.Map.Entries`.
 """
 
 
@@ -142,7 +142,7 @@ def section(path):
     names = re.findall(r"^ *pub ([\w'≢-]+) :", text, re.M)
     searched = [it for it in names if it.startswith("each_") and f"`{it}`" not in page]
     laws = shared_lines(laws_in(text, {*names} - {*searched})).strip("\n")
-    notes = [*elsewhere([it for it in names if it not in searched], rulesets())]
+    notes = [*elsewhere(names, rulesets())]
     notes = [f"-- for the search alone: {', '.join(searched)}"] * bool(searched) + notes
     paths = f"-- Rattle.micromap.proofs.Laws.{module}, in using(..) {path.split('/')[1]}::proofs::Laws::{module}"
     return f"## {title_of(path)}\n\n{first_comment(text)}\n\n```text\n" + "\n".join([paths, laws, *[""] * bool(notes), *notes]) + "\n```"
@@ -154,7 +154,8 @@ def others():
     for path, names in OTHERS.items():
         home = path.removeprefix("crates/").removesuffix(".antt").replace("/", ".")
         notes = "".join(f"\n{it}" for it in elsewhere(names, rulesets()))
-        blocks.append(f"-- Rattle.{home}, in using(..) {home.replace('.', '::')}\n{shared_lines(laws_in(read(path), names)).strip()}{notes}")
+        using = f", in using(..) {home.replace('.', '::')}" * any("-" not in it for it in names)
+        blocks.append(f"-- Rattle.{home}{using}\n{shared_lines(laws_in(read(path), names)).strip()}{notes}")
     return "## Others\n\nLemmas of other files, whose names and statements are kept too.\n\n```text\n" + "\n\n".join(blocks) + "\n```"
 
 
