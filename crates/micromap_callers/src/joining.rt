@@ -14,7 +14,7 @@ ghost use Rattle.micromap.specs.Same.{Same};
 use micromap::{Map, Set};
 
 /// Puts a map whose keys and values are `Copy` over another, all or nothing.
-/// It returns `true` if all pairs were put. After `false` they don't all fit, and nothing has changed. Of numbers,
+/// It returns `false`, and nothing changes, exactly if they don't all fit. Of numbers,
 /// `map.try_extend_from(other).is_ok()` does the same under the ruleset `caller`. A set goes the same way into a set,
 /// by `put_all_items`, and two of them as in `add_words`.
 #[tactic(auto)]
@@ -24,7 +24,7 @@ pub fn put_over<K: Eq + Copy, V: Copy, const N: usize, const M: usize>(
 ) -> bool
     ensures all { OnTrue result (map.new ≡ put_all K.eq map.old other.now) }
     ensures none { IsFalse result → map.new ≡ map.old }
-    ensures refused { IsFalse result → N < length (put_all K.eq map.old other.now) }
+    ensures refused { IsFalse result ↔ (N < length (put_all K.eq map.old other.now)) }
 {
     match map.try_extend_from(other) {
         Ok(()) => true,

@@ -143,7 +143,6 @@ pub fn all_members(groups: &Map<u8, Set<u8, 8>, 8>) -> Set<u8, 16>
 pub fn count_members(groups: &Map<u8, Set<u8, 8>, 16>) -> usize
     ensures { result ≡ sum (map length (values_of groups.now)) }
 {
-    let _content = groups.len();
     let mut count = 0;
     for members in groups.values() {
         count += members.len();

@@ -62,7 +62,6 @@ pub fn exact_net<const N: usize>(amounts: &Map<u8, i64, N>) -> i128
     requires { N ≤ 65536 }
     ensures { result ≡ fold (λ total amount. total +ℤ amount) (pos 0) (values_of amounts.now) }
 {
-    let _content = amounts.len();
     let mut total: i128 = 0;
     for amount in amounts.values() {
         total = plus(total, amount);
@@ -190,13 +189,13 @@ fn added(balance: Option<i64>, amount: &i64) -> i64
 }
 
 /// Adds the signed amounts of another map to the balances of a map.
-/// A sum that doesn't fit stays at the end of the range. It returns `false` only if there would be more than `N` keys.
+/// A sum that doesn't fit stays at the end of the range. It returns `false` exactly if there would be more than `N` keys.
 pub fn add_signed_map<const N: usize, const M: usize>(
     balances: &mut Map<u8, i64, N>,
     amounts: &Map<u8, i64, M>,
 ) -> bool
     ensures balances { OnTrue result (balances.new ≡ merged nat_eq balance_with balances.old amounts.now) }
-    ensures refused { IsFalse result → N < length (merged nat_eq balance_with balances.old amounts.now) }
+    ensures refused { IsFalse result ↔ (N < length (merged nat_eq balance_with balances.old amounts.now)) }
 {
     for (account, amount) in amounts {
         if !balances.fits(account) {
@@ -206,6 +205,7 @@ pub fn add_signed_map<const N: usize, const M: usize>(
         let balance = added(balances.get(account).copied(), amount);
         balances.insert(*account, balance);
     }
+    let _content = balances.len();
     true
 }
 
