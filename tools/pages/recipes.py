@@ -31,13 +31,45 @@ and laws of their own:
 """
 # What one may look for, and the recipes that have it.
 WANTS = {
-    "merge or join two maps": "put_over, map_of_maps, overlay, add_map, merged_settings",
+    "merge or join two maps": "put_over, map_of_maps, overlay, add_map, merged_settings, merged, merged_any, include",
+    "ask whether some or all pass": "any_value, any_common_above, is_held",
+    "values equal to those of a list": "has_values",
+    "two sets of a map, compared": "are_groups_equal, covers, have_conflict",
+    "operation on two sets, folded or listed": "total_of_union, any_common_above, list_of_union",
+    "count what passes": "count_pairs, values_over, count_unlisted, count_empty, count_groups_of",
+    "sum over a list of keys": "price_of, time_of, pieces",
+    "find what passes": "first_key_above, group_of, pair_above, pair_over, other_than, over",
+    "steps from key to value": "follow",
+    "know what a comparison says": "find_same, find_equal_places, has_no_difference, are_same, is_replica, changes_nothing",
+    "know by lengths": "has_more, have_same_items, holds_common",
+    "know what each value satisfies": "each_below, know_sets",
+    "know that a key is missing": "reissue, forget",
+    "equal keys, stored alike": "are_one",
+    "map of a list": "map_of_list, whole_or_none, first_halves, zipped",
+    "put a list into a map or a set": "put_each, put_each_then_read, put_list_whole, add_vector",
+    "count the different keys of a list": "count_keys",
+    "greatest amount of each key": "keep_greatest",
+    "total of one key, after a list": "add_then_read",
+    "copy the pairs whose keys another map has or lacks": "shared, lacking_any, changed",
+    "clone in a loop": "copied",
+    "set of a map's keys": "set_of_keys, keys_over",
+    "put the items of a set into another": "include, add_items, add_words, move_items",
+    "two maps that stay the same": "put_both",
+    "change all values": "cap, limit_each, limit_all, scale_signed",
+    "change the values of some keys at once": "reset",
+    "take the first pair out, or all": "take_first, first_drained",
+    "sum that falls or grows by a change": "clear_out, add_one",
+    "value at an owned text": "age_at, set_age, stored, overwrite, exchange",
+    "text in a set": "untag, take_word, names_of",
+    "words of a list in a map or a set": "unused_words, keep_unknown, count_named, knows_all",
+    "enum as a value": "is_held, user_with",
+    "key of any type": "put_any",
     "settings in layers": "first_value, first_age, age_or_other, merged_settings",
     "words of a text": "words_in, count_words_in",
     "union of a map's sets": "all_members",
     "remove while iterating": "keep_above",
-    "sum": "total, total_wide, exact_net",
-    "least or greatest value": "cheapest, greatest",
+    "sum": "total, total_wide, total_bounded, exact_net",
+    "least or greatest value": "cheapest, greatest, take_cheapest",
     "closure over sets of `&str`": "names_its_keys",
     "rename a key": "rename",
     "print a map": "text_of_amounts",
@@ -55,7 +87,7 @@ WANTS = {
     "key with an `==` of one's own": "put_guest",
     "field of a struct, changed": "set_row",
     "gone, a key that was removed is": "forget",
-    "entry": "count_once, raise_any, leave_out",
+    "entry": "count_once, raise_any, raise_then_read, leave_out",
     "insert only if the key is new": "reserve",
     "default, value or a": "pieces",
     "hand a pair over to another map": "hand_over",
@@ -65,7 +97,7 @@ WANTS = {
     "needs that are all met": "meets, keys_over",
     "changes nothing if a test fails": "raise_below, transfer",
     "newest `N` items": "add_newest",
-    "index, the pair at one": "oldest_and_newest",
+    "index, the pair at one": "oldest_and_newest, position_of",
     "value at a `&str`": "number_of, set_number",
     "move the pairs of a map into another": "put_list",
     "dropped, how many pairs were": "keep_above",
@@ -80,14 +112,14 @@ WANTS = {
     "leave pairs out of a copy": "above",
     "evict a pair of a full map": "set_evicting",
     "range, a loop over one": "add_zeros, least_free",
-    "remove the keys of a list": "remove_each, remove_listed, remove_words",
+    "remove the keys of a list": "remove_each, remove_listed, remove_words, left_over, drop_named",
     "set within another": "all_within, meets, all_stored",
     "transfer between two keys": "transfer",
     "struct as a key": "place, square_of",
     "fill in defaults": "fill_in",
     "edge and its way back": "put_edge",
-    "signed amounts": "transfer, post_checked, checked_net, add_signed_map, add_signed_list, overdrawn, charge, post, net, scale_signed",
-    "count how often": "counts_or_none, count_once",
+    "signed amounts": "add_signed, transfer, post_checked, checked_net, add_signed_map, add_signed_list, overdrawn, charge, post, net, scale_signed",
+    "count how often": "counts_or_none, counted, count_once, count, count_word",
     "count the items of all sets": "count_members",
     "get or insert": "amount_or_put",
     "invert a map": "turned",
@@ -178,11 +210,6 @@ def linked(title):
     return f"[{title}](#{anchor(title)})"
 
 
-def linked_recipe(recipe):
-    """A link to the line `<a id=..>` above a recipe's heading, which is shorter than the heading's own anchor."""
-    return f"[{recipe.heading}](#{recipe.name})"
-
-
 def own_title(path):
     return f"`{path.removeprefix(f'crates/{CRATE}/')}`"
 
@@ -217,7 +244,7 @@ def recipes(wrong):
     known, rows, sections, words = [it for those in found.values() for it in those], [], [], set()
     for path, those in found.items():
         title, rest = title_of(path)
-        rows += [f"- {linked(title)}", *(f"  - {linked_recipe(it)}" for it in those)]
+        rows.append(f"- {linked(title)}: {', '.join(f'[{it.name}](#{it.name})' for it in those)}")
         made = [section(it, known) for it in those]
         begins = f"{rest} The file `{os.path.basename(path)}` begins:".strip()
         sections += [f"## {title}\n\n{begins}\n\n{block('rust', head_of(path))}", *(text for text, _ in made)]
@@ -232,4 +259,4 @@ def recipes(wrong):
     wrong += [f"{RECIPES}: no recipe is named {it}" for those in WANTS.values() for it in those.split(", ") if it[0] != "`" and it not in by_name]
     found = {want: ", ".join(f"[{it}](#{it})" if it in by_name else it for it in WANTS[want].split(", ")) for want in WANTS}
     wanted = "\n".join(["| Looked for | Recipe |", "|---|---|", *(f"| {want} | {found[want]} |" for want in sorted(found, key=lambda it: it.lower().strip("`")))])
-    return "\n\n".join([INTRO.strip(), listed, "## Index", "Where a recipe does something else, its comment has the form.", wanted, "\n".join(rows), *sections, *([f"## {WORDS}", LISTED, *ends] if ends else [])]) + "\n"
+    return "\n\n".join([INTRO.strip(), listed, "## Index", "A recipe is listed by the name of its function. Where it does something else, its comment has the form.", wanted, "\n".join(rows), *sections, *([f"## {WORDS}", LISTED, *ends] if ends else [])]) + "\n"
