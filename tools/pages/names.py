@@ -46,10 +46,12 @@ def names_of(path):
     """The names of a file of specs/ or proofs/ that callers rest on, with what each says."""
     text, (_, crate, folder, *_, file) = read(path), path.split("/")
     module, is_promised = f"{crate}.{file.removesuffix('.antt')}", are_promised(text)
+    laws = {name: re.findall(r"[\w.'-]+", says) for kind, name, says in stated(text) if kind == "ruleset"}
     for kind, name, says in stated(text):
         if kind == "ruleset":
             yield f"ruleset {module}.{name}", ""
-            yield from ((f"law of ruleset {module}.{name}: {it}", "") for it in re.findall(r"[\w.'-]+", says))
+            has = (law for it in laws[name] for law in laws.get(it, [it]))  # a part of `caller` has its laws
+            yield from ((f"law of ruleset {module}.{name}: {it}", "") for it in has)
         elif folder == "specs" or is_promised(name):
             yield f"{'word' if folder == 'specs' else 'law'} {module}.{name}", says
 

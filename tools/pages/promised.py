@@ -17,7 +17,6 @@ COMMENT = r"(?:^ *--.*\n)+"
 MODULE = r"^ *module _ .*\n(?:^ +[({].*\n)*"
 LAW = r"^(?P<within> *)pub [\w'≢-]+ :.*\n(?:^(?P=within) +\S.*\n)*"
 RULES = "crates/micromap/proofs/Rules.antt"
-NAMED = ("caller", "loops", "comparison", "signed")  # the rulesets that callers name
 # The lemmas of other files that PROVING.md promises.
 OTHERS = {
     "crates/micromap_core/proofs/MapLemmas.antt": ["lookup-set", "length-remove_entry"],
@@ -129,11 +128,7 @@ def rulesets():
 def elsewhere(laws, rules):
     """What a block says of its laws that the ruleset `caller` hasn't."""
     left = [it for it in laws if it not in rules["caller"]]
-    for name in NAMED[1:]:
-        here = [it for it in left if it in rules[name]]
-        left = [it for it in left if it not in here]
-        yield from [f"-- in `{name}`, not in `caller`: {', '.join(here)}"] * bool(here)
-    yield from [f"-- in none of the four rulesets: {', '.join(left)}"] * bool(left)
+    return [f"-- not in `caller`: {', '.join(left)}"] * bool(left)
 
 
 def section(path):
@@ -142,8 +137,7 @@ def section(path):
     names = re.findall(r"^ *pub ([\w'≢-]+) :", text, re.M)
     searched = [it for it in names if it.startswith("each_") and f"`{it}`" not in page]
     laws = shared_lines(laws_in(text, {*names} - {*searched})).strip("\n")
-    notes = [*elsewhere(names, rulesets())]
-    notes = [f"-- for the search alone: {', '.join(searched)}"] * bool(searched) + notes
+    notes = [f"-- for the search alone: {', '.join(searched)}"] * bool(searched) + elsewhere(names, rulesets())
     paths = f"-- Rattle.micromap.proofs.Laws.{module}, in using(..) {path.split('/')[1]}::proofs::Laws::{module}"
     return f"## {title_of(path)}\n\n{first_comment(text)}\n\n```text\n" + "\n".join([paths, laws, *[""] * bool(notes), *notes]) + "\n```"
 

@@ -79,6 +79,7 @@ WANTS = {
     "visited, and a work list": "reached_from, see, pour, `reached` of `graph.rt` and `affected` of `order.rt` in `micromap_uses`",
     "mark and unmark, in a search for cycles": "try_step",
     "reached from a node, all that are": "reached_from",
+    "path of a graph, whether there is one": "leads_to",
     "all values or none, changed": "scale",
     "larger capacity": "above_in",
     "struct as a value": "square_at, are_same_places",

@@ -1,4 +1,5 @@
--- For callers: the rulesets.
+-- For callers: the rulesets. `caller` has all laws that a search finds by itself. The others are its parts, for a search
+-- that reaches a limit with all of them.
 use Rattle.std.proofs.lemmas.Int.{ints, to_z-of_z}
 use Rattle.std.proofs.lemmas.Str.Pattern.{starts_text}
 use Rattle.micromap_core.proofs.Laws.ComparisonLaws.{same_laws}
@@ -11,9 +12,9 @@ use Rattle.micromap.proofs.Laws.SetLaws.{set_laws}
 use Rattle.micromap.proofs.Laws.SetLoopLaws.{item_counts, set_loop_laws}
 use Rattle.micromap.proofs.Laws.SetTextLaws.{extended_item_texts, set_text_laws}
 
--- what most functions need: changes of a map or a set, texts, sums, closures, chains of iterators, and loops that find,
--- count, add up or merge, or whose invariants say what is done
-pub ruleset caller = (
+-- changes of a map or a set, texts, sums, closures, chains of iterators, and loops that find, count, add up or merge, or
+-- whose invariants say what is done
+pub ruleset calls = (
   map_laws,
   set_laws,
   text_laws,
@@ -35,5 +36,8 @@ pub ruleset loops = (loop_laws, set_loop_laws, each_left_map)
 -- two maps that are the same, once both are changed
 pub ruleset comparison = (same_laws)
 
--- what a search needs beside `caller` where a function or a closure computes with signed numbers
+-- bodies, closures and loops that compute with signed numbers
 pub ruleset signed = (ints, to_z-of_z)
+
+-- what a caller needs
+pub ruleset caller = (calls, loops, comparison, signed)

@@ -1,2 +1,1 @@
-pub mod MemberLaws
 pub mod PermissionLaws

@@ -29,7 +29,6 @@ pub fn any_value<const N: usize>(pairs: &Map<u8, u32, N>, x: u32) -> bool
 /// `a.iter().all(|(k, _)| b.contains_key(k))` says whether all keys of a map are in another, and is
 /// `list_all (λ p. has nat_eq b.now p.0) a.now`. That no key is there goes the same way, by `!b.contains_key(k)`, and
 /// that one is, by `any`. Whether all values are items of a set goes by `a.values()` and `set.contains(v)`.
-#[tactic(auto)]
 pub fn all_stored<const N: usize>(set: &Set<u8, N>, list: &[u8]) -> bool
     ensures { result ≡ list_all (is_member nat_eq set.now) list.now }
 {
@@ -53,7 +52,7 @@ pub fn has_values<const N: usize>(pairs: &Map<u8, u32, N>, list: &[u32]) -> bool
 /// Returns whether an item that two sets share passes a test.
 /// The other operations on two sets go the same way. Whether all members pass is a fold from `true` by `&&`. The
 /// greatest member, or 0, goes the same way, by `fold(0, |most, x| if most < *x { *x } else { most })` and
-/// `fold max 0`: of sets whose capacities are numbers, under `#[tactic(auto)]`.
+/// `fold max 0`, if the capacities are numbers.
 pub fn any_common_above<const N: usize, const M: usize>(a: &Set<u8, N>, b: &Set<u8, M>) -> bool
     ensures { result ≡ fold (λ any x. any || nat_lt 9 x) false (intersection nat_eq a.now b.now) }
 {
@@ -91,7 +90,6 @@ pub fn covers<const N: usize, const M: usize>(
 }
 
 // Returns whether all of these are steps.
-#[tactic(auto)]
 fn are_steps(needs: &Map<u8, Set<u8, 8>, 16>, steps: &Set<u8, 8>) -> bool
     ensures { result ≡ list_all (has nat_eq needs.now) steps.now }
 {
@@ -100,7 +98,6 @@ fn are_steps(needs: &Map<u8, Set<u8, 8>, 16>, steps: &Set<u8, 8>) -> bool
 
 /// Returns whether all items of a map's sets are its keys.
 /// The inner of the two chains is a function with a clause of its own.
-#[tactic(auto)]
 pub fn are_closed(needs: &Map<u8, Set<u8, 8>, 16>) -> bool
     ensures { result ≡ list_all (list_all (has nat_eq needs.now)) (values_of needs.now) }
 {

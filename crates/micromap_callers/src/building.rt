@@ -46,7 +46,6 @@ pub fn whole_or_none<const N: usize>(list: &[(u8, u8)]) -> Option<Map<u8, u8, N>
 
 /// Makes a map of what a function makes of each item that fits.
 /// A set of items goes the same way, by `Set::from_fitting` and `put_item_if_fits`.
-#[tactic(auto)]
 pub fn first_halves<const N: usize>(list: &[u8]) -> Map<u8, u8, N>
     ensures { result ≡ fold (put_pair_if_fits nat_eq N) [] (map (λ x. (x, x / 2)) list.now) }
 {
@@ -56,9 +55,8 @@ pub fn first_halves<const N: usize>(list: &[u8]) -> Map<u8, u8, N>
 /// Makes a map of a list of keys and a list of values.
 /// It has each key with the value at the same index, as far as both lists go. What doesn't fit is left out. Each item
 /// with its index goes the same way, by `enumerate()` and `enumerate_from 0 list.now`, a word of
-/// `Rattle.std.specs.List`. Under the ruleset `caller` a list of words with one value goes the same way, and is
+/// `Rattle.std.specs.List`. A list of words with one value goes the same way, and is
 /// `fold (λ m v. put_if_fits str_eq 16 m v 1) [] words.now`.
-#[tactic(auto)]
 pub fn zipped(keys: &[u8], values: &[u8]) -> Map<u8, u8, 16>
     ensures { result ≡ fold (λ (m : List (ℕ × ℕ)) (p : ℕ × ℕ). put_if_fits nat_eq 16 m p.0 p.1) [] (zip keys.now values.now) }
 {

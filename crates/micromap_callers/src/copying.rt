@@ -42,7 +42,6 @@ pub fn above_in<const N: usize, const M: usize>(
 /// Copies the pairs that pass, with other values, or returns `None`.
 /// It is `None` if they don't all fit in `M`. By `from_fitting` and `put_pair_if_fits` those that don't fit are left
 /// out.
-#[tactic(auto)]
 pub fn low_halves<const N: usize, const M: usize>(pairs: &Map<u8, u8, N>) -> Option<Map<u8, u8, M>>
     ensures { result ≡ fold (put_or_refuse nat_eq M) (Some []) (map (λ p. (p.0, p.1 / 2)) (filter (λ p. nat_lt p.1 100) pairs.now)) }
 {
@@ -56,7 +55,6 @@ pub fn low_halves<const N: usize, const M: usize>(pairs: &Map<u8, u8, N>) -> Opt
 
 /// Makes a map with key and value exchanged.
 /// Of equal values the last one's key stands.
-#[tactic(auto)]
 pub fn turned(pairs: &Map<u8, u8, 8>) -> Map<u8, u8, 8>
     ensures { result ≡ fold (λ (m : List (ℕ × ℕ)) (p : ℕ × ℕ). put_if_fits nat_eq 8 m p.1 p.0) [] pairs.now }
 {
@@ -118,7 +116,6 @@ pub fn changed<const N: usize, const M: usize>(
 /// The copy is the very same list. `plan.clone()` makes it in one call. It does so too where keys or items are owned
 /// texts, since a clone of a `TextBuf` is the same value. A loop that also makes a value of another type of each is
 /// as in `sizes`.
-#[tactic(auto, using(micromap::proofs::Rules::loops))]
 pub fn copied<const N: usize, const M: usize>(
     plan: &Map<u8, Set<u8, M>, N>,
 ) -> Result<Map<u8, Set<u8, M>, N>, AllocError>
@@ -134,7 +131,6 @@ pub fn copied<const N: usize, const M: usize>(
 /// Makes a map of the same keys with values of another type, in a loop.
 /// If the values are of the same type, `update_all` makes them in a copy, as in `above`. A signed field of a struct isn't
 /// found: there take `Map::from_fitting`, as in `first_halves`.
-#[tactic(auto, using(micromap::proofs::Rules::loops))]
 pub fn sizes<const N: usize, const M: usize>(groups: &Map<u8, Set<u16, M>, N>) -> Map<u8, usize, N>
     ensures { result ≡ map (λ p. (p.0, length p.1)) groups.now }
 {
@@ -166,7 +162,6 @@ pub fn set_of_keys<const N: usize>(pairs: &Map<u8, u32, N>) -> Result<Set<u8, N>
 /// Makes a set of the keys whose value passes.
 /// All keys that are owned texts are copied by a loop over `ages.keys()`, with `names.insert(name.clone()?)`. The
 /// invariant then has `l.names ++ l.name-iterator ≡ keys_of l.ages`, and the same bound.
-#[tactic(auto, using(micromap::proofs::Rules::loops))]
 pub fn keys_over<const N: usize>(map: &Map<u8, u8, N>, limit: u8) -> Set<u8, N>
     ensures { result ≡ keys_of (filter (λ p. nat_lt limit p.1) map.now) }
 {

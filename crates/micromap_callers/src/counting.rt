@@ -24,7 +24,7 @@ pub fn count_pairs<const N: usize>(pairs: &Map<u8, u32, N>, limit: u32) -> usize
 
 /// Counts the values that pass a test, in a loop.
 /// The count is at most the capacity, as the invariant says, so it doesn't overflow. A set's items go the same way,
-/// under the rulesets `micromap::proofs::Rules::loops` and `std::proofs::lemmas::Grind::common_steps`.
+/// under the rulesets `micromap::proofs::Rules::loops` and `std::proofs::lemmas::Grind::common_steps` alone.
 pub fn values_over<const N: usize>(map: &Map<u8, u8, N>, limit: u8) -> usize
     ensures { result ≡ count_by (nat_lt limit) (values_of map.now) }
 {
@@ -40,7 +40,6 @@ pub fn values_over<const N: usize>(map: &Map<u8, u8, N>, limit: u8) -> usize
 /// Counts the items of a set that are in another.
 /// The items of a list go the same way, by `list.iter()`. The capacities are numbers. For any capacity the closure
 /// says what it returns, as in `count_unlisted`.
-#[tactic(auto)]
 pub fn count_known(a: &Set<u8, 16>, b: &Set<u8, 8>) -> usize
     ensures { result ≡ count_by (is_member nat_eq b.now) a.now }
 {
@@ -50,7 +49,6 @@ pub fn count_known(a: &Set<u8, 16>, b: &Set<u8, 8>) -> usize
 /// Counts the pairs whose keys two other maps lack.
 /// The capacities are generic, so the closure says what it returns. In its clause `one.entry.now` is the map behind a
 /// captured reference, and `p.now.0.now` the key of a pair.
-#[tactic(auto)]
 pub fn count_unlisted<const N: usize, const M: usize, const L: usize>(
     pairs: &Map<u16, u32, N>,
     one: &Map<u16, u32, M>,
@@ -70,7 +68,6 @@ pub fn count_unlisted<const N: usize, const M: usize, const L: usize>(
 
 /// Counts the empty sets of a map.
 /// The capacity of these sets is a number, and the chain goes over `iter()`, so the closure needs no clause.
-#[tactic(auto)]
 pub fn count_empty<const N: usize>(groups: &Map<u8, Set<u8, 8>, N>) -> usize
     ensures { result ≡ count_by (λ p. nat_eq (length p.1) 0) groups.now }
 {
@@ -80,7 +77,6 @@ pub fn count_empty<const N: usize>(groups: &Map<u8, Set<u8, 8>, N>) -> usize
 /// Counts the sets of a map that have a certain item.
 /// The capacity of these sets is generic, so the chain goes over `values()`, and the closure captures a value and says
 /// what it returns. The sets with more items than a number go the same way, by `s.len() > most`.
-#[tactic(auto)]
 pub fn count_groups_of<const N: usize, const M: usize>(
     groups: &Map<u8, Set<u16, M>, N>,
     member: u16,
@@ -128,9 +124,8 @@ pub fn total_bounded<const N: usize>(pairs: &Map<u8, u32, N>) -> u64
 }
 
 /// Adds up the members of an operation on two sets.
-/// The sum must fit. Each number that is in both sets is met once. Under the ruleset `caller`, `a.union(b).count()`
-/// counts the members, and is `length (union nat_eq a.now b.now)`. The other operations go the same way.
-#[tactic(auto)]
+/// The sum must fit. Each number that is in both sets is met once. `a.union(b).count()` counts the members, and is
+/// `length (union nat_eq a.now b.now)`. The other operations go the same way.
 pub fn total_of_union<const N: usize, const M: usize>(a: &Set<u8, N>, b: &Set<u8, M>) -> u64
     requires { sum (union nat_eq a.now b.now) < 2 ^ 64 }
     ensures { result ≡ sum (union nat_eq a.now b.now) }
@@ -143,10 +138,9 @@ pub fn total_of_union<const N: usize, const M: usize>(a: &Set<u8, N>, b: &Set<u8
 }
 
 /// Adds up what a map has for each key of a list.
-/// It returns `None` if a key is missing or the sum doesn't fit. Under the ruleset `caller` a list of words goes the
-/// same way, by `amounts.get_by(&Text(*name))?`. In the clause `name`, without a type, stands in the place of `(k : ℕ)`,
-/// and `lookup (is_str name.now) amounts.now` in that of `at nat_eq prices.now k`.
-#[tactic(auto)]
+/// It returns `None` if a key is missing or the sum doesn't fit. A list of words goes the same way, by
+/// `amounts.get_by(&Text(*name))?`. In the clause `name`, without a type, stands in the place of `(k : ℕ)`, and
+/// `lookup (is_str name.now) amounts.now` in that of `at nat_eq prices.now k`.
 pub fn price_of(prices: &Map<u8, u32, 16>, basket: &[u8]) -> Option<u32>
     ensures { result ≡ fold
         (λ (sum : Option ℕ) (k : ℕ). option_and_then (λ s. option_and_then (λ p. if nat_lt (s + p) (2 ^ 32) then Some (s + p) else None) (at nat_eq prices.now k)) sum)
@@ -160,7 +154,6 @@ pub fn price_of(prices: &Map<u8, u32, 16>, basket: &[u8]) -> Option<u32>
 }
 
 // Adds the time of a leg, if it is stored and the sum fits.
-#[tactic(auto)]
 fn add_leg(sum: Option<u32>, times: &Map<(u8, u8), u32, 16>, from: u8, to: u8) -> Option<u32>
     ensures { result ≡ option_and_then (λ s. option_and_then (λ n. if nat_lt (s + n) (2 ^ 32) then Some (s + n) else None) (at ⟦<(u8, u8) as PartialEq>⟧.eq times.now (from, to))) sum }
 {
@@ -170,7 +163,6 @@ fn add_leg(sum: Option<u32>, times: &Map<(u8, u8), u32, 16>, from: u8, to: u8) -
 
 /// Adds up what a map has for each step of a list.
 /// A stop and the one after it are a key. It returns `None` if such a key is missing or the sum doesn't fit.
-#[tactic(auto)]
 pub fn time_of(times: &Map<(u8, u8), u32, 16>, stops: &[u8]) -> Option<u32>
     ensures { result ≡ fold
         (λ (sum : Option ℕ) leg. option_and_then (λ s. option_and_then (λ n. if nat_lt (s + n) (2 ^ 32) then Some (s + n) else None) (at ⟦<(u8, u8) as PartialEq>⟧.eq times.now (leg.0, leg.1))) sum)

@@ -83,7 +83,6 @@ pub fn first_key_above<const N: usize>(pairs: &Map<u8, u32, N>, limit: u8) -> Op
 }
 
 /// Finds the first item of a set that another lacks.
-#[tactic(auto)]
 pub fn first_unmet<const N: usize, const M: usize>(
     targets: &Set<u8, N>,
     met: &Set<u8, M>,
@@ -100,7 +99,6 @@ pub fn first_unmet<const N: usize, const M: usize>(
 /// Finds the first pair that passes a test, by reference.
 /// It returns `None` if none does. A `find` over pairs needs an answer, which is one law. A loop finds the pair by
 /// value, as `first_over` does in `over`.
-#[tactic(auto)]
 pub fn pair_above<const N: usize>(pairs: &Map<u8, u32, N>, limit: u32) -> Option<(&u8, &u32)>
     ensures { option_map deref_pair result ≡ find (λ p. nat_lt limit p.1) pairs.now }
 {
@@ -193,7 +191,6 @@ pub fn oldest_and_newest<const N: usize>(readings: &Map<u8, u16, N>) -> (Option<
 
 /// Finds a key's value in the first of several maps with it.
 /// It returns `None` if no map has the key.
-#[tactic(auto)]
 pub fn first_value(layers: &[Map<u8, u32, 16>], key: u8) -> Option<u32>
     ensures { result ≡ fold (λ (found : Option ℕ) (m : List (ℕ × ℕ)). option_or found (at nat_eq m key)) None layers.now }
 {
@@ -205,7 +202,6 @@ pub fn first_value(layers: &[Map<u8, u32, 16>], key: u8) -> Option<u32>
 
 /// Finds where a number of steps from key to value leads.
 /// It returns `None` if a step is missing.
-#[tactic(auto)]
 pub fn follow(next: &Map<u8, u8, 16>, start: u8, steps: u8) -> Option<u8>
     ensures { result ≡ fold (λ (place : Option ℕ) (_ : ℕ). option_and_then (at nat_eq next.now) place) (Some start) (range_with_len 0 steps) }
 {

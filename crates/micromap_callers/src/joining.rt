@@ -15,9 +15,8 @@ use micromap::{Map, Set};
 
 /// Puts a map whose keys and values are `Copy` over another, all or nothing.
 /// It returns `false`, and nothing changes, exactly if they don't all fit. Of numbers,
-/// `map.try_extend_from(other).is_ok()` does the same under the ruleset `caller`. A set goes the same way into a set,
-/// by `put_all_items`, and two of them as in `add_words`.
-#[tactic(auto)]
+/// `map.try_extend_from(other).is_ok()` does the same. A set goes the same way into a set, by `put_all_items`, and two
+/// of them as in `add_words`.
 pub fn put_over<K: Eq + Copy, V: Copy, const N: usize, const M: usize>(
     map: &mut Map<K, V, N>,
     other: &Map<K, V, M>,
@@ -49,7 +48,6 @@ pub fn merged<const N: usize, const M: usize>(
 /// Puts a map over one that is passed by value, as far as it fits.
 /// Keys and values are of any types that are `Copy`. For numbers and known capacities the closure needs no clause:
 /// `|mut m, (k, v)|`.
-#[tactic(auto)]
 pub fn merged_any<K: Eq + Copy, V: Copy, const N: usize, const M: usize>(
     mine: Map<K, V, N>,
     other: &Map<K, V, M>,
@@ -69,7 +67,6 @@ pub fn merged_any<K: Eq + Copy, V: Copy, const N: usize, const M: usize>(
 
 // Adds the items of another set. If it returns `true`, the set is the union. If it returns `false`, the union has more
 // than `N` items.
-#[tactic(auto, using(micromap::proofs::Rules::loops))]
 fn add_all_items<const N: usize, const M: usize>(set: &mut Set<u8, N>, other: &Set<u8, M>) -> bool
     ensures union { OnTrue result (set.new ≡ union nat_eq other.now set.old) }
     ensures refused { IsFalse result → N < length (union nat_eq other.now set.old) }
@@ -98,7 +95,6 @@ pub fn include<const N: usize, const M: usize>(
 }
 
 /// Puts the pairs of another map whose keys are missing, as far as they fit, as defaults are filled in.
-#[tactic(auto, using(micromap::proofs::Rules::loops))]
 pub fn fill_in<const N: usize, const M: usize>(
     settings: &mut Map<u16, u32, N>,
     defaults: &Map<u16, u32, M>,
@@ -114,7 +110,6 @@ pub fn fill_in<const N: usize, const M: usize>(
 
 /// Puts a value at each number below another that fits, by a loop over a range.
 /// A loop that calls a function in each turn goes the same way.
-#[tactic(auto, using(micromap::proofs::Rules::loops))]
 pub fn add_zeros<const N: usize>(map: &mut Map<u8, u8, N>, count: u8)
     ensures { map.new ≡ fold (λ m k. put_if_fits nat_eq N m k 0) map.old (range_with_len 0 count) }
 {
@@ -137,7 +132,6 @@ pub fn see<const N: usize>(graph: &Map<u8, Set<u8, 4>, N>, seen: &mut Set<u8, N>
 
 /// Moves the items of a set into another, as far as they fit.
 /// It is a work list: the items are taken one after the other until none is left. What doesn't fit is dropped.
-#[tactic(auto, using(micromap::proofs::Rules::loops))]
 pub fn pour<const N: usize, const M: usize>(from: &mut Set<u8, N>, into: &mut Set<u8, M>)
     ensures emptied { from.new ≡ [] }
     ensures poured { into.new ≡ fold (put_item_if_fits nat_eq M) into.old from.old }
@@ -159,7 +153,6 @@ pub fn exclude<const N: usize>(pairs: &mut Map<u8, u32, N>, set: &Set<u8, 8>)
 }
 
 /// Takes the items of a list out of a set by value.
-#[tactic(auto)]
 pub fn left_over(set: Set<u8, 16>, list: &[u8]) -> Set<u8, 16>
     ensures { result ≡ fold (λ (s : List ℕ) (v : ℕ). take_item nat_eq s v) set list.now }
 {
@@ -172,7 +165,6 @@ pub fn left_over(set: Set<u8, 16>, list: &[u8]) -> Set<u8, 16>
 /// Takes the items of a list out of a set in place.
 /// Another set's items go the same way, by `for item in other`. Its invariant has `l.item-iterator` in the place of
 /// what is left of the list.
-#[tactic(auto, using(micromap::proofs::Rules::loops))]
 pub fn remove_listed<const N: usize>(set: &mut Set<u8, N>, list: &[u8])
     ensures { set.new ≡ difference nat_eq set.old list.now }
 {
@@ -183,7 +175,6 @@ pub fn remove_listed<const N: usize>(set: &mut Set<u8, N>, list: &[u8])
 
 /// Puts a pair into two maps that are the same, and stay so.
 /// The pair fits both. What is removed from both leaves them the same too.
-#[tactic(auto, using(micromap::proofs::Rules::caller, micromap::proofs::Rules::comparison))]
 pub fn put_both<const N: usize, const M: usize>(
     list: &mut Map<u8, u8, N>,
     replica: &mut Map<u8, u8, M>,

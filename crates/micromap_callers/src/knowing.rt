@@ -1,5 +1,5 @@
 //! Knowing what one call says of another.
-#![tactic(auto, using(micromap::proofs::Rules::caller, micromap::proofs::Rules::comparison))]
+#![tactic(auto, using(micromap::proofs::Rules::caller))]
 
 ghost use Rattle.std.specs.Prelude.{◌&&◌, ◌↔◌, ◌≡◌, ◌≤◌, IfSome, IsFalse, IsNone, IsTrue, List, None, Some, false, filter, length, nat_eq, nat_lt, not, true, []};
 ghost use Rattle.std.specs.Bool.{OnTrue};
@@ -16,7 +16,6 @@ ghost use Rattle.micromap.specs.Same.{HaveEqualItems, Same, has_value};
 use micromap::{Map, Set};
 
 // Returns the first pair whose amount is over the limit, if any.
-#[tactic(auto, using(micromap::proofs::Rules::caller))]
 fn first_over<const N: usize>(amounts: &Map<u8, u8, N>, limit: u8) -> Option<(u8, u8)>
     ensures { result ≡ find (λ p. nat_lt limit p.1) amounts.now }
 {
@@ -30,7 +29,6 @@ fn first_over<const N: usize>(amounts: &Map<u8, u8, N>, limit: u8) -> Option<(u8
 
 /// Finds a pair that passes, or tells that no key has one.
 /// `get` finds the pair at its key. If the answer is `None`, no pair that a key finds passes.
-#[tactic(auto, using(micromap::proofs::Rules::caller))]
 pub fn over<const N: usize>(amounts: &Map<u8, u8, N>, limit: u8) -> Option<(u8, u8)>
     ensures found { IfSome result (λ p. at nat_eq amounts.now p.0 ≡ Some p.1) }
     ensures over { IfSome result (λ p. IsTrue (nat_lt limit p.1)) }
@@ -41,7 +39,6 @@ pub fn over<const N: usize>(amounts: &Map<u8, u8, N>, limit: u8) -> Option<(u8, 
 }
 
 // Returns whether all values are below a limit.
-#[tactic(auto, using(micromap::proofs::Rules::caller))]
 fn are_below<const N: usize>(amounts: &Map<u8, u8, N>, limit: u8) -> bool
     ensures { result ≡ list_all (λ v. nat_lt v limit) (values_of amounts.now) }
 {
@@ -50,7 +47,6 @@ fn are_below<const N: usize>(amounts: &Map<u8, u8, N>, limit: u8) -> bool
 
 /// Tells that each value that `get` finds passes, where all do.
 /// It does so if it returns `true`.
-#[tactic(auto, using(micromap::proofs::Rules::caller))]
 pub fn each_below<const N: usize>(amounts: &Map<u8, u8, N>, limit: u8) -> bool
     ensures { IsTrue result → (k v : _) → at nat_eq amounts.now k ≡ Some v → IsTrue (nat_lt v limit) }
 {
@@ -60,7 +56,6 @@ pub fn each_below<const N: usize>(amounts: &Map<u8, u8, N>, limit: u8) -> bool
 /// Tells by `get` that there is no pair with a key.
 /// It moves the value of another key there. If it returns `true`, there was no pair with the new key. Of a `&Map`,
 /// whether there is a pair is also told by `leases.get_key_value(&to).is_some()`, which is `has nat_eq leases.now to`.
-#[tactic(auto, using(micromap::proofs::Rules::caller))]
 pub fn reissue<const N: usize>(leases: &mut Map<u8, u8, N>, from: u8, to: u8) -> bool
     ensures { IsTrue result → pair nat_eq leases.old to ≡ None }
 {
@@ -78,7 +73,6 @@ pub fn reissue<const N: usize>(leases: &mut Map<u8, u8, N>, from: u8, to: u8) ->
 
 /// Tells that of two equal keys both are stored, or neither.
 /// It returns whether the keys are equal.
-#[tactic(auto, using(micromap::proofs::Rules::caller))]
 pub fn are_one<const N: usize>(leases: &Map<u8, u8, N>, one: u8, other: u8) -> bool
     ensures { IsTrue result → has nat_eq leases.now one ≡ has nat_eq leases.now other }
 {
@@ -89,7 +83,6 @@ pub fn are_one<const N: usize>(leases: &Map<u8, u8, N>, one: u8, other: u8) -> b
 /// Tells by a comparison that each key finds the same.
 /// If it returns `true`, each key finds the same in both maps. Of signed values the clause has
 /// `IsTrue (option_eq int_eq (at nat_eq one.now k) (at nat_eq other.now k))`: by `≡` the search doesn't find it.
-#[tactic(auto, using(micromap::proofs::Rules::caller))]
 pub fn find_same<const N: usize, const M: usize>(
     one: &Map<u8, u8, N>,
     other: &Map<u8, u8, M>,
@@ -114,7 +107,6 @@ pub fn conflict<'a, const N: usize, const M: usize>(
 
 /// Tells by a comparison that two maps differ at no key.
 /// If it returns `true`, no key is in one of them alone, and none has unequal values.
-#[tactic(auto, using(micromap::proofs::Rules::caller))]
 pub fn has_no_difference<const N: usize>(one: &Map<u8, u8, N>, other: &Map<u8, u8, N>) -> bool
     ensures one { IsTrue result → filter (λ p. not (has nat_eq other.now p.0)) one.now ≡ [] }
     ensures other { IsTrue result → filter (λ p. not (has nat_eq one.now p.0)) other.now ≡ [] }
@@ -188,7 +180,6 @@ pub fn is_replica<const N: usize, const M: usize>(
 /// Tells what is true of each set that is a value.
 /// No two of its items are equal, and there are at most `M`. A map's contract doesn't say so, but a call of each set's
 /// `len` does.
-#[tactic(auto, using(micromap::proofs::Rules::caller))]
 pub fn know_sets<const N: usize, const M: usize>(groups: &Map<u8, Set<u8, M>, N>)
     ensures { AllByRecursion (IsItems nat_eq M) (values_of groups.now) }
 {

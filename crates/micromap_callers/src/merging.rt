@@ -33,7 +33,6 @@ pub fn counts_or_none<const N: usize>(list: &[u8]) -> Option<Map<u8, usize, N>>
 
 /// Counts how often each item comes, up to the greatest number.
 /// An item that doesn't fit is left out.
-#[tactic(auto)]
 pub fn counted(votes: &[u8]) -> Map<u8, u32, 16>
     ensures { result ≡ fold
         (λ (m : List (ℕ × ℕ)) (v : ℕ). if fits nat_eq 16 m v then put nat_eq m v (min (unwrap_or (at nat_eq m v) 0 + 1) (2 ^ 32 - 1)) else m)

@@ -1,7 +1,7 @@
 //! Sets as the values of a map.
 #![tactic(auto, using(micromap::proofs::Rules::caller))]
 
-ghost use Rattle.std.specs.Prelude.{◌≡◌, ◌&&◌, [], ℕ, IfSome, IsNone, List, false, filter, fold, if◌then◌else◌, length, map, nat_eq, nat_le, nat_lt, not, sum, true, unwrap_or};
+ghost use Rattle.std.specs.Prelude.{◌≡◌, ◌&&◌, ◌<◌, [], ℕ, IfSome, IsFalse, IsNone, IsTrue, List, false, filter, fold, if◌then◌else◌, length, map, nat_eq, nat_le, nat_lt, not, sum, true, unwrap_or};
 ghost use Rattle.std.specs.List.{list_all};
 ghost use Rattle.std.specs.Map.{values_of};
 ghost use Rattle.std.specs.Option.{option_map_or};
@@ -35,7 +35,6 @@ pub fn grant<const N: usize, const M: usize>(
 }
 
 // Returns a set with those items of another that fit.
-#[tactic(auto)]
 fn with_items(items: &Set<u16, 8>, set: Set<u16, 8>) -> Set<u16, 8>
     ensures { result ≡ fold (put_item_if_fits nat_eq 8) set items.now }
 {
@@ -125,7 +124,6 @@ pub fn limit_all<const N: usize, const M: usize>(groups: &mut Map<u8, Set<u8, M>
 /// Makes a set of the items of all sets of a map.
 /// What doesn't fit is left out. A slice of sets goes the same way, by `groups.iter()`, with `groups.now` in the place
 /// of `values_of groups.now`.
-#[tactic(auto)]
 pub fn all_members(groups: &Map<u8, Set<u8, 8>, 8>) -> Set<u8, 16>
     ensures { result ≡ fold (λ (all : List ℕ) (group : List ℕ).
         fold (λ (all : List ℕ) (item : ℕ). put_item_if_fits nat_eq 16 all item) all group) [] (values_of groups.now) }
@@ -176,7 +174,7 @@ pub fn have_conflict(groups: &Map<u8, Set<u8, 8>, 16>, group: u8, other: u8) -> 
 }
 
 // Finds a target that isn't in a set.
-#[tactic(auto, using(micromap::proofs::Rules::caller, crate::proofs::MemberLaws::member_passes))]
+#[tactic(auto, using(micromap::proofs::Rules::caller, micromap::proofs::Laws::ChainLaws::none_fails))]
 fn unmet<const M: usize>(targets: &Set<u8, 8>, met: &Set<u8, M>) -> Option<u8>
     ensures none { IsNone result → list_all (is_member nat_eq met.now) targets.now ≡ true }
     ensures new { IfSome result (λ x. is_member nat_eq met.now x ≡ false) }
@@ -186,7 +184,7 @@ fn unmet<const M: usize>(targets: &Set<u8, 8>, met: &Set<u8, M>) -> Option<u8>
 }
 
 // Finds a node that isn't in a set, though an edge leads to it from one that is.
-#[tactic(auto, using(micromap::proofs::Rules::caller, crate::proofs::MemberLaws::member_passes))]
+#[tactic(auto, using(micromap::proofs::Rules::caller, micromap::proofs::Laws::ChainLaws::member_passes))]
 fn next_node<const N: usize, const M: usize>(
     graph: &Map<u8, Set<u8, 8>, N>,
     met: &Set<u8, M>,
@@ -206,8 +204,9 @@ fn next_node<const N: usize, const M: usize>(
 }
 
 /// Makes a set of the nodes of a graph that are reached from one.
-/// It is the least set that has this node, and with each node all those to which its edges lead. It returns `None` if
-/// there are more than `M`. A caller that asks for a member of the result names `member_passes` too.
+/// It is the least set that has this node, and with each node all those to which its edges lead. It returns `None`
+/// exactly if each such set has more than `M`.
+#[tactic(auto, using(micromap::proofs::Rules::calls))]
 pub fn reached_from<const N: usize, const M: usize>(
     graph: &Map<u8, Set<u8, 8>, N>,
     start: u8,
@@ -215,6 +214,7 @@ pub fn reached_from<const N: usize, const M: usize>(
     ensures start { IfSome result (λ met. is_member nat_eq met start ≡ true) }
     ensures closed { IfSome result (λ met. is_closed graph.now met ≡ true) }
     ensures least { IfSome result (λ met. (s : List ℕ) → is_member nat_eq s start ≡ true → is_closed graph.now s ≡ true → list_all (is_member nat_eq s) met ≡ true) }
+    ensures refused { IsNone result → (s : List ℕ) → is_member nat_eq s start ≡ true → is_closed graph.now s ≡ true → M < length s }
 {
     let mut met: Set<u8, M> = Set::new();
     if !met.fits(&start) {
@@ -223,9 +223,21 @@ pub fn reached_from<const N: usize, const M: usize>(
     met.insert(start);
     while let Some(node) = next_node(graph, &met) {
         if !met.fits(&node) {
+            let _content = met.len();
             return None;
         }
         met.insert(node);
     }
     Some(met)
+}
+
+/// Returns whether a path of a graph leads from a node to another, or `None` if more than 64 nodes are reached.
+/// If it returns `true`, each closed set with the first node has the second. If it returns `false`, one has not.
+#[tactic(auto, using(micromap::proofs::Rules::caller, micromap::proofs::Laws::ChainLaws::member_passes))]
+pub fn leads_to<const N: usize>(graph: &Map<u8, Set<u8, 8>, N>, start: u8, end: u8) -> Option<bool>
+    ensures leads { IfSome result (λ leads. IsTrue leads → (s : List ℕ) → is_member nat_eq s start ≡ true → is_closed graph.now s ≡ true → is_member nat_eq s end ≡ true) }
+    ensures apart { IfSome result (λ leads. IsFalse leads → (s : List ℕ) × (is_member nat_eq s start ≡ true) × (is_closed graph.now s ≡ true) × (is_member nat_eq s end ≡ false)) }
+{
+    let reached: Set<u8, 64> = reached_from(graph, start)?;
+    Some(reached.contains(&end))
 }

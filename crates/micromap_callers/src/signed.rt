@@ -1,5 +1,5 @@
 //! Signed amounts.
-#![tactic(auto, using(micromap::proofs::Rules::caller, micromap::proofs::Rules::signed))]
+#![tactic(auto, using(micromap::proofs::Rules::caller))]
 
 ghost use Rattle.std.specs.Prelude.{◌≡◌, ◌↔◌, ◌*ℤ◌, ◌+ℤ◌, ◌<◌, ◌≤◌, ◌≤ℤ◌, ◌^◌, IsFalse, Some, filter, fold, if◌then◌else◌, int_lt, length, map, nat_eq, pos, unwrap_or};
 ghost use Rattle.std.specs.Bool.{OnTrue};
@@ -13,8 +13,7 @@ ghost use Rattle.micromap_callers.specs.Signed.{balance_with, checked_difference
 use micromap::{Map, Set};
 
 /// Adds two signed numbers, or returns `None` if the sum doesn't fit.
-/// Callers of this function need neither the ruleset `signed` nor what `checked_sum` unfolds to. A difference goes the same
-/// way, by `-ℤ` and `checked_sub`.
+/// Its callers need not know what `checked_sum` unfolds to. A difference goes the same way, by `-ℤ` and `checked_sub`.
 #[tactic(auto, using(micromap::proofs::Rules::signed), unfolding(crate::specs::Signed::checked_sum))]
 pub fn add_signed(a: i64, b: i64) -> Option<i64>
     ensures { result ≡ checked_sum a b }
@@ -45,7 +44,6 @@ pub fn net<const N: usize>(amounts: &Map<u8, i64, N>) -> i64
 }
 
 // Adds an amount to a total of a wider type that has room for it.
-#[tactic(auto, using(micromap::proofs::Rules::signed))]
 fn plus(total: i128, amount: &i64) -> i128
     requires above { pos 0 ≤ℤ (total +ℤ pos (2 ^ 100)) }
     requires below { total ≤ℤ pos (2 ^ 100) }
@@ -79,7 +77,6 @@ fn owes(balance: &i64) -> bool
 
 /// Makes a set of the keys whose signed value passes.
 /// The test is a function of its own, whose word a search doesn't unfold in the loop.
-#[tactic(auto, using(micromap::proofs::Rules::loops))]
 pub fn overdrawn<const N: usize>(balances: &Map<u8, i64, N>) -> Set<u8, N>
     ensures { result ≡ keys_of (filter (λ p. is_debt p.1) balances.now) }
 {

@@ -2,7 +2,7 @@
 //! `clone()?` in the place of `copied()`.
 #![tactic(auto, using(micromap::proofs::Rules::caller))]
 
-ghost use Rattle.std.specs.Prelude.{◌≡◌, ◌↔◌, ◌&&◌, ◌<◌, ◌+◌, ◌-◌, ◌^◌, [], ℕ, IfOk, IsFalse, IsNone, List, None, filter, fold, if◌then◌else◌, length, map, min, nat_eq, unwrap_or};
+ghost use Rattle.std.specs.Prelude.{◌≡◌, ◌↔◌, ◌&&◌, ◌<◌, ◌+◌, ◌-◌, ◌^◌, [], ℕ, IfOk, IsFalse, IsNone, List, None, false, filter, fold, if◌then◌else◌, length, map, min, nat_eq, unwrap_or};
 ghost use Rattle.std.specs.Bool.{OnTrue};
 ghost use Rattle.std.specs.Borrow.{Bor};
 ghost use Rattle.std.specs.List.{find, starts_with};
@@ -93,30 +93,23 @@ pub fn count<const N: usize>(
 }
 
 /// Takes a text out of a set, and returns whether it was there.
+/// Of `&str` items that it is gone is `list_any (is_str name.now) tags.new ≡ false`.
 pub fn untag<const N: usize>(tags: &mut Set<TextBuf, N>, name: &str) -> bool
     ensures answer { result ≡ is_member bytes_eq tags.old name.now }
     ensures tags { tags.new ≡ take_item bytes_eq tags.old name.now }
+    ensures gone { is_member bytes_eq tags.new name.now ≡ false }
 {
     tags.remove_by(&Text(name))
 }
 
-// Takes the pair of a text out, and returns its value.
-fn taken_out<const N: usize>(ages: &mut Map<TextBuf, u8, N>, name: &str) -> Option<u8>
-    ensures old { result ≡ at bytes_eq ages.old name.now }
-    ensures ages { ages.new ≡ take_out bytes_eq ages.old name.now }
-{
-    ages.remove_by(&Text(name))
-}
-
 /// Takes the pair of a text out, and knows that it is gone.
-/// In one function the search doesn't find the last clause.
+/// Of `&str` keys this is `lookup (is_str name.now) ages.new ≡ None`.
 pub fn forget<const N: usize>(ages: &mut Map<TextBuf, u8, N>, name: &str) -> Option<u8>
     ensures old { result ≡ at bytes_eq ages.old name.now }
     ensures ages { ages.new ≡ take_out bytes_eq ages.old name.now }
     ensures gone { at bytes_eq ages.new name.now ≡ None }
 {
-    let _content = ages.len();
-    taken_out(ages, name)
+    ages.remove_by(&Text(name))
 }
 
 /// Moves the pair of a text into another map, if it is there and fits.
@@ -142,7 +135,6 @@ pub fn hand_over<const N: usize, const M: usize>(
 }
 
 /// Removes the texts of a list from a map.
-#[tactic(auto, using(micromap::proofs::Rules::caller, micromap::proofs::Rules::loops))]
 pub fn remove_each<const N: usize>(ages: &mut Map<TextBuf, u8, N>, names: &[&str])
     ensures { ages.new ≡ fold (λ m (name : Bor (List ℕ)). take_out bytes_eq m name.now) ages.old names.now }
 {
@@ -182,7 +174,6 @@ pub fn beginning<const N: usize>(
 }
 
 /// Copies the texts of a list into a set, or refuses them if there are more than `N` different ones.
-#[tactic(auto, using(micromap::proofs::Rules::loops))]
 pub fn names_of<const N: usize>(
     alloc: Global,
     list: &[&str],
@@ -200,9 +191,8 @@ pub fn names_of<const N: usize>(
 }
 
 /// Copies the texts of two sets into one, and knows exactly that there are too many.
-/// Under the ruleset `caller` the texts of one set that another lacks are copied by `names.sub(other)`, which is
+/// The texts of one set that another lacks are copied by `names.sub(other)`, which is
 /// `difference bytes_eq names.now other.now`, and those that both have by `bitand`.
-#[tactic(auto, using(micromap::proofs::Rules::loops))]
 pub fn union_of<const N: usize, const M: usize, const L: usize>(
     one: &Set<TextBuf, M>,
     other: &Set<TextBuf, L>,
@@ -221,7 +211,6 @@ pub fn union_of<const N: usize, const M: usize, const L: usize>(
 }
 
 // Puts the pairs of another map over those of a map, up to the first that doesn't fit.
-#[tactic(auto, using(micromap::proofs::Rules::loops))]
 fn overlay<const N: usize, const M: usize>(
     settings: &mut Map<TextBuf, TextBuf, N>,
     other: &Map<TextBuf, TextBuf, M>,

@@ -4,10 +4,11 @@
 -- or there is none, exactly if they have too many distinct keys. The ruleset `caller` of `Rules` has those that a search
 -- needs.
 use Rattle.std.proofs.Common.{◌≡◌, ℕ, nat_eq, Bool, true, false, List, [], ◌∷◌, Some, None, is_some}
-use Rattle.std.proofs.Common.{refl, ap, sym, ◌∙◌, arith, option_map, if◌then◌else◌, map-id, nat_le}
+use Rattle.std.proofs.Common.{refl, ap, sym, ◌∙◌, arith, option_map, if◌then◌else◌, map-id, nat_le, not}
 use Rattle.std.specs.List.{Contains, find, list_all, list_any, position_or_len, IsDistinct}
 use Rattle.std.specs.Map.{lookup, lookup_entry, values_of, keys_of}
 use Rattle.std.specs.Set.{is_member, distinct_count}
+use Rattle.std.proofs.lemmas.Bool.{false≢true}
 use Rattle.std.proofs.lemmas.Bool.Decides.{nat_tests}
 use Rattle.std.proofs.lemmas.List.Folds.{find_at}
 use Rattle.std.proofs.lemmas.Map.Entries.{lookup_from_place}
@@ -117,6 +118,41 @@ all_members eq test (y ∷ items) laws each =
     let rest = all_members eq test items laws (λ x member. each x (grind (arith, member))) in
     grind (arith, each y here, rest)
 
+-- where all numbers of a list pass a test, each member does. In a ruleset it would slow searches, so name it where it serves
+passes_there : (test : ℕ → Bool) (items : List ℕ) (x : ℕ) → list_all test items ≡ true
+    → is_member nat_eq items x ≡ true → test x ≡ true
+passes_there test [] x all member = absurd (false≢true member)
+passes_there test (y ∷ items) x all member =
+    grind (arith, nat_tests, all, member, passes_there test items x)
+
+pub member_passes : (test : ℕ → Bool) (items : List ℕ)
+    → Where (list_all test items)
+    ((x : ℕ) → list_all test items ≡ true → is_member nat_eq items x ≡ true → test x ≡ true)
+member_passes test items = (refl, passes_there test items)
+
+module _ {X : Type 0} (test : X → Bool) where
+  found_passes : (items : List X) (other : X → Bool) (x : X) → list_all test items ≡ true
+      → find other items ≡ Some x → test x ≡ true
+  found_passes [] other x all found = grind (arith, found)
+  found_passes (y ∷ items) other x all found =
+      grind (arith, found, all, found_passes items other x)
+
+  -- what a search finds passes each test that all items pass
+  pub each_passes : (items : List X)
+      → Where (list_all test items)
+      (list_all test items ≡ true → (other : X → Bool) (x : X) → find other items ≡ Some x
+      → test x ≡ true)
+  each_passes items = (refl, λ all other x. found_passes items other x all)
+
+  all_or_any : (items : List X) → list_all test items ≡ not (list_any (λ x. not (test x)) items)
+  all_or_any [] = refl
+  all_or_any (x ∷ items) = grind (arith, all_or_any items)
+
+  -- all items pass a test exactly if none fails it. This too is to be named
+  pub none_fails : (items : List X)
+      → Where (list_all test items) (list_all test items ≡ not (list_any (λ x. not (test x)) items))
+  none_fails items = (refl, all_or_any items)
+
 -- a set that is built of unequal items has these items
 pub distinct_unique : {T : Type 0} (eq : T → T → Bool) (items : List T) → Lawful eq
     → IsDistinct eq items → distinct eq items ≡ items
@@ -159,6 +195,7 @@ pub ruleset chain_laws = (
   equalities,
   member_find,
   all_members,
+  each_passes,
   distinct_unique,
   unique_map,
   build_unique,

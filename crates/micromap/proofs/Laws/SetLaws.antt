@@ -4,20 +4,22 @@
 -- of `Rules` has those that a search needs.
 use Rattle.std.proofs.Common.{◌≡◌, ℕ, ◌+◌, ◌≤◌, ◌||◌, ◌&&◌, not, Bool, true, false, List, [], ◌∷◌, ◌++◌, filter, length}
 use Rattle.std.proofs.Common.{Some, None, is_some, if◌then◌else◌, refl, ap, sym, subst, ◌∙◌, arith, option_map}
-use Rattle.std.proofs.Common.{unwrap_or}
+use Rattle.std.proofs.Common.{Bor, bytes_eq, unwrap_or}
 use Rattle.std.specs.List.{IsDistinct, find, list_all, list_any}
-use Rattle.std.specs.Map.{keys_of, lookup, lookup_entry}
+use Rattle.std.specs.Map.{keys_of, lookup, lookup_entry, remove_entry}
 use Rattle.std.specs.Set.{is_member, remove_key}
 use Rattle.std.proofs.lemmas.Bool.Decides.{nat_tests}
 use Rattle.std.proofs.lemmas.Map.Entries.{length-keys_of}
 use Rattle.micromap_core.specs.Equalities.{Lawful, Probes}
 use Rattle.micromap_core.specs.Pairs.{put, put_key, take_out, IsUnique}
-use Rattle.micromap_core.proofs.Laws.Equalities.{equalities, of_lawful, probes_key, Where}
+use Rattle.micromap_core.specs.Probe.{is_str}
+use Rattle.micromap_core.specs.Texts.{str_eq}
+use Rattle.micromap_core.proofs.Laws.Equalities.{equalities, of_lawful, probes_bytes, probes_key, probes_str, Where}
 use Rattle.std.proofs.option.Match.{None-if_not_some}
 use Rattle.micromap_core.proofs.Laws.MapLaws.{lookup_put, lookup_put_key, lookup_take_out, pair_put, pair_put_key}
 use Rattle.micromap_core.proofs.Laws.MapLaws.{pair_take_out, length_put, length_put_key, length_take_out, unique_put}
 use Rattle.micromap_core.proofs.Laws.MapLaws.{unique_put_key, unique_take_out, take_out_missing, take_out_put, keys_take_out}
-use Rattle.micromap_core.proofs.Laws.ProbedLaws.{keys_remove_entry}
+use Rattle.micromap_core.proofs.Laws.ProbedLaws.{keys_remove_entry, lookup_remove_entry}
 use Rattle.micromap.specs.SetStream.{entries_of}
 use Rattle.micromap.specs.Extend.{put_all_items}
 use Rattle.micromap.specs.Items.{put_item, replace_item, find_item, item_fits, take_item}
@@ -173,6 +175,11 @@ module _ {T : Type 0} (eq : T → T → Bool) (items : List T) (x : T) where
       subst (IsDistinct eq) (sym (entries-replace_item eq items x))
       (unique_put_key eq (entries_of items) x tt laws (unique-entries eq items distinct))
 
+  pub unique_take_item : Lawful eq → IsDistinct eq items → IsDistinct eq (take_item eq items x)
+  unique_take_item laws distinct =
+      subst (IsDistinct eq) (sym (entries-take_item eq items x))
+      (unique_take_out eq (entries_of items) x laws (unique-entries eq items distinct))
+
   -- the items that a removal leaves stand in the order that they had
   pub items_take_item : Lawful eq → IsDistinct eq items
       → take_item eq items x ≡ filter (λ y. not (eq x y)) items
@@ -181,15 +188,16 @@ module _ {T : Type 0} (eq : T → T → Bool) (items : List T) (x : T) where
       ∙ keys_take_out eq (entries_of items) x laws (unique-entries eq items distinct)
       ∙ ap (filter (λ y. not (eq x y))) (keys_of-entries items)
 
-  pub unique_take_item : Lawful eq → IsDistinct eq items → IsDistinct eq (take_item eq items x)
-  unique_take_item laws distinct =
-      subst (IsDistinct eq) (sym (entries-take_item eq items x))
-      (unique_take_out eq (entries_of items) x laws (unique-entries eq items distinct))
-
   -- what changes nothing: an item that is there is added, or one that isn't is taken out
   pub put_item_back : is_member eq items x ≡ true → put_item eq items x ≡ items
   unfolding put_item
   put_item_back stored = ap (λ b. if b then items else items ++ x ∷ []) stored
+
+  pub take_item_missing : is_member eq items x ≡ false → take_item eq items x ≡ items
+  take_item_missing missing =
+      entries-take_item eq items x
+      ∙ ap keys_of (take_out_missing eq (entries_of items) x
+      (None-if_not_some _ (sym (any-entries (eq x) items) ∙ missing))) ∙ keys_of-entries items
 
   -- a new item goes last
   pub put_item_new : is_member eq items x ≡ false → put_item eq items x ≡ items ++ x ∷ []
@@ -200,12 +208,6 @@ module _ {T : Type 0} (eq : T → T → Bool) (items : List T) (x : T) where
   pub not_item_fits : (N : ℕ) → item_fits eq N items x ≡ false
       → (is_member eq items x ≡ false) × (N ≤ length items)
   not_item_fits N refused = (grind (arith, refused), grind (arith, nat_tests, refused))
-
-  pub take_item_missing : is_member eq items x ≡ false → take_item eq items x ≡ items
-  take_item_missing missing =
-      entries-take_item eq items x
-      ∙ ap keys_of (take_out_missing eq (entries_of items) x
-      (None-if_not_some _ (sym (any-entries (eq x) items) ∙ missing))) ∙ keys_of-entries items
 
   -- a new item that is put and removed again leaves the list as it was
   pub take_item_put_item : Lawful eq → is_member eq items x ≡ false → take_item eq (put_item eq items x) x ≡ items
@@ -289,6 +291,26 @@ module _ {T : Type 0} (test : T → Bool) where
       ap (remove_key test) (sym (keys_of-entries items)) ∙ take-keys test (entries_of items)
       ∙ keys_remove_entry test (entries_of items) eq probes (unique-entries eq items distinct)
       ∙ ap (filter (λ y. not (test y))) (keys_of-entries items)
+
+  pub any_remove_key : (eq : T → T → Bool) (items : List T) → Probes eq test → IsDistinct eq items
+      → list_any test (remove_key test items) ≡ false
+  any_remove_key eq items probes distinct =
+      ap (λ l. list_any test (remove_key test l)) (sym (keys_of-entries items))
+      ∙ ap (list_any test) (take-keys test (entries_of items))
+      ∙ any-keys test (remove_entry test (entries_of items))
+      ∙ ap is_some (lookup_remove_entry test (entries_of items) eq probes
+      (unique-entries eq items distinct))
+
+-- `any_remove_key` of a text as `&str` and `TextBuf`, which a search finds from the words alone
+module _ (bytes : List ℕ) where
+  pub any_remove_str : (items : List (Bor (List ℕ))) → IsDistinct str_eq items
+      → list_any (is_str bytes) (remove_key (is_str bytes) items) ≡ false
+  any_remove_str items distinct = any_remove_key (is_str bytes) str_eq items (probes_str bytes) distinct
+
+  pub any_remove_bytes : (items : List (List ℕ)) → IsDistinct bytes_eq items
+      → list_any (bytes_eq bytes) (remove_key (bytes_eq bytes) items) ≡ false
+  any_remove_bytes items distinct =
+      any_remove_key (bytes_eq bytes) bytes_eq items (probes_bytes bytes) distinct
 
 -- each item that a loop over a set comes to is in the set: so of what is left at the start, which is all
 pub is_member_walked : {T : Type 0} (eq : T → T → Bool) (items left : List T) → left ≡ items
@@ -374,6 +396,9 @@ pub ruleset set_laws = (
   remove_key_missing,
   length_remove_key,
   items_remove_key,
+  any_remove_key,
+  any_remove_str,
+  any_remove_bytes,
   each_put_item,
   each_take_item,
   each_put_all_items,

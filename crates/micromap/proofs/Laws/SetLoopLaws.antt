@@ -165,27 +165,40 @@ module _ {T : Type 0} (eq : T → T → Bool) where
         ),
       )
 
--- a set of keys of a map, as the nodes that a search has seen: each key fits it, if it has room for as many as there are
-module _ {K V : Type 0} (eq : K → K → Bool) (pairs : List (K × V)) (items : List K) where
-  fits_there : Lawful eq → IsDistinct eq items → list_all (has eq pairs) items ≡ true → (N : ℕ) (x : K)
-      → length pairs ≤ N → has eq pairs x ≡ true → item_fits eq N items x ≡ true
+-- a set whose items are all in a list has room for each item of the list, if it has room for as many as the list has
+module _ {T : Type 0} (eq : T → T → Bool) (whole items : List T) where
+  fits_there : Lawful eq → IsDistinct eq items → list_all (is_member eq whole) items ≡ true → (N : ℕ) (x : T)
+      → length whole ≤ N → is_member eq whole x ≡ true → item_fits eq N items x ≡ true
   fits_there laws unique all N x room there = elim (cases_Bool (item_fits eq N items x)) [
     | inl fits ↦ fits
     | inr refused ↦
         let apart = not_item_fits eq items x N refused in
         let long = length_put_item eq items x in
-        let short = missing_in_shorter (of_lawful eq laws) (put_item eq items x) (keys_of pairs)
-        (unique_put_item eq items x laws unique)
-        (grind (arith, apart.0, apart.1, long, room, length-keys_of pairs)) in
-        let stored = ap (λ test. list_all test (put_item eq items x)) (λ i k. is_some-lookup (eq k) pairs i) in
-        absurd (false≢true (sym short ∙ sym stored ∙ all_put_item (has eq pairs) eq items x all there))
+        let short = missing_in_shorter (of_lawful eq laws) (put_item eq items x) whole
+        (unique_put_item eq items x laws unique) (grind (arith, apart.0, apart.1, long, room)) in
+        absurd (false≢true (sym short ∙ all_put_item (is_member eq whole) eq items x all there))
   ]
 
-  pub fits_among : Lawful eq → IsDistinct eq items
-      → Where (list_all (has eq pairs) items)
-      (list_all (has eq pairs) items ≡ true → (N : ℕ) (x : K)
-      → length pairs ≤ N → has eq pairs x ≡ true → item_fits eq N items x ≡ true)
-  fits_among laws unique = (refl, fits_there laws unique)
+  pub fits_within : Lawful eq → IsDistinct eq items
+      → Where (list_all (is_member eq whole) items)
+      (list_all (is_member eq whole) items ≡ true → (N : ℕ) (x : T)
+      → length whole ≤ N → is_member eq whole x ≡ true → item_fits eq N items x ≡ true)
+  fits_within laws unique = (refl, fits_there laws unique)
+
+-- so has a set of keys of a map, as the nodes that a search has seen
+pub fits_among : {K V : Type 0} (eq : K → K → Bool) (pairs : List (K × V)) (items : List K)
+    → Lawful eq → IsDistinct eq items
+    → Where (list_all (has eq pairs) items)
+    (list_all (has eq pairs) items ≡ true → (N : ℕ) (x : K)
+    → length pairs ≤ N → has eq pairs x ≡ true → item_fits eq N items x ≡ true)
+fits_among {K = K} eq pairs items laws unique =
+    let keyed : (x : K) → has eq pairs x ≡ is_member eq (keys_of pairs) x =
+    λ x. is_some-lookup (eq x) pairs in (
+      refl,
+      λ all N x room there. fits_there eq (keys_of pairs) items laws unique
+          (ap (λ test. list_all test items) (λ i x. sym (keyed x) i) ∙ all) N x
+          (subst (λ n. n ≤ N) (sym (length-keys_of pairs)) room) (sym (keyed x) ∙ there),
+    )
 
 module _ {K V W : Type 0} (eq : K → K → Bool) (step : Option V → W → V) where
   pub keys_merged : (pairs : List (K × V)) (items : List (K × W))
@@ -203,5 +216,6 @@ pub ruleset item_counts = (
   each_distinct_take_map,
   keys_merged,
   all_put_item,
+  fits_within,
   fits_among,
 )

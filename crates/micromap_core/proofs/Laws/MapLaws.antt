@@ -27,7 +27,8 @@ use Rattle.micromap_core.proofs.MapLemmas.{IsUnique-set, IsUnique-set_key, keys_
 use Rattle.micromap_core.proofs.MapLemmas.{entry_push, entry_set, entry_set_key, none_apart, lookup-append, entry_new}
 use Rattle.micromap_core.proofs.MapLemmas.{length-remove_entry, length-set_key, keys_removed, by_test, lookup-set}
 use Rattle.micromap_core.proofs.MapLemmas.{no_value, set_put, lookup-reverse}
-use Rattle.micromap_core.proofs.Laws.ProbedLaws.{keys_remove_entry, lookup_remove_entry, lookup_remove_text}
+use Rattle.micromap_core.proofs.Laws.ProbedLaws.{keys_remove_entry, lookup_remove_bytes, lookup_remove_entry}
+use Rattle.micromap_core.proofs.Laws.ProbedLaws.{lookup_remove_str, lookup_remove_text}
 use Rattle.micromap_core.proofs.Laws.ProbedLaws.{remove_entry_missing, remove_entry_push}
 use Rattle.micromap_core.proofs.Laws.ProbedLaws.{set_value_missing, unique_remove_entry, unique_set_value}
 
@@ -278,17 +279,17 @@ module _ {K V : Type 0} (eq : K → K → Bool) where
   unfolding take_out
   length_take_out pairs k = length-remove_entry (eq k) pairs
 
+  pub length_build : (items : List (K × V)) → Lawful eq
+      → length (build eq items) ≡ distinct_count eq (keys_of items)
+  length_build items laws = sym (length-keys_of (build eq items))
+      ∙ length-built (of_lawful eq laws) (pairs_keyed eq 0) items
+
   -- the keys that a removal leaves stand in the order that they had
   pub keys_take_out : (pairs : List (K × V)) (k : K) → Lawful eq → IsUnique eq pairs
       → keys_of (take_out eq pairs k) ≡ filter (λ q. not (eq k q)) (keys_of pairs)
   unfolding take_out
   keys_take_out pairs k laws unique =
       keys_removed eq (eq k) (of_probes eq (eq k) (probes_key eq k laws)) pairs unique
-
-  pub length_build : (items : List (K × V)) → Lawful eq
-      → length (build eq items) ≡ distinct_count eq (keys_of items)
-  length_build items laws = sym (length-keys_of (build eq items))
-      ∙ length-built (of_lawful eq laws) (pairs_keyed eq 0) items
 
   -- that the keys are pairwise unequal
   pub unique_put : (pairs : List (K × V)) (k : K) (v : V) → Lawful eq → IsUnique eq pairs
@@ -452,6 +453,8 @@ pub ruleset map_laws = (
   keys_remove_entry,
   lookup_remove_entry,
   lookup_remove_text,
+  lookup_remove_str,
+  lookup_remove_bytes,
   unique_set_value,
   unique_remove_entry,
   each_put,

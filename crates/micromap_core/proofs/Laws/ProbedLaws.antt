@@ -1,14 +1,15 @@
 -- For callers: what the changes of a map by probe do to each way of reading it. They are `set_value` and `remove_entry` of
 -- the standard library, which take the probe's test of keys. The ruleset `caller` of `Rules` has what a search needs.
 use Rattle.std.proofs.Common.{◌≡◌, ℕ, Bool, true, not, List, [], ◌∷◌, ◌++◌, filter, String, string_eq, None, ap, sym, subst, arith}
-use Rattle.std.proofs.Common.{if◌then◌else◌}
+use Rattle.std.proofs.Common.{Bor, bytes_eq, if◌then◌else◌}
 use Rattle.std.specs.List.{IsDistinct}
 use Rattle.std.specs.Map.{keys_of, lookup, remove_entry, set_value}
 use Rattle.std.proofs.lemmas.Map.{keys-set_value}
 use Rattle.micromap_core.specs.Equalities.{Lawful, Probes}
 use Rattle.micromap_core.specs.Pairs.{without_at, IsUnique}
-use Rattle.micromap_core.specs.Probe.{is_text}
-use Rattle.micromap_core.proofs.Laws.Equalities.{of_lawful, of_probes, probes_text}
+use Rattle.micromap_core.specs.Probe.{is_str, is_text}
+use Rattle.micromap_core.specs.Texts.{str_eq}
+use Rattle.micromap_core.proofs.Laws.Equalities.{of_lawful, of_probes, probes_bytes, probes_str, probes_text}
 use Rattle.micromap_core.proofs.MapLemmas.{by_test, keys_removed, lookup-removed, no_value, IsUnique-remove}
 
 module _ {K V : Type 0} (test : K → Bool) (pairs : List (K × V)) where
@@ -46,8 +47,19 @@ module _ {K V : Type 0} (test : K → Bool) where
   remove_entry_push (e ∷ pairs) p none passes =
       grind (arith, none, passes, remove_entry_push pairs p)
 
--- `lookup_remove_entry` of a text, which a search finds from the words alone
-pub lookup_remove_text : {Z V : Type 0} (bytes : List ℕ) (pairs : List (String Z × V))
-    → IsUnique string_eq pairs → lookup (is_text bytes) (remove_entry (is_text bytes) pairs) ≡ None
-lookup_remove_text {Z} bytes pairs unique =
-    lookup_remove_entry (is_text bytes) pairs string_eq (probes_text Z bytes) unique
+-- `lookup_remove_entry` of a text as `String`, `&str` and `TextBuf`, which a search finds from the words alone
+module _ {V : Type 0} (bytes : List ℕ) where
+  pub lookup_remove_text : {Z : Type 0} (pairs : List (String Z × V)) → IsUnique string_eq pairs
+      → lookup (is_text bytes) (remove_entry (is_text bytes) pairs) ≡ None
+  lookup_remove_text {Z} pairs unique =
+      lookup_remove_entry (is_text bytes) pairs string_eq (probes_text Z bytes) unique
+
+  pub lookup_remove_str : (pairs : List (Bor (List ℕ) × V)) → IsUnique str_eq pairs
+      → lookup (is_str bytes) (remove_entry (is_str bytes) pairs) ≡ None
+  lookup_remove_str pairs unique =
+      lookup_remove_entry (is_str bytes) pairs str_eq (probes_str bytes) unique
+
+  pub lookup_remove_bytes : (pairs : List (List ℕ × V)) → IsUnique bytes_eq pairs
+      → lookup (bytes_eq bytes) (remove_entry (bytes_eq bytes) pairs) ≡ None
+  lookup_remove_bytes pairs unique =
+      lookup_remove_entry (bytes_eq bytes) pairs bytes_eq (probes_bytes bytes) unique
