@@ -18,7 +18,7 @@ A recipe is a small function over a map or a set, with a contract. Each is prove
 Then put your own types and tests in the place of the recipe's. Another type of keys may need another equality in the clauses ([words](CALLING.md#words)). [CALLING](CALLING.md#when-a-check-fails) has what to do when a check fails.
 
 - The head of a section is the head of a file: the line under which its recipes are proved, and their imports. An import may stay that you don't need, and what a comment says of another form may need more. A recipe with a line `#[tactic(..)]` of its own is proved under that. \
-A file has each import and each helper once, also where two recipes repeat it. Keep one of the two lines `#![tactic(..)]`, and write the other as `#[tactic(..)]` above each recipe of its section.
+A file has that line, each import and each helper once, also where two recipes repeat it.
 - A block `antt` stands below the path of its file. [CALLING](CALLING.md#a-loop) says where the file of a function's [invariant](PROVING.md#an-invariant) stands. Its *answers*, which are proofs of single goals, stand beside it. `my_crate` stands for your crate, and what follows `proofs.`, `contracts.` or `declared.`, as `counting`, for your file.
 - What a comment says of other types, calls or bodies, as "goes the same way", isn't proved here. The check of your crate tells.
 - The line of your crate in `crates.txt` is `name: micromap micromap_core`.

@@ -231,11 +231,13 @@ pub fn reached_from<const N: usize, const M: usize>(
     Some(met)
 }
 
-/// Returns whether a path of a graph leads from a node to another, or `None` if more than 64 nodes are reached.
-/// If it returns `true`, each closed set with the first node has the second. If it returns `false`, one has not.
+/// Returns whether a path of a graph leads from a node to another.
+/// If it returns `true`, each closed set with the first node has the second. If it returns `false`, one has not. It
+/// returns `None` only if each such set has more than 64 nodes.
 #[tactic(auto, using(micromap::proofs::Rules::caller, micromap::proofs::Laws::ChainLaws::member_passes))]
 pub fn leads_to<const N: usize>(graph: &Map<u8, Set<u8, 8>, N>, start: u8, end: u8) -> Option<bool>
     ensures leads { IfSome result (λ leads. IsTrue leads → (s : List ℕ) → is_member nat_eq s start ≡ true → is_closed graph.now s ≡ true → is_member nat_eq s end ≡ true) }
+    ensures refused { IsNone result → (s : List ℕ) → is_member nat_eq s start ≡ true → is_closed graph.now s ≡ true → 64 < length s }
     ensures apart { IfSome result (λ leads. IsFalse leads → (s : List ℕ) × (is_member nat_eq s start ≡ true) × (is_closed graph.now s ≡ true) × (is_member nat_eq s end ≡ false)) }
 {
     let reached: Set<u8, 64> = reached_from(graph, start)?;
