@@ -80,6 +80,8 @@ WANTS = {
     "mark and unmark, in a search for cycles": "try_step",
     "reached from a node, all that are": "reached_from",
     "path of a graph, whether there is one": "leads_to",
+    "push onto a `Vec`": "prices_of",
+    "values of some keys, listed": "prices_of",
     "all values or none, changed": "scale",
     "larger capacity": "above_in",
     "struct as a value": "square_at, are_same_places",

@@ -95,7 +95,7 @@ pub fn lacking_any<const N: usize, const M: usize>(
 }
 
 /// Copies the pairs that another map lacks or has with another value.
-/// At a generic capacity, of signed values too, the closure says what it returns.
+/// At a generic capacity, and of signed values at any, the closure says what it returns.
 pub fn changed<const N: usize, const M: usize>(
     settings: &Map<u8, u8, N>,
     other: &Map<u8, u8, M>,
@@ -151,7 +151,8 @@ pub fn map_of_maps(a: &Map<u8, u32, 8>, b: &Map<u8, u32, 8>) -> Result<Map<u8, u
 
 /// Makes a set of the keys of a map.
 /// The result is always `Ok`: the set has room for all keys. Those that pass go the same way, with `filter` behind
-/// `copied()`. The values go by `values()`, and are `distinct nat_eq (map (λ p. p.1) pairs.now)`.
+/// `copied()`. Those whose values pass go by `retain` on a copy of the map, or as in `keys_over`. The values go by
+/// `values()`, and are `distinct nat_eq (map (λ p. p.1) pairs.now)`.
 pub fn set_of_keys<const N: usize>(pairs: &Map<u8, u32, N>) -> Result<Set<u8, N>, Overfull>
     ensures keys { IfOk result (λ s. s ≡ keys_of pairs.now) }
     ensures room { IsOk result }

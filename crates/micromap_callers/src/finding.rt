@@ -238,3 +238,20 @@ pub fn list_of_union<const N: usize, const M: usize>(
 {
     a.union(b).copied().collect(alloc)
 }
+
+/// Lists what a map has for each key of a list, or 0, in a loop that pushes onto a `Vec`.
+/// Of signed values a function of its own looks up, as `added` does in `add_signed_map`.
+#[tactic(auto, using(micromap::proofs::Rules::caller, std::proofs::lemmas::Grind::common_steps))]
+pub fn prices_of<const N: usize>(
+    alloc: Global,
+    prices: &Map<u8, u32, N>,
+    keys: &[u8],
+) -> Result<Vec<u32>, AllocError>
+    ensures { IfOk result (λ v. v.items ≡ map (λ k. unwrap_or (at nat_eq prices.now k) 0) keys.now) }
+{
+    let mut found: Vec<u32> = Vec::new(alloc);
+    for key in keys {
+        found.push(prices.get_or(key, 0))?;
+    }
+    Ok(found)
+}

@@ -91,7 +91,7 @@ pub fn overdrawn<const N: usize>(balances: &Map<u8, i64, N>) -> Set<u8, N>
 
 /// Adds a signed amount to the value of a key, where a sum that doesn't fit stays at the end of the range.
 /// A new key begins at 0. It returns `false`, and nothing changes, if the key doesn't fit. Keys with a derived `==` go by
-/// `fits`, `get` and `insert`, as in `add_signed_list`: by `entry` the search doesn't find it.
+/// `fits`, `get` and `insert`, as in `add_signed_list`: by `entry` or `checked_insert` the search doesn't find it.
 pub fn post<const N: usize>(balances: &mut Map<u8, i64, N>, account: u8, amount: i64) -> bool
     ensures answer { result ≡ fits nat_eq N balances.old account }
     ensures balances { balances.new ≡ put_if_fits nat_eq N balances.old account (saturate_signed w64 (unwrap_or (at nat_eq balances.old account) (pos 0) +ℤ amount)) }
