@@ -94,6 +94,8 @@ WANTS = {
     "insert only if the key is new": "reserve",
     "default, value or a": "pieces",
     "hand a pair over to another map": "hand_over",
+    "hand an item over to another set": "hand_on",
+    "keys of two maps in one set": "put_list_whole",
     "begins with a text": "beginning",
     "edges that all lead to a node": "are_closed",
     "free number or colour, the least": "least_free",

@@ -11,7 +11,7 @@ ghost use Rattle.std.specs.Set.{is_member};
 ghost use Rattle.std.specs.Str.{bytes_eq};
 ghost use Rattle.micromap.specs.Build.{put_all};
 ghost use Rattle.micromap.specs.Extend.{put_all_items};
-ghost use Rattle.micromap.specs.Items.{take_item};
+ghost use Rattle.micromap.specs.Items.{item_fits, put_item, take_item};
 ghost use Rattle.micromap.specs.Operations.{union};
 ghost use Rattle.micromap.specs.Pairs.{at, fits, has, put, put_if_fits, take_out};
 
@@ -128,6 +128,28 @@ pub fn hand_over<const N: usize, const M: usize>(
     match ages.remove_entry_by(&Text(name)) {
         Some((key, age)) => {
             others.insert(key, age);
+            true
+        }
+        None => false,
+    }
+}
+
+/// Moves a text into another set, if it is there and fits.
+pub fn hand_on<const N: usize, const M: usize>(
+    names: &mut Set<TextBuf, N>,
+    others: &mut Set<TextBuf, M>,
+    name: &str,
+) -> bool
+    ensures answer { result ≡ (item_fits bytes_eq M others.old name.now && is_member bytes_eq names.old name.now) }
+    ensures names { names.new ≡ (if item_fits bytes_eq M others.old name.now then take_item bytes_eq names.old name.now else names.old) }
+    ensures others { others.new ≡ (if result then put_item bytes_eq others.old name.now else others.old) }
+{
+    if !others.fits_by(&Text(name)) {
+        return false;
+    }
+    match names.take_by(&Text(name)) {
+        Some(text) => {
+            others.insert(text);
             true
         }
         None => false,

@@ -1,15 +1,18 @@
 -- For callers: what putting, replacing and taking out an item does to the list of the texts' bytes, and what is found there.
--- The laws hold for `String` and for `&str`. The ruleset `caller` of `Rules` has those that a search needs.
+-- The laws hold for `String` and for `&str`. `stored_item` is of `TextBuf`. The ruleset `caller` of `Rules` has those that a search needs.
 use Rattle.std.proofs.Common.{◌≡◌, ℕ, Bool, List, [], ◌∷◌, length, refl, ap, sym, ◌∙◌, arith, bytes_eq, option_map}
+use Rattle.std.proofs.Common.{Some, None, if◌then◌else◌}
 use Rattle.std.specs.List.{IsDistinct, find, list_any}
 use Rattle.std.specs.Ordering.{on}
 use Rattle.std.specs.Set.{is_member, remove_key}
 use Rattle.std.proofs.lemmas.List.{length-map, map-append}
+use Rattle.std.proofs.lemmas.Map.Made.{find_same}
+use Rattle.std.proofs.lemmas.Slice.Eq.{bytes_eq-Decides}
 use Rattle.micromap_core.specs.Same.{have_equal_items}
 use Rattle.micromap_core.specs.Texts.{items_by}
 use Rattle.micromap_core.proofs.Views.{any-map, distinct-map, equal_items-map}
 use Rattle.micromap_core.proofs.Views.{find-map, remove_key-map}
-use Rattle.micromap_core.proofs.Laws.Equalities.{equalities}
+use Rattle.micromap_core.proofs.Laws.Equalities.{equalities, Where}
 use Rattle.micromap_core.proofs.Laws.TextLaws.{compares_by, ComparesBy}
 use Rattle.micromap.specs.Extend.{put_all_items}
 use Rattle.micromap.specs.Items.{put_item, find_item, take_item}
@@ -84,6 +87,12 @@ module _ {T : Type 0} (see : T → List ℕ) where
   extended_item_texts items xs =
       sym (item_texts_put_all (on see bytes_eq) items xs (λ x y. refl))
 
+-- the item that an owned text finds is that text
+pub stored_item : (items : List (List ℕ)) (text : List ℕ)
+    → Where (find_item bytes_eq items text)
+    (find_item bytes_eq items text ≡ (if is_member bytes_eq items text then Some text else None))
+stored_item items text = (refl, find_same bytes_eq-Decides text items)
+
 pub ruleset set_text_laws = (
   item_texts_empty,
   is_member_item_texts,
@@ -92,6 +101,7 @@ pub ruleset set_text_laws = (
   item_texts_put_item,
   item_texts_remove_key,
   find_item_item_texts,
+  stored_item,
   same_item_texts,
   put_item_back,
   length_put_item,
