@@ -118,13 +118,14 @@ all_members eq test (y ∷ items) laws each =
     let rest = all_members eq test items laws (λ x member. each x (grind (arith, member))) in
     grind (arith, each y here, rest)
 
--- where all numbers of a list pass a test, each member does. In a ruleset it would slow searches, so name it where it serves
 passes_there : (test : ℕ → Bool) (items : List ℕ) (x : ℕ) → list_all test items ≡ true
     → is_member nat_eq items x ≡ true → test x ≡ true
 passes_there test [] x all member = absurd (false≢true member)
 passes_there test (y ∷ items) x all member =
     grind (arith, nat_tests, all, member, passes_there test items x)
 
+-- where all numbers of a list pass a test, each member does. Name it where it serves: with it in a ruleset some searches
+-- reach their limit
 pub member_passes : (test : ℕ → Bool) (items : List ℕ)
     → Where (list_all test items)
     ((x : ℕ) → list_all test items ≡ true → is_member nat_eq items x ≡ true → test x ≡ true)
@@ -148,7 +149,7 @@ module _ {X : Type 0} (test : X → Bool) where
   all_or_any [] = refl
   all_or_any (x ∷ items) = grind (arith, all_or_any items)
 
-  -- all items pass a test exactly if none fails it. This too is to be named
+  -- all items pass a test exactly if none fails it. Name it too where it serves
   pub none_fails : (items : List X)
       → Where (list_all test items) (list_all test items ≡ not (list_any (λ x. not (test x)) items))
   none_fails items = (refl, all_or_any items)

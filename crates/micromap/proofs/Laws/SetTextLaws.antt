@@ -1,5 +1,6 @@
 -- For callers: what putting, replacing and taking out an item does to the list of the texts' bytes, and what is found there.
--- The laws hold for `String` and for `&str`. `stored_item` is of `TextBuf`. The ruleset `caller` of `Rules` has those that a search needs.
+-- The laws hold for `String` and for `&str`. `stored_item` is of `TextBuf`. The ruleset `caller` of `Rules` has those that a
+-- search needs.
 use Rattle.std.proofs.Common.{◌≡◌, ℕ, Bool, List, [], ◌∷◌, length, refl, ap, sym, ◌∙◌, arith, bytes_eq, option_map}
 use Rattle.std.proofs.Common.{Some, None, if◌then◌else◌}
 use Rattle.std.specs.List.{IsDistinct, find, list_any}
