@@ -44,7 +44,6 @@ WANTS = {
     "know by lengths": "has_more, have_same_items, holds_common",
     "know what each value satisfies": "each_below, know_sets",
     "know that a key is missing": "reissue, forget",
-    "equal keys, stored alike": "are_one",
     "map of a list": "map_of_list, whole_or_none, first_halves, zipped",
     "put a list into a map or a set": "put_each, put_each_then_read, put_list_whole, add_vector",
     "count the different keys of a list": "count_keys",

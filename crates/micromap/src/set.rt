@@ -79,7 +79,8 @@ impl<T: Eq, const N: usize> Set<T, N> {
     /// Returns `true` if the set has no items.
     #[inline]
     pub fn is_empty(&self) -> bool
-        ensures { result ≡ (length self.now == 0) }
+        ensures answer { result ≡ (length self.now == 0) }
+        ensures content { IsItems T.eq N self.now }
     {
         self.map.is_empty()
     }

@@ -92,7 +92,6 @@ pub fn put_each<K: Eq + Copy + Drop, const N: usize>(
     ensures put { OnTrue result (map.new ≡ put_all K.eq map.old items.now) }
     ensures refused { IsFalse result → N < length (put_all K.eq map.old items.now) }
 {
-    let _content = map.len();
     for item in items {
         if !map.fits(&item.0) {
             return false;
@@ -126,7 +125,6 @@ pub fn put_each_then_read<K: Eq + Copy + Drop, const N: usize>(
 ) -> Option<Option<u8>>
     ensures { IfSome result (λ found. found ≡ option_or (at K.eq (reverse items.now) key.now) (at K.eq map.old key.now)) }
 {
-    let _content = map.len();
     if !put_each(map, items) {
         return None;
     }

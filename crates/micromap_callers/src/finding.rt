@@ -98,7 +98,7 @@ pub fn first_unmet<const N: usize, const M: usize>(
 
 /// Finds the first pair that passes a test, by reference.
 /// It returns `None` if none does. A `find` over pairs needs an answer, which is one law. A loop finds the pair by
-/// value, as `first_over` does in `over`.
+/// value, as in `over`.
 pub fn pair_above<const N: usize>(pairs: &Map<u8, u32, N>, limit: u32) -> Option<(&u8, &u32)>
     ensures { option_map deref_pair result ≡ find (λ p. nat_lt limit p.1) pairs.now }
 {

@@ -6,8 +6,9 @@ ghost use Rattle.std.specs.Bool.{OnTrue};
 ghost use Rattle.std.specs.List.{list_all, range_with_len};
 ghost use Rattle.std.specs.Set.{is_member};
 ghost use Rattle.micromap.specs.Build.{put_all};
+ghost use Rattle.micromap.specs.Extend.{put_all_items};
 ghost use Rattle.micromap.specs.Items.{put_item, put_item_if_fits, take_item};
-ghost use Rattle.micromap.specs.Operations.{difference, union};
+ghost use Rattle.micromap.specs.Operations.{difference};
 ghost use Rattle.micromap.specs.Pairs.{fits, has, put_if_fits};
 ghost use Rattle.micromap.specs.Same.{Same};
 
@@ -65,33 +66,17 @@ pub fn merged_any<K: Eq + Copy, V: Copy, const N: usize, const M: usize>(
     )
 }
 
-// Adds the items of another set. If it returns `true`, the set is the union. If it returns `false`, the union has more
-// than `N` items.
-fn add_all_items<const N: usize, const M: usize>(set: &mut Set<u8, N>, other: &Set<u8, M>) -> bool
-    ensures union { OnTrue result (set.new ≡ union nat_eq other.now set.old) }
-    ensures refused { IsFalse result → N < length (union nat_eq other.now set.old) }
-{
-    for item in other {
-        if !set.fits(item) {
-            return false;
-        }
-        set.insert(*item);
-    }
-    true
-}
-
-/// Puts the items of a set into another, and knows each member.
-/// It returns `false` exactly if the union has more than `N` items.
+/// Puts the items of a set into another, all or nothing, and knows each member.
+/// It returns `false`, and nothing changes, exactly if they don't all fit.
 pub fn include<const N: usize, const M: usize>(
     permissions: &mut Set<u8, N>,
     others: &Set<u8, M>,
 ) -> bool
     ensures members { IsTrue result → (x : _) → is_member nat_eq permissions.new x ≡ (is_member nat_eq others.now x || is_member nat_eq permissions.old x) }
-    ensures refused { IsFalse result ↔ (N < length (union nat_eq others.now permissions.old)) }
+    ensures unchanged { IsFalse result → permissions.new ≡ permissions.old }
+    ensures refused { IsFalse result ↔ (N < length (put_all_items nat_eq permissions.old others.now)) }
 {
-    let whole = add_all_items(permissions, others);
-    let _content = permissions.len();
-    whole
+    permissions.try_extend_from(others).is_ok()
 }
 
 /// Puts the pairs of another map whose keys are missing, as far as they fit, as defaults are filled in.

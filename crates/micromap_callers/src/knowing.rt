@@ -15,18 +15,6 @@ ghost use Rattle.micromap.specs.Same.{HaveEqualItems, Same, has_value};
 
 use micromap::{Map, Set};
 
-// Returns the first pair whose amount is over the limit, if any.
-fn first_over<const N: usize>(amounts: &Map<u8, u8, N>, limit: u8) -> Option<(u8, u8)>
-    ensures { result ≡ find (λ p. nat_lt limit p.1) amounts.now }
-{
-    for (key, amount) in amounts {
-        if *amount > limit {
-            return Some((*key, *amount));
-        }
-    }
-    None
-}
-
 /// Finds a pair that passes, or tells that no key has one.
 /// `get` finds the pair at its key. If the answer is `None`, no pair that a key finds passes.
 pub fn over<const N: usize>(amounts: &Map<u8, u8, N>, limit: u8) -> Option<(u8, u8)>
@@ -34,8 +22,12 @@ pub fn over<const N: usize>(amounts: &Map<u8, u8, N>, limit: u8) -> Option<(u8, 
     ensures over { IfSome result (λ p. IsTrue (nat_lt limit p.1)) }
     ensures none { IsNone result → (k p : _) → pair nat_eq amounts.now k ≡ Some p → IsFalse (nat_lt limit p.1) }
 {
-    let _content = amounts.len();
-    first_over(amounts, limit)
+    for (key, amount) in amounts {
+        if *amount > limit {
+            return Some((*key, *amount));
+        }
+    }
+    None
 }
 
 // Returns whether all values are below a limit.
@@ -71,15 +63,6 @@ pub fn reissue<const N: usize>(leases: &mut Map<u8, u8, N>, from: u8, to: u8) ->
     }
 }
 
-/// Tells that of two equal keys both are stored, or neither.
-/// It returns whether the keys are equal.
-pub fn are_one<const N: usize>(leases: &Map<u8, u8, N>, one: u8, other: u8) -> bool
-    ensures { IsTrue result → has nat_eq leases.now one ≡ has nat_eq leases.now other }
-{
-    let _content = leases.len();
-    one == other
-}
-
 /// Tells by a comparison that each key finds the same.
 /// If it returns `true`, each key finds the same in both maps. Of signed values the clause has
 /// `IsTrue (option_eq int_eq (at nat_eq one.now k) (at nat_eq other.now k))`: by `≡` the search doesn't find it.
@@ -112,7 +95,6 @@ pub fn has_no_difference<const N: usize>(one: &Map<u8, u8, N>, other: &Map<u8, u
     ensures other { IsTrue result → filter (λ p. not (has nat_eq one.now p.0)) other.now ≡ [] }
     ensures values { IsTrue result → filter (λ p. has nat_eq other.now p.0 && not (has_value nat_eq nat_eq other.now p)) one.now ≡ [] }
 {
-    let _contents = (one.len(), other.len());
     one.eq_with(other)
 }
 
@@ -127,7 +109,6 @@ pub fn are_same<const N: usize>(
     ensures same { OnTrue result (Same nat_eq nat_eq first.now third.now) }
     ensures long { OnTrue result (length first.now ≡ length third.now) }
 {
-    let _contents = (first.len(), third.len());
     first.eq_with(second) && second.eq_with(third)
 }
 
@@ -154,7 +135,7 @@ pub fn have_same_items<const N: usize, const M: usize>(
     first.len() == second.len() && first.is_subset(second)
 }
 
-/// Tells by one length that two sets share at most `L` items.
+/// Tells by the lengths that two sets share at most `L` items.
 /// It does so if it returns `true`.
 pub fn holds_common<const L: usize, const N: usize, const M: usize>(
     first: &Set<u8, N>,
@@ -162,8 +143,7 @@ pub fn holds_common<const L: usize, const N: usize, const M: usize>(
 ) -> bool
     ensures { OnTrue result (length (intersection nat_eq first.now second.now) ≤ L) }
 {
-    let _content = first.len();
-    second.len() <= L
+    first.len().min(second.len()) <= L
 }
 
 /// Tells that two maps that fair calls don't distinguish compare equal.

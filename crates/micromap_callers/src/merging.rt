@@ -48,22 +48,23 @@ pub fn counted(votes: &[u8]) -> Map<u8, u32, 16>
 }
 
 /// Adds each amount of a list to the total of its key.
-/// A total stays at the greatest number. New keys go last, in the order in which each first came. It returns `false`
-/// exactly if there would be more than `N` keys. A new map of the totals is made as in `groups_of`.
+/// A total stays at the greatest number. New keys go last, in the order in which each first came. It returns `false`, and
+/// nothing changes, exactly if there would be more than `N` keys. A new map of the totals is made as in `groups_of`.
 pub fn add_amounts<const N: usize>(totals: &mut Map<u8, u32, N>, amounts: &[(u8, u32)]) -> bool
     ensures totals { OnTrue result (totals.new ≡ merged nat_eq saturated_sum totals.old amounts.now) }
     ensures refused { IsFalse result ↔ (N < length (merged nat_eq saturated_sum totals.old amounts.now)) }
+    ensures unchanged { IsFalse result → totals.new ≡ totals.old }
     ensures keys { OnTrue result (keys_of totals.new ≡ put_all_items nat_eq (keys_of totals.old) (keys_of amounts.now)) }
 {
-    let _content = totals.len();
+    let mut sums = totals.copied();
     for (number, amount) in amounts {
-        if !totals.fits(number) {
+        if !sums.fits(number) {
             return false;
         }
-        let total = totals.get(number).copied().unwrap_or(0);
-        totals.insert(*number, total.saturating_add(*amount));
+        let total = sums.get(number).copied().unwrap_or(0);
+        sums.insert(*number, total.saturating_add(*amount));
     }
-    let _content_after = totals.len();
+    *totals = sums;
     true
 }
 
@@ -125,42 +126,48 @@ pub fn keep_greatest<const N: usize>(greatest: &mut Map<u8, u32, N>, amounts: &[
 }
 
 /// Adds the amounts of another map to the totals of a map.
-/// A total stays at the greatest number. It returns `false` exactly if there would be more than `N` keys.
+/// A total stays at the greatest number. It returns `false`, and nothing changes, exactly if there would be more than `N`
+/// keys.
 pub fn add_map<const N: usize, const M: usize>(
     totals: &mut Map<u8, u32, N>,
     amounts: &Map<u8, u32, M>,
 ) -> bool
     ensures totals { OnTrue result (totals.new ≡ merged nat_eq saturated_sum totals.old amounts.now) }
     ensures refused { IsFalse result ↔ (N < length (merged nat_eq saturated_sum totals.old amounts.now)) }
+    ensures unchanged { IsFalse result → totals.new ≡ totals.old }
 {
+    let mut sums = totals.copied();
     for (number, amount) in amounts {
-        let total = totals.get(number).copied().unwrap_or(0);
-        if totals
+        let total = sums.get(number).copied().unwrap_or(0);
+        if sums
             .checked_insert(*number, total.saturating_add(*amount))
             .is_none()
         {
             return false;
         }
     }
-    let _content = totals.len();
+    *totals = sums;
     true
 }
 
 /// Adds the amounts of a `Vec` by value.
-/// A total stays at the greatest number. It returns `false` exactly if there would be more than `N` keys.
+/// A total stays at the greatest number. It returns `false`, and nothing changes, exactly if there would be more than `N`
+/// keys.
 pub fn add_vector<const N: usize>(totals: &mut Map<u8, u32, N>, amounts: Vec<(u8, u32)>) -> bool
     ensures totals { OnTrue result (totals.new ≡ merged nat_eq saturated_sum totals.old (vec_items amounts)) }
     ensures refused { IsFalse result ↔ (N < length (merged nat_eq saturated_sum totals.old (vec_items amounts))) }
+    ensures unchanged { IsFalse result → totals.new ≡ totals.old }
 {
+    let mut sums = totals.copied();
     for (number, amount) in amounts {
-        let total = totals.get(&number).copied().unwrap_or(0);
-        if totals
+        let total = sums.get(&number).copied().unwrap_or(0);
+        if sums
             .checked_insert(number, total.saturating_add(amount))
             .is_none()
         {
             return false;
         }
     }
-    let _content = totals.len();
+    *totals = sums;
     true
 }

@@ -223,7 +223,6 @@ pub fn reached_from<const N: usize, const M: usize>(
     met.insert(start);
     while let Some(node) = next_node(graph, &met) {
         if !met.fits(&node) {
-            let _content = met.len();
             return None;
         }
         met.insert(node);

@@ -186,44 +186,47 @@ fn added(balance: Option<i64>, amount: &i64) -> i64
 }
 
 /// Adds the signed amounts of another map to the balances of a map.
-/// A sum that doesn't fit stays at the end of the range. It returns `false` exactly if there would be more than `N` keys.
+/// A sum that doesn't fit stays at the end of the range. It returns `false`, and nothing changes, exactly if there would be
+/// more than `N` keys.
 pub fn add_signed_map<const N: usize, const M: usize>(
     balances: &mut Map<u8, i64, N>,
     amounts: &Map<u8, i64, M>,
 ) -> bool
     ensures balances { OnTrue result (balances.new ≡ merged nat_eq balance_with balances.old amounts.now) }
     ensures refused { IsFalse result ↔ (N < length (merged nat_eq balance_with balances.old amounts.now)) }
+    ensures unchanged { IsFalse result → balances.new ≡ balances.old }
 {
+    let mut sums = balances.copied();
     for (account, amount) in amounts {
-        if !balances.fits(account) {
-            let _content = balances.len();
+        if !sums.fits(account) {
             return false;
         }
-        let balance = added(balances.get(account).copied(), amount);
-        balances.insert(*account, balance);
+        let balance = added(sums.get(account).copied(), amount);
+        sums.insert(*account, balance);
     }
-    let _content = balances.len();
+    *balances = sums;
     true
 }
 
 /// Adds each signed amount of a list to the balance of its key.
-/// A sum that doesn't fit stays at the end of the range. It returns `false` exactly if there would be more than
-/// `N` keys.
+/// A sum that doesn't fit stays at the end of the range. It returns `false`, and nothing changes, exactly if there would be
+/// more than `N` keys.
 pub fn add_signed_list<const N: usize>(
     balances: &mut Map<u8, i64, N>,
     amounts: &[(u8, i64)],
 ) -> bool
     ensures balances { OnTrue result (balances.new ≡ merged nat_eq balance_with balances.old amounts.now) }
     ensures refused { IsFalse result ↔ (N < length (merged nat_eq balance_with balances.old amounts.now)) }
+    ensures unchanged { IsFalse result → balances.new ≡ balances.old }
 {
-    let _content = balances.len();
+    let mut sums = balances.copied();
     for (account, amount) in amounts {
-        if !balances.fits(account) {
+        if !sums.fits(account) {
             return false;
         }
-        let balance = added(balances.get(account).copied(), amount);
-        balances.insert(*account, balance);
+        let balance = added(sums.get(account).copied(), amount);
+        sums.insert(*account, balance);
     }
-    let _content_after = balances.len();
+    *balances = sums;
     true
 }

@@ -232,23 +232,6 @@ pub fn union_of<const N: usize, const M: usize, const L: usize>(
     Ok(Some(names))
 }
 
-// Puts the pairs of another map over those of a map, up to the first that doesn't fit.
-fn overlay<const N: usize, const M: usize>(
-    settings: &mut Map<TextBuf, TextBuf, N>,
-    other: &Map<TextBuf, TextBuf, M>,
-) -> Result<bool, AllocError>
-    ensures settings { IfOk result (λ all. OnTrue all (settings.new ≡ put_all bytes_eq settings.old other.now)) }
-    ensures refused { IfOk result (λ all. IsFalse all → N < length (put_all bytes_eq settings.old other.now)) }
-{
-    for (name, value) in other {
-        if !settings.fits(name) {
-            return Ok(false);
-        }
-        settings.insert(name.clone()?, value.clone()?);
-    }
-    Ok(true)
-}
-
 /// Copies settings with others put over them, or returns `None` if they don't all fit.
 pub fn merged_settings<const N: usize, const M: usize>(
     settings: &Map<TextBuf, TextBuf, N>,
@@ -258,9 +241,11 @@ pub fn merged_settings<const N: usize, const M: usize>(
     ensures refused { IfOk result (λ answer. IsNone answer ↔ (N < length (put_all bytes_eq settings.now other.now))) }
 {
     let mut merged = settings.clone()?;
-    if !overlay(&mut merged, other)? {
-        return Ok(None);
+    for (name, value) in other {
+        if !merged.fits(name) {
+            return Ok(None);
+        }
+        merged.insert(name.clone()?, value.clone()?);
     }
-    let _content = merged.len();
     Ok(Some(merged))
 }

@@ -85,7 +85,8 @@ impl<K: Eq, V, const N: usize> Map<K, V, N> {
     /// Returns `true` if the map has no pairs.
     #[inline]
     pub fn is_empty(&self) -> bool
-        ensures { result ≡ (length self.now == 0) }
+        ensures answer { result ≡ (length self.now == 0) }
+        ensures content { IsContent K.eq N self.now }
     {
         self.len() == 0
     }

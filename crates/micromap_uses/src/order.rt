@@ -5,7 +5,7 @@ ghost use Rattle.std.specs.Map.{keys_of};
 ghost use Rattle.std.specs.Option.{option_map};
 ghost use Rattle.std.specs.Set.{is_member};
 ghost use Rattle.micromap.specs.Operations.{IsDisjoint};
-ghost use Rattle.micromap.specs.Pairs.{has};
+ghost use Rattle.micromap.specs.Pairs.{IsContent, has};
 ghost use Rattle.micromap_uses.specs.Order.{is_blocked, is_next, is_next_affected, is_ready, is_touched, DependsOn, IsOrdered};
 
 use micromap::{Map, Set};
@@ -36,7 +36,6 @@ fn order_of<const D: usize, const N: usize>(plan: &Plan<D, N>) -> Set<u8, N>
     ensures targets { (target : ℕ) → is_member nat_eq result target ≡ true → has nat_eq plan.now target ≡ true }
     ensures complete { (target : ℕ) → is_ready plan.now result target ≡ true → is_member nat_eq result target ≡ true }
 {
-    let _content = plan.len();
     let mut built = Set::new();
     while let Some(target) = next_ready(plan, &built) {
         built.insert(target);
@@ -46,7 +45,8 @@ fn order_of<const D: usize, const N: usize>(plan: &Plan<D, N>) -> Set<u8, N>
 
 // Returns the first target that isn't built yet and needs none but those that are.
 fn next_ready<const D: usize, const N: usize>(plan: &Plan<D, N>, built: &Set<u8, N>) -> Option<u8>
-    ensures { result ≡ option_map (λ p. p.0) (find (is_next built.now) plan.now) }
+    ensures answer { result ≡ option_map (λ p. p.0) (find (is_next built.now) plan.now) }
+    ensures content { IsContent nat_eq N plan.now }
 {
     for (target, needs) in plan {
         if !built.contains(target) && needs.is_subset(built) {
@@ -76,7 +76,6 @@ fn left_of<const D: usize, const N: usize>(plan: &Plan<D, N>, built: &Set<u8, N>
 pub fn affected<const D: usize, const N: usize>(plan: &Plan<D, N>, target: u8) -> Set<u8, N>
     ensures { (x : ℕ) → IsTrue (is_member nat_eq result x) ↔ DependsOn plan.now x target }
 {
-    let _content = plan.len();
     let mut met = Set::new();
     while let Some(next) = next_affected(plan, target, &met) {
         met.insert(next);
@@ -90,7 +89,8 @@ fn next_affected<const D: usize, const N: usize>(
     target: u8,
     met: &Set<u8, N>,
 ) -> Option<u8>
-    ensures { result ≡ option_map (λ p. p.0) (find (is_next_affected target met.now) plan.now) }
+    ensures answer { result ≡ option_map (λ p. p.0) (find (is_next_affected target met.now) plan.now) }
+    ensures content { IsContent nat_eq N plan.now }
 {
     for (next, needs) in plan {
         if !met.contains(next) && needs_met(needs, target, met) {

@@ -1,11 +1,14 @@
 //! Writing a map as an object, and a set as an array.
 ghost use Rattle.std.specs.Prelude.{◌≡◌, ℕ, ◌≤◌, length, IfOk, IfErr, Ok, Some, string_bytes};
+ghost use Rattle.std.specs.String.{string_eq};
 ghost use Rattle.serde_json.specs.Data.{array, depth, number, object};
 ghost use Rattle.serde_json.specs.Find.{of_integer};
 ghost use Rattle.serde_json.specs.Read.{read};
 ghost use Rattle.serde_json.specs.View.{view};
 ghost use Rattle.serde_json.specs.Written.{compact_text};
+ghost use Rattle.micromap.specs.Items.{IsItems};
 ghost use Rattle.micromap.specs.Json.{HasPairs, elements, members, texts_for, whole_number};
+ghost use Rattle.micromap.specs.Pairs.{IsContent};
 ghost use Rattle.micromap.specs.Texts.{item_texts};
 ghost use Rattle.micromap.specs.declared.json.JsonFault.TheVariants.{Memory};
 
@@ -26,6 +29,7 @@ pub fn map_to_json<const N: usize>(
         → HasPairs M (string_bytes text) map.now) }
     ensures text { IfOk result (λ text. string_bytes text ≡ compact_text (object (members map.now))) }
     ensures fault { IfErr result (λ fault. fault ≡ Memory) }
+    ensures content { IsContent string_eq N map.now }
 {
     let _content = map.len();
     let mut members = serde_json::Map::new(alloc);
@@ -44,6 +48,7 @@ pub fn set_to_json<const N: usize>(alloc: Global, set: &Set<String, N>) -> Resul
         → texts_for M (string_bytes text) ≡ Ok (item_texts set.now)) }
     ensures text { IfOk result (λ text. string_bytes text ≡ compact_text (array (elements set.now))) }
     ensures fault { IfErr result (λ fault. fault ≡ Memory) }
+    ensures content { IsItems string_eq N set.now }
 {
     let _content = set.len();
     let mut elements = Vec::new(alloc);

@@ -13,7 +13,7 @@ impl<T: Eq + Drop, const N: usize> Set<T, N> {
         ensures refuses { IsErr result ↔ (M < length self) }
         ensures items { IfOk result (λ set. set ≡ self) }
         ensures unchanged { IfErr result (λ set. set ≡ self) }
-        ensures content { IfOk result (IsItems T.eq M) }
+        ensures content { IsItems T.eq N self × IfOk result (IsItems T.eq M) }
     {
         let Set { map } = self;
         match map.into_capacity() {

@@ -2,7 +2,7 @@
 ghost use Rattle.std.specs.Prelude.{◌≡◌, ◌-◌, length, slice_get};
 ghost use Rattle.std.specs.Option.{option_copied};
 ghost use Rattle.std.specs.Set.{is_member};
-ghost use Rattle.micromap.specs.Items.{find_item, item_fits};
+ghost use Rattle.micromap.specs.Items.{IsItems, find_item, item_fits};
 
 use super::Set;
 
@@ -10,7 +10,8 @@ impl<T: Eq, const N: usize> Set<T, N> {
     /// Returns a reference to the stored item that equals `item`, or `None` if there is none. Makes one scan.
     #[inline]
     pub fn get(&self, item: &T) -> Option<&T>
-        ensures { option_copied result ≡ find_item T.eq self.now item.now }
+        ensures answer { option_copied result ≡ find_item T.eq self.now item.now }
+        ensures content { IsItems T.eq N self.now }
     {
         let (stored, _) = self.map.get_key_value(item)?;
         Some(stored)
@@ -19,7 +20,8 @@ impl<T: Eq, const N: usize> Set<T, N> {
     /// Returns a reference to the first item, or `None` if the set is empty. Compares no item.
     #[inline]
     pub fn first(&self) -> Option<&T>
-        ensures { option_copied result ≡ slice_get self.now 0 }
+        ensures answer { option_copied result ≡ slice_get self.now 0 }
+        ensures content { IsItems T.eq N self.now }
     {
         let (item, _) = self.map.first()?;
         Some(item)
@@ -28,7 +30,8 @@ impl<T: Eq, const N: usize> Set<T, N> {
     /// Returns a reference to the last item, or `None` if the set is empty. Compares no item.
     #[inline]
     pub fn last(&self) -> Option<&T>
-        ensures { option_copied result ≡ slice_get self.now (length self.now - 1) }
+        ensures answer { option_copied result ≡ slice_get self.now (length self.now - 1) }
+        ensures content { IsItems T.eq N self.now }
     {
         let (item, _) = self.map.last()?;
         Some(item)
@@ -37,7 +40,8 @@ impl<T: Eq, const N: usize> Set<T, N> {
     /// Returns `true` if a stored item equals `item`. Makes one scan.
     #[inline]
     pub fn contains(&self, item: &T) -> bool
-        ensures { result ≡ is_member T.eq self.now item.now }
+        ensures answer { result ≡ is_member T.eq self.now item.now }
+        ensures content { IsItems T.eq N self.now }
     {
         self.map.contains_key(item)
     }
@@ -47,7 +51,8 @@ impl<T: Eq, const N: usize> Set<T, N> {
     /// Compares no item if there is room. Else it makes one scan.
     #[inline]
     pub fn fits(&self, item: &T) -> bool
-        ensures { result ≡ item_fits T.eq N self.now item.now }
+        ensures answer { result ≡ item_fits T.eq N self.now item.now }
+        ensures content { IsItems T.eq N self.now }
     {
         self.map.fits(item)
     }

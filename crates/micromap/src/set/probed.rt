@@ -4,7 +4,7 @@ ghost use Rattle.std.specs.Prelude.{◌≡◌, is_some};
 ghost use Rattle.std.specs.List.{find, list_any};
 ghost use Rattle.std.specs.Option.{option_copied};
 ghost use Rattle.std.specs.Set.{remove_key};
-ghost use Rattle.micromap.specs.Items.{AreItems, item_fits_by};
+ghost use Rattle.micromap.specs.Items.{AreItems, IsItems, item_fits_by};
 
 use super::{Set, item_of};
 use crate::Probe;
@@ -13,7 +13,8 @@ impl<T: Eq, const N: usize> Set<T, N> {
     /// Returns a reference to the item that matches, or `None` if none does. Makes one scan.
     #[inline]
     pub fn get_by<P: Probe<T>>(&self, probe: &P) -> Option<&T>
-        ensures { option_copied result ≡ find (P.matches probe.now) self.now }
+        ensures answer { option_copied result ≡ find (P.matches probe.now) self.now }
+        ensures content { IsItems T.eq N self.now }
     {
         let (stored, _) = self.map.get_key_value_by(probe)?;
         Some(stored)
@@ -22,7 +23,8 @@ impl<T: Eq, const N: usize> Set<T, N> {
     /// Returns `true` if a stored item matches. Makes one scan.
     #[inline]
     pub fn contains_by<P: Probe<T>>(&self, probe: &P) -> bool
-        ensures { result ≡ list_any (P.matches probe.now) self.now }
+        ensures answer { result ≡ list_any (P.matches probe.now) self.now }
+        ensures content { IsItems T.eq N self.now }
     {
         self.map.contains_key_by(probe)
     }
@@ -32,7 +34,8 @@ impl<T: Eq, const N: usize> Set<T, N> {
     /// No item need be made to ask. Compares no item if there is room. Else it makes one scan.
     #[inline]
     pub fn fits_by<P: Probe<T>>(&self, probe: &P) -> bool
-        ensures { result ≡ item_fits_by (P.matches probe.now) N self.now }
+        ensures answer { result ≡ item_fits_by (P.matches probe.now) N self.now }
+        ensures content { IsItems T.eq N self.now }
     {
         self.map.fits_by(probe)
     }

@@ -2,6 +2,7 @@
 ghost use Rattle.std.specs.Prelude.{◌≡◌, ◌↔◌, [], not, IsTrue};
 ghost use Rattle.std.specs.List.{list_all};
 ghost use Rattle.std.specs.Set.{is_member};
+ghost use Rattle.micromap.specs.Items.{IsItems};
 ghost use Rattle.micromap.specs.Operations.{difference, intersection, IsDisjoint, IsSubset};
 
 use super::Set;
@@ -15,6 +16,7 @@ impl<T: Eq, const N: usize> Set<T, N> {
         ensures answer { result ≡ list_all (is_member T.eq other.now) self.now }
         ensures members { IsTrue result ↔ IsSubset T.eq self.now other.now }
         ensures nothing_beyond { IsTrue result ↔ (difference T.eq self.now other.now ≡ []) }
+        ensures content { IsItems T.eq N self.now × IsItems T.eq M other.now }
     {
         // With fewer items in `other`, not each of these can have an equal one.
         if self.len() > other.len() {
@@ -27,6 +29,7 @@ impl<T: Eq, const N: usize> Set<T, N> {
     pub fn is_superset<const M: usize>(&self, other: &Set<T, M>) -> bool
         ensures answer { result ≡ list_all (is_member T.eq self.now) other.now }
         ensures members { IsTrue result ↔ IsSubset T.eq other.now self.now }
+        ensures content { IsItems T.eq N self.now × IsItems T.eq M other.now }
     {
         other.is_subset(self)
     }
@@ -40,6 +43,7 @@ impl<T: Eq, const N: usize> Set<T, N> {
         ensures turned { result ≡ list_all (λ x. not (is_member T.eq self.now x)) other.now }
         ensures members { IsTrue result ↔ IsDisjoint T.eq self.now other.now }
         ensures nothing_common { IsTrue result ↔ (intersection T.eq self.now other.now ≡ []) }
+        ensures content { IsItems T.eq N self.now × IsItems T.eq M other.now }
     {
         if self.len() <= other.len() {
             self.is_apart_from(other)

@@ -13,7 +13,7 @@ impl<K: Eq + Drop, V: Drop, const N: usize> Map<K, V, N> {
         ensures refuses { IsErr result ↔ (M < length self) }
         ensures pairs { IfOk result (λ map. map ≡ self) }
         ensures unchanged { IfErr result (λ map. map ≡ self) }
-        ensures content { IfOk result (IsContent K.eq M) }
+        ensures content { IsContent K.eq N self × IfOk result (IsContent K.eq M) }
     {
         if self.len() > M {
             return Err(self);

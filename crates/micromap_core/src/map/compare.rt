@@ -4,6 +4,7 @@ ghost use Rattle.std.specs.Bool.{OnTrue};
 ghost use Rattle.std.specs.Cmp.{partial_equiv_from_equiv};
 ghost use Rattle.std.specs.Option.{option_copied};
 ghost use Rattle.micromap_core.specs.Fair.{SameForGood, ToldApart};
+ghost use Rattle.micromap_core.specs.Pairs.{IsContent};
 ghost use Rattle.micromap_core.specs.Same.{same_at, is_same, Same, first_unequal, first_missing, first_difference};
 ghost use Rattle.micromap_core.specs.SameLaws.{is_same_equiv};
 
@@ -25,6 +26,7 @@ impl<K: Eq, V: Eq, const N: usize> Map<K, V, N> {
         ensures each { IsTrue result ↔ ((k : K) → IsTrue (same_at K.eq V.eq self.now other.now k)) }
         ensures told_apart { IsFalse result ↔ ToldApart K.eq V.eq N M self.now other.now }
         ensures outlasts { OnTrue result (SameForGood K.eq V.eq N M self.now other.now) }
+        ensures content { IsContent K.eq N self.now × IsContent K.eq M other.now }
     {
         // Both have the same number of keys, and `other` has each key of this map. So `other` has no other key.
         let lengths = (self.len(), other.len());
@@ -46,6 +48,7 @@ impl<K: Eq, V: Eq, const N: usize> Map<K, V, N> {
         ensures answer { option_copied result ≡ first_difference K.eq V.eq self.now other.now }
         ensures none { IsNone result ↔ Same K.eq V.eq self.now other.now }
         ensures differs { IfSome result (λ k. IsFalse (same_at K.eq V.eq self.now other.now k.now)) }
+        ensures content { IsContent K.eq N self.now × IsContent K.eq M other.now }
     {
         // `len` ensures what is true of each map's content.
         let _contents = (self.len(), other.len());

@@ -43,6 +43,7 @@ impl<K: Eq, V, const N: usize> Map<K, V, N> {
     pub(crate) fn find<P: Probe<K>>(&self, probe: &P) -> Option<(&K, &V)>
         ensures pair { option_map deref_pair result ≡ lookup_entry (P.matches probe.now) self.now }
         ensures value { option_map (λ p. p.1.now) result ≡ lookup (P.matches probe.now) self.now }
+        ensures content { IsContent K.eq N self.now }
     {
         let mut keys = self.keys();
         while let Some(key) = keys.next() {
@@ -57,9 +58,10 @@ impl<K: Eq, V, const N: usize> Map<K, V, N> {
     /// Returns `true` if there is room for one more pair.
     #[inline]
     pub(crate) fn has_room(&self) -> bool
-        ensures { result ≡ has_room N self.now }
+        ensures answer { result ≡ has_room N self.now }
+        ensures content { IsContent K.eq N self.now }
     {
-        self.pairs.len() < N
+        self.len() < N
     }
 
     /// Returns the pair at `index`.

@@ -18,7 +18,8 @@ impl<K: Eq, V, const N: usize> Map<K, V, N> {
     /// missing. `get_counted` counts its comparisons; only what it adds to the counter is proved.
     #[inline]
     pub fn get(&self, key: &K) -> Option<&V>
-        ensures { option_copied result ≡ at K.eq self.now key.now }
+        ensures answer { option_copied result ≡ at K.eq self.now key.now }
+        ensures content { IsContent K.eq N self.now }
     {
         let index = self.index_of(key)?;
         Some(self.pair_at(index).1)
@@ -42,7 +43,8 @@ impl<K: Eq, V, const N: usize> Map<K, V, N> {
     /// Returns references to the stored key and its value, or `None` if the key is missing. Makes one scan.
     #[inline]
     pub fn get_key_value(&self, key: &K) -> Option<(&K, &V)>
-        ensures { option_map deref_pair result ≡ pair K.eq self.now key.now }
+        ensures answer { option_map deref_pair result ≡ pair K.eq self.now key.now }
+        ensures content { IsContent K.eq N self.now }
     {
         let index = self.index_of(key)?;
         Some(self.pair_at(index))
@@ -51,7 +53,8 @@ impl<K: Eq, V, const N: usize> Map<K, V, N> {
     /// Returns references to the first key and its value, or `None` if the map is empty. Compares no key.
     #[inline]
     pub fn first(&self) -> Option<(&K, &V)>
-        ensures { option_map deref_pair result ≡ slice_get self.now 0 }
+        ensures answer { option_map deref_pair result ≡ slice_get self.now 0 }
+        ensures content { IsContent K.eq N self.now }
     {
         match self.len() {
             0 => None,
@@ -62,7 +65,8 @@ impl<K: Eq, V, const N: usize> Map<K, V, N> {
     /// Returns references to the last key and its value, or `None` if the map is empty. Compares no key.
     #[inline]
     pub fn last(&self) -> Option<(&K, &V)>
-        ensures { option_map deref_pair result ≡ slice_get self.now (length self.now - 1) }
+        ensures answer { option_map deref_pair result ≡ slice_get self.now (length self.now - 1) }
+        ensures content { IsContent K.eq N self.now }
     {
         match self.len() {
             0 => None,
@@ -73,7 +77,8 @@ impl<K: Eq, V, const N: usize> Map<K, V, N> {
     /// Returns `true` if a stored key equals `key`. Makes one scan.
     #[inline]
     pub fn contains_key(&self, key: &K) -> bool
-        ensures { result ≡ has K.eq self.now key.now }
+        ensures answer { result ≡ has K.eq self.now key.now }
+        ensures content { IsContent K.eq N self.now }
     {
         self.index_of(key).is_some()
     }
@@ -83,7 +88,8 @@ impl<K: Eq, V, const N: usize> Map<K, V, N> {
     /// Compares no key if there is room. Else it makes one scan.
     #[inline]
     pub fn fits(&self, key: &K) -> bool
-        ensures { result ≡ fits K.eq N self.now key.now }
+        ensures answer { result ≡ fits K.eq N self.now key.now }
+        ensures content { IsContent K.eq N self.now }
     {
         self.has_room() || self.contains_key(key)
     }
@@ -94,7 +100,8 @@ impl<K: Eq, V, const N: usize> Map<K, V, N> {
     #[inline]
     pub fn index(&self, key: &K) -> &V
         requires { IsTrue (has K.eq self.now key.now) }
-        ensures { at K.eq self.now key.now ≡ Some result.now }
+        ensures answer { at K.eq self.now key.now ≡ Some result.now }
+        ensures content { IsContent K.eq N self.now }
     {
         match self.index_of(key) {
             Some(index) => self.pair_at(index).1,
@@ -121,7 +128,8 @@ impl<K: Eq, V: Copy, const N: usize> Map<K, V, N> {
     /// Returns a copy of the value of `key`, or `default` if the key is missing. Makes one scan.
     #[inline]
     pub fn get_or(&self, key: &K, default: V) -> V
-        ensures { result ≡ unwrap_or (at K.eq self.now key.now) default }
+        ensures answer { result ≡ unwrap_or (at K.eq self.now key.now) default }
+        ensures content { IsContent K.eq N self.now }
     {
         self.get(key).copied().unwrap_or(default)
     }

@@ -21,7 +21,8 @@ impl<K: Eq, V, const N: usize> Map<K, V, N> {
     /// ```
     #[inline]
     pub fn get_by<P: Probe<K>>(&self, probe: &P) -> Option<&V>
-        ensures { option_copied result ≡ lookup (P.matches probe.now) self.now }
+        ensures answer { option_copied result ≡ lookup (P.matches probe.now) self.now }
+        ensures content { IsContent K.eq N self.now }
     {
         let (_, value) = self.find(probe)?;
         Some(value)
@@ -46,7 +47,8 @@ impl<K: Eq, V, const N: usize> Map<K, V, N> {
     /// Returns references to the key that matches and its value, or `None` if none does. Makes one scan.
     #[inline]
     pub fn get_key_value_by<P: Probe<K>>(&self, probe: &P) -> Option<(&K, &V)>
-        ensures { option_map deref_pair result ≡ lookup_entry (P.matches probe.now) self.now }
+        ensures answer { option_map deref_pair result ≡ lookup_entry (P.matches probe.now) self.now }
+        ensures content { IsContent K.eq N self.now }
     {
         self.find(probe)
     }
@@ -54,7 +56,8 @@ impl<K: Eq, V, const N: usize> Map<K, V, N> {
     /// Returns `true` if a stored key matches. Makes one scan.
     #[inline]
     pub fn contains_key_by<P: Probe<K>>(&self, probe: &P) -> bool
-        ensures { result ≡ is_some (lookup (P.matches probe.now) self.now) }
+        ensures answer { result ≡ is_some (lookup (P.matches probe.now) self.now) }
+        ensures content { IsContent K.eq N self.now }
     {
         self.find(probe).is_some()
     }
@@ -64,7 +67,8 @@ impl<K: Eq, V, const N: usize> Map<K, V, N> {
     /// No key need be made to ask. Compares no key if there is room. Else it makes one scan.
     #[inline]
     pub fn fits_by<P: Probe<K>>(&self, probe: &P) -> bool
-        ensures { result ≡ fits_by (P.matches probe.now) N self.now }
+        ensures answer { result ≡ fits_by (P.matches probe.now) N self.now }
+        ensures content { IsContent K.eq N self.now }
     {
         self.has_room() || self.contains_key_by(probe)
     }
@@ -75,7 +79,8 @@ impl<K: Eq, V, const N: usize> Map<K, V, N> {
     #[inline]
     pub fn index_by<P: Probe<K>>(&self, probe: &P) -> &V
         requires { IsTrue (is_some (lookup (P.matches probe.now) self.now)) }
-        ensures { lookup (P.matches probe.now) self.now ≡ Some result.now }
+        ensures answer { lookup (P.matches probe.now) self.now ≡ Some result.now }
+        ensures content { IsContent K.eq N self.now }
     {
         match self.find(probe) {
             Some((_, value)) => value,
@@ -106,7 +111,8 @@ impl<K: Eq, V: Copy, const N: usize> Map<K, V, N> {
     /// Returns a copy of the value of the key that matches, or `default` if none does. Makes one scan.
     #[inline]
     pub fn get_or_by<P: Probe<K>>(&self, probe: &P, default: V) -> V
-        ensures { result ≡ unwrap_or (lookup (P.matches probe.now) self.now) default }
+        ensures answer { result ≡ unwrap_or (lookup (P.matches probe.now) self.now) default }
+        ensures content { IsContent K.eq N self.now }
     {
         self.get_by(probe).copied().unwrap_or(default)
     }

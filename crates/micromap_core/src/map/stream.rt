@@ -16,6 +16,7 @@ impl<K: Eq, V, const N: usize> Map<K, V, N> {
         ensures faultless { OnOk result (Faultless S.faults S.last_fault sink.old sink.new) }
         ensures beginning { OnErr result (TakesBeginning (S.taken sink.old) self.now (S.taken sink.new)) }
         ensures fault { IfErr result (Faults S.faults S.last_fault sink.old sink.new) }
+        ensures content { IsContent K.eq N self.now }
     {
         for (key, value) in self {
             sink.entry(key, value)?;

@@ -55,7 +55,9 @@ impl<K: Eq, V, const N: usize> Map<K, V, N> {
     pub fn into_keys(self) -> IntoKeys<K, V, N>
         ensures answer { result ≡ keys_of self }
         ensures runs { GivesInOrder K }
+        ensures content { IsContent K.eq N self }
     {
+        let _content = self.len();
         let Map { pairs } = self;
         let (keys, values) = pairs.into_array_vecs();
         IntoKeys::over(keys, values)
@@ -68,7 +70,9 @@ impl<K: Eq, V, const N: usize> Map<K, V, N> {
     pub fn into_values(self) -> IntoValues<K, V, N>
         ensures answer { result ≡ values_of self }
         ensures runs { GivesInOrder V }
+        ensures content { IsContent K.eq N self }
     {
+        let _content = self.len();
         let Map { pairs } = self;
         let (keys, values) = pairs.into_array_vecs();
         IntoValues::over(keys, values)

@@ -17,7 +17,6 @@ fn outgrow<const N: usize, const M: usize>(
     requires twice { M ≡ 2 * N }
     ensures { result ≡ put nat_eq map.entry key value }
 {
-    let _content = map.len();
     let mut larger = match map.into_capacity() {
         Ok(larger) => larger,
         Err(_) => unreachable!(),

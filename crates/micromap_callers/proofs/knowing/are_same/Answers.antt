@@ -14,4 +14,4 @@ returns-then-eq_with-clause-same g c =
 pub returns-then-eq_with-clause-long : goal.returns-then-eq_with-clause-long
 returns-then-eq_with-clause-long g c =
     OnTrue_from c.eq_with-then-eq_with.result _ (λ yes.
-    length-same nat_eq lawful_nat nat_eq lawful_nat c.args.first.now c.args.third.now c.len.ensures.content.unique c.len-2.ensures.content.unique (OnTrue_at yes (returns-then-eq_with-clause-same g c)))
+    length-same nat_eq lawful_nat nat_eq lawful_nat c.args.first.now c.args.third.now c.eq_with.ensures.content.0.unique c.eq_with-then-eq_with.ensures.content.1.unique (OnTrue_at yes (returns-then-eq_with-clause-same g c)))

@@ -6,9 +6,11 @@ use Rattle.micromap_callers.proofs.nested.reached_from.Given as goal
 
 -- the set so far has the start, and is within each closed list that has it
 abbrev pub invariant-loop-node : goal.invariant-loop-node
-invariant-loop-node g l = (is_member nat_eq l.met l.fn.start ≡ true)
-    × ((s : List ℕ) → is_member nat_eq s l.fn.start ≡ true → is_closed l.graph s ≡ true → list_all (is_member nat_eq s) l.met ≡ true)
-    × (length l.met ≤ g.row.M)
+invariant-loop-node g l = record {
+  start : is_member nat_eq l.met l.fn.start ≡ true;
+  least : (s : List ℕ) → is_member nat_eq s l.fn.start ≡ true → is_closed l.graph s ≡ true → list_all (is_member nat_eq s) l.met ≡ true;
+  bounded : length l.met ≤ g.row.M;
+}
 
 abbrev pub decreases-loop-node : goal.decreases-loop-node
 decreases-loop-node g l = g.row.M - length l.met

@@ -1,7 +1,8 @@
-use Rattle.std.specs.Prelude.{◌≡◌, nat_eq, take}
+use Rattle.std.specs.Prelude.{◌≡◌, ◌≤◌, length, nat_eq, take}
 use Rattle.micromap.specs.Build.{merged}
 use Rattle.micromap_callers.specs.Signed.{balance_with}
 use Rattle.micromap_callers.proofs.signed.add_signed_list.Given as goal
 
 abbrev pub invariant-loop-account : goal.invariant-loop-account
-invariant-loop-account g l = l.balances ≡ merged nat_eq balance_with l.initial.balances (take l.account-index l.amounts)
+invariant-loop-account g l = (l.sums ≡ merged nat_eq balance_with l.initial.sums (take l.account-index l.amounts))
+    × (length l.sums ≤ g.row.N)

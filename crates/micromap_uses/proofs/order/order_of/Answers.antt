@@ -8,15 +8,15 @@ use Rattle.micromap_uses.proofs.order.order_of.Goals as goal
 pub insert-requires : goal.insert-requires
 insert-requires g c =
     let old = c.loop-target.invariant in
-    let next = next_is_ready c.args.plan.now c.loop-target.built c.in-Some.target c.len-content.ensures.content.unique c.in-Some.ensures in
+    let next = next_is_ready c.args.plan.now c.loop-target.built c.in-Some.target c.in-Some.ensures.content.unique c.in-Some.ensures.answer in
     let here = is_ready-has c.args.plan.now c.loop-target.built c.in-Some.target next.0 in
     let few = fewer c.args.plan.now c.loop-target.built c.in-Some.target g.row.N old.content old.targets here next.1 in
-    (search rules, room c.args.plan.now c.loop-target.built c.in-Some.target g.row.N c.len-content.ensures.content few)
+    (search rules, room c.args.plan.now c.loop-target.built c.in-Some.target g.row.N c.in-Some.ensures.content few)
 
 pub loop-target-smaller : goal.loop-target-smaller
 loop-target-smaller g c =
     let old = c.loop-target.invariant in
-    let next = next_is_ready c.args.plan.now c.loop-target.built c.in-Some.target c.len-content.ensures.content.unique c.in-Some.ensures in
+    let next = next_is_ready c.args.plan.now c.loop-target.built c.in-Some.target c.in-Some.ensures.content.unique c.in-Some.ensures.answer in
     let here = is_ready-has c.args.plan.now c.loop-target.built c.in-Some.target next.0 in
     let few = fewer c.args.plan.now c.loop-target.built c.in-Some.target g.row.N old.content old.targets here next.1 in
     let new = next.1 in
@@ -26,7 +26,7 @@ loop-target-smaller g c =
 pub loop-target-preserved : goal.loop-target-preserved
 loop-target-preserved g c =
     let old = c.loop-target.invariant in
-    let next = next_is_ready c.args.plan.now c.loop-target.built c.in-Some.target c.len-content.ensures.content.unique c.in-Some.ensures in
+    let next = next_is_ready c.args.plan.now c.loop-target.built c.in-Some.target c.in-Some.ensures.content.unique c.in-Some.ensures.answer in
     let here = is_ready-has c.args.plan.now c.loop-target.built c.in-Some.target next.0 in
     let last : c.insert.new.self ≡ c.loop-target.built ++ c.in-Some.target ∷ [] = c.insert.ensures.items ∙ put_item_new nat_eq c.loop-target.built c.in-Some.target next.1 in
     record {
@@ -36,4 +36,4 @@ loop-target-preserved g c =
     }
 
 pub returns-clause-complete : goal.returns-clause-complete
-returns-clause-complete g c = λ target. none_is_next c.args.plan.now c.loop-target.built target (sym c.next_ready.ensures ∙ c.in_default.is)
+returns-clause-complete g c = λ target. none_is_next c.args.plan.now c.loop-target.built target (sym c.next_ready.ensures.answer ∙ c.in_default.is)

@@ -33,4 +33,5 @@ returns g c =
           → text ≡ compact_text d) (view-Array c.loop-text.elements)
           c.in_ok-to_string.ensures.text);
       fault = tt;
+      content = c.len-content.ensures.content;
     }

@@ -16,7 +16,8 @@ pub returns-in-Ok-clause-items : goal.returns-in-Ok-clause-items
 returns-in-Ok-clause-items g c = ap keys_of c.in-Ok.ensures.pairs ∙ c.self.view_is
 
 pub returns-in-Ok-clause-content : goal.returns-in-Ok-clause-content
-returns-in-Ok-clause-content g c = content_items refl c.in-Ok.ensures.content
+returns-in-Ok-clause-content g c =
+    (content_items c.self.view_is c.in-Ok.ensures.content.0, content_items refl c.in-Ok.ensures.content.1)
 
 pub returns-in-Err-clause-refuses : goal.returns-in-Err-clause-refuses
 returns-in-Err-clause-refuses g c = (

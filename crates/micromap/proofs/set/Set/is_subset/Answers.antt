@@ -9,10 +9,10 @@ returns-then-len g c =
     let answer = sym (missing_in_shorter g.met.T.Eq.laws c.args.self.now c.args.other.now
     c.len.ensures.content.unique short) in
     let says = subset_answered g.met.T.Eq.laws c.args.self.now c.args.other.now _ answer in
-    record { answer = answer; members = says.0; nothing_beyond = says.1 }
+    record { answer = answer; members = says.0; nothing_beyond = says.1; content = (c.len.ensures.content, c.len-2.ensures.content) }
 
 pub returns : goal.returns
 returns g c =
     let answer = c.is_within.ensures in
     let says = subset_answered g.met.T.Eq.laws c.args.self.now c.args.other.now _ answer in
-    record { answer = answer; members = says.0; nothing_beyond = says.1 }
+    record { answer = answer; members = says.0; nothing_beyond = says.1; content = (c.len.ensures.content, c.len-2.ensures.content) }

@@ -4,11 +4,11 @@ use Rattle.micromap.proofs.set.operations.next_where.Goals as goal
 
 pub returns-then-contains-common : goal.returns-then-contains-common
 returns-then-contains-common g c = walk_gives _ c.loop-x.invariant c.in-Some.ensures.steps
-    (as_asked c.args.common c.contains.ensures ∙ c.if-contains-common.true)
+    (as_asked c.args.common c.contains.ensures.answer ∙ c.if-contains-common.true)
 
 pub loop-x-preserved : goal.loop-x-preserved
 loop-x-preserved g c = meets_none _ c.loop-x.invariant c.in-Some.ensures.steps
-    (as_asked c.args.common c.contains.ensures ∙ c.if-contains-common.false)
+    (as_asked c.args.common c.contains.ensures.answer ∙ c.if-contains-common.false)
 
 pub returns : goal.returns
 returns g c = walk_ends _ c.loop-x.invariant c.in_default.ensures.steps.0 c.in_default.ensures.steps.1

@@ -54,7 +54,7 @@ pub returns : goal.returns
 returns g c =
     let none = not_found (g.P.Probe.matches c.args.probe.now) c.args.self.now
     (not_yet-missing c.loop-key.invariant c.in_default.ensures.steps.0) in
-    record { pair = sym none.entry; value = sym none.value }
+    record { pair = sym none.entry; value = sym none.value; content = c.keys-keys.ensures.content }
 
 pub returns-then-matches : goal.returns-then-matches
 returns-then-matches g c =
@@ -77,4 +77,5 @@ returns-then-matches g c =
       pair = pair ∙ sym found.entry;
       value = ap (option_map (λ p. p.1)) pair
           ∙ sym found.value;
+      content = c.keys-keys.ensures.content;
     }

@@ -11,9 +11,9 @@ loop-key-init g c = rw (
 pub returns-then-not-contains_key : goal.returns-then-not-contains_key
 returns-then-not-contains_key g c =
     sym (missing_step g.K.PartialEq.eq c.args.other.now c.in-Some.ensures.steps
-    c.if-not-contains_key.ensures) ∙ c.loop-key.invariant
+    c.if-not-contains_key.ensures.answer) ∙ c.loop-key.invariant
 
 pub loop-key-preserved : goal.loop-key-preserved
 loop-key-preserved g c = sym
     (missing_step g.K.PartialEq.eq c.args.other.now c.in-Some.ensures.steps
-    c.if-not-contains_key.ensures) ∙ c.loop-key.invariant
+    c.if-not-contains_key.ensures.answer) ∙ c.loop-key.invariant

@@ -43,7 +43,7 @@ loop-item-preserved-then-has_room g c =
     let goes = c.in-Some.ensures.goes.on l.invariant.finite in
     let x = c.in-Some.item in
     let missing = c.in-None-index_of.ensures.missing in
-    let room = c.has_room.ensures in
+    let room = c.has_room.ensures.answer in
     let next : c.push_pair.new.self ≡ count_one eq l.counts x = c.push_pair.ensures.put ∙ ap (λ o. put eq l.counts x (unwrap_or o 0 + 1)) (sym missing.value) in
     record {
       can = goes.0;
@@ -64,6 +64,6 @@ loop-item-preserved g c =
       can = goes.0;
       finite = goes.1;
       few = omega (arith, goes.2, l.invariant.few, length_push l.yielded x);
-      counting = counts_without eq g.row.N l.invariant.counting x (grind (arith, missing.value, sym c.has_room.ensures ∙ c.if-has_room.false));
+      counting = counts_without eq g.row.N l.invariant.counting x (grind (arith, missing.value, sym c.has_room.ensures.answer ∙ c.if-has_room.false));
       content = l.invariant.content;
     }
