@@ -102,7 +102,8 @@ pub fn put_each<K: Eq + Copy + Drop, const N: usize>(
 }
 
 /// Puts two pairs into a map, both or none, as an edge and its way back.
-/// It returns `false` exactly if they don't both fit. Then nothing changes.
+/// It returns `false` exactly if they don't both fit. Then nothing changes. A map of sets can't be `copied()`: there, test
+/// both changes first, and then make them.
 pub fn put_edge<const N: usize>(map: &mut Map<u8, u8, N>, one: u8, other: u8) -> bool
     ensures put { OnTrue result (map.new ≡ put nat_eq (put nat_eq map.old one other) other one) }
     ensures refused { IsFalse result ↔ (N < length (put nat_eq (put nat_eq map.old one other) other one)) }

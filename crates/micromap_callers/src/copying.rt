@@ -150,9 +150,10 @@ pub fn map_of_maps(a: &Map<u8, u32, 8>, b: &Map<u8, u32, 8>) -> Result<Map<u8, u
 }
 
 /// Makes a set of the keys of a map.
-/// The result is always `Ok`: the set has room for all keys. Those that pass go the same way, with `filter` behind
-/// `copied()`. Those whose values pass go by `retain` on a copy of the map, or as in `keys_over`. The values go by
-/// `values()`, and are `distinct nat_eq (map (λ p. p.1) pairs.now)`.
+/// The result is always `Ok`: the set has room for all keys. A second function gets the set by a `match`, whose arm `Err`
+/// is `unreachable!()`. Those that pass go the same way, with `filter` behind `copied()`. Those whose values pass go by
+/// `retain` on a copy of the map, or as in `keys_over`. The values go by `values()`, and are
+/// `distinct nat_eq (map (λ p. p.1) pairs.now)`.
 pub fn set_of_keys<const N: usize>(pairs: &Map<u8, u32, N>) -> Result<Set<u8, N>, Overfull>
     ensures keys { IfOk result (λ s. s ≡ keys_of pairs.now) }
     ensures room { IsOk result }

@@ -9,6 +9,7 @@ ghost use Rattle.std.specs.Set.{is_member};
 ghost use Rattle.micromap.specs.Operations.{union};
 ghost use Rattle.micromap.specs.Pairs.{at, has};
 
+use micromap::map::Values;
 use micromap::{Map, Set};
 
 /// Counts the pairs that pass a test.
@@ -102,25 +103,24 @@ pub fn total<const N: usize>(pairs: &Map<u8, u32, N>) -> u32
     pairs.values().sum()
 }
 
-/// Adds up the values in a wider type.
-/// A bound on the number of pairs says that the sum fits. A set's items go the same way, by `set.iter()`, and what is
-/// made of each pair by `iter()` and `sum_by`.
-pub fn total_wide<const N: usize>(pairs: &Map<u8, u32, N>) -> u64
-    requires { length (values_of pairs.now) ≤ 2 ^ 32 }
-    ensures { result ≡ sum (values_of pairs.now) }
+/// Adds up the values that an iterator yields in a wider type.
+/// A bound on their number says that the sum fits. A set's items go the same way, by `micromap::set::Iter`, and what is
+/// made of each pair by `micromap::map::Iter` and `sum_by`.
+pub fn total_wide<K>(values: Values<'_, K, u32>) -> u64
+    requires { length values ≤ 2 ^ 32 }
+    ensures { result ≡ sum values.entry }
 {
-    pairs.values().map(|v| *v as u64).sum()
+    values.map(|v| *v as u64).sum()
 }
 
-/// Adds up the values in a wider type, where the capacity is bounded.
-/// The sum stands in a function of its own, as here: beside `let _content` in one function the search doesn't find it. If
-/// the capacity is a number or a constant, this one requires nothing.
+/// Adds up the values of a map in a wider type, where the capacity is bounded.
+/// The sum stands in a function of its own, as here: in one function the search doesn't find it. If the capacity is a
+/// number or a constant, this one requires nothing.
 pub fn total_bounded<const N: usize>(pairs: &Map<u8, u32, N>) -> u64
     requires { N ≤ 65536 }
     ensures { result ≡ sum (values_of pairs.now) }
 {
-    let _content = pairs.len();
-    total_wide(pairs)
+    total_wide(pairs.values())
 }
 
 /// Adds up the members of an operation on two sets.

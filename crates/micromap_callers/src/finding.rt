@@ -156,7 +156,8 @@ pub fn other_than<'a, T: Eq, const N: usize>(set: &'a Set<T, N>, item: &T) -> Op
 
 /// Finds the first number of a range that isn't in a set, in a loop.
 /// It returns 255 if all of them are. If the test is more than one look-up, make it and the answer `unfoldable` words of
-/// your own, each unfolded only by the function that answers it. Else the search writes out all 255 tests.
+/// your own, each unfolded only by the function that answers it, as `is_debt` by `owes`. Else the search writes out all
+/// 255 tests. Of a few numbers `(0..8_u8).find(..)` by such a function needs no loop, and returns `None` if all are.
 pub fn least_free<const N: usize>(used: &Set<u8, N>) -> u8
     ensures { result ≡ unwrap_or (find (λ n. not (is_member nat_eq used.now n)) (range_with_len 0 255)) 255 }
 {

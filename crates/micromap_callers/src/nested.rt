@@ -204,9 +204,8 @@ fn next_node<const N: usize, const M: usize>(
 }
 
 /// Makes a set of the nodes of a graph that are reached from one.
-/// It is the least set that has this node, and with each node all those to which its edges lead. It returns `None`
-/// exactly if each such set has more than `M`. With all laws of `caller` the search gives up on the loop.
-#[tactic(auto, using(micromap::proofs::Rules::calls))]
+/// It is the least set that has this node, and with each node all those to which its edges lead. It returns `None` only
+/// if each such set has more than `M`. The loop's goal is answered part by part, since the search gives up on the whole.
 pub fn reached_from<const N: usize, const M: usize>(
     graph: &Map<u8, Set<u8, 8>, N>,
     start: u8,

@@ -1,4 +1,4 @@
-use Rattle.std.proofs.Common.{arith, rules}
+use Rattle.std.proofs.Common.{arith}
 use Rattle.micromap.proofs.Rules.{calls}
 use Rattle.micromap_callers.proofs.nested.reached_from.Goals as goal
 
