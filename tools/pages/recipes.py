@@ -53,6 +53,7 @@ WANTS = {
     "clone in a loop": "copied",
     "set of a map's keys": "set_of_keys, keys_over",
     "put the items of a set into another": "include, add_items, add_words, move_items",
+    "union of two sets": "set_of_union, union_of",
     "two maps that stay the same": "put_both",
     "change all values": "cap, limit_each, limit_all, scale_signed",
     "change the values of some keys at once": "reset",
