@@ -61,11 +61,7 @@ pub fn any_common_above<const N: usize, const M: usize>(a: &Set<u8, N>, b: &Set<
 
 /// Returns whether two sets of a map have the same items.
 /// It is also `true` if the map has neither of the two keys.
-pub fn are_groups_equal<const N: usize, const M: usize>(
-    groups: &Map<u8, Set<u16, M>, N>,
-    one: u8,
-    other: u8,
-) -> bool
+pub fn are_groups_equal(groups: &Map<u8, Set<u16, 8>, 16>, one: u8, other: u8) -> bool
     ensures { result ≡ option_eq (have_equal_items nat_eq) (at nat_eq groups.now one) (at nat_eq groups.now other) }
 {
     groups.get(&one) == groups.get(&other)
@@ -75,11 +71,7 @@ pub fn are_groups_equal<const N: usize, const M: usize>(
 /// It is `false` if the map lacks either key. Whether two such sets have no item in common goes the same way, by
 /// `is_disjoint`, with `list_all (λ x. not (is_member nat_eq s x)) t` in the clause `answer`, and `IsDisjoint` in the
 /// place of `IsSubset`.
-pub fn covers<const N: usize, const M: usize>(
-    groups: &Map<u8, Set<u8, M>, N>,
-    group: u8,
-    other: u8,
-) -> bool
+pub fn covers(groups: &Map<u8, Set<u8, 8>, 16>, group: u8, other: u8) -> bool
     ensures answer { result ≡ option_map_or (λ s. option_map_or (λ t. list_all (is_member nat_eq s) t) (at nat_eq groups.now other) false) (at nat_eq groups.now group) false }
     ensures members { IsTrue result → IsSubset nat_eq (unwrap_or (at nat_eq groups.now other) []) (unwrap_or (at nat_eq groups.now group) []) }
 {

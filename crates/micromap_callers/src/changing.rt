@@ -71,7 +71,9 @@ pub fn raise_below<const N: usize>(levels: &mut Map<u8, u8, N>, key: u8, limit: 
 /// Puts an item on a path and takes it off again, which leaves the path as it was.
 /// It returns whether the item is new and has room. In a search for cycles the recursive call stands between the two.
 /// Its contract has to say that it leaves the path as it was. In a map a new key goes the same way, by `insert` and
-/// `remove`.
+/// `remove`. Where a closure `f: F` with `F: FnOnce(&Set<u8, N>) -> bool` is called in between, as `f(path)`, and its
+/// answer is returned in a `Some`, the clauses have `requires callable { F.IsAlwaysCallable f }` and
+/// `ensures called { IfSome result (FnOnceReturnsAt F.FnOnce f (put_item nat_eq path.old item)) }`, of `std.specs.Fn`.
 pub fn try_step<const N: usize>(path: &mut Set<u8, N>, item: u8) -> bool
     ensures answer { result ≡ (not (is_member nat_eq path.old item) && nat_lt (length path.old) N) }
     ensures unchanged { path.new ≡ path.old }

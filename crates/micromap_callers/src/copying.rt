@@ -1,7 +1,7 @@
 //! Building from another map or set.
 #![tactic(auto, using(micromap::proofs::Rules::caller))]
 
-ghost use Rattle.std.specs.Prelude.{◌≡◌, ◌↔◌, ◌<◌, ◌++◌, ◌/◌, [], List, ℕ, IfOk, IsErr, IsOk, Some, filter, fold, length, map, nat_eq, nat_lt, not};
+ghost use Rattle.std.specs.Prelude.{◌≡◌, ◌↔◌, ◌<◌, ◌++◌, ◌/◌, [], List, ℕ, IfOk, IsErr, Some, filter, fold, length, map, nat_eq, nat_lt, not};
 ghost use Rattle.std.specs.Fmt.{decimal};
 ghost use Rattle.std.specs.Map.{keys_of};
 ghost use Rattle.std.specs.String.{string_bytes};
@@ -112,26 +112,27 @@ pub fn changed<const N: usize, const M: usize>(
     kept
 }
 
-/// Copies a map whose values are cloned, in a loop.
-/// The copy is the very same list. `plan.clone()` makes it in one call. It does so too where keys or items are owned
-/// texts, since a clone of a `TextBuf` is the same value. A loop that also makes a value of another type of each is
-/// as in `sizes`.
-pub fn copied<const N: usize, const M: usize>(
-    plan: &Map<u8, Set<u8, M>, N>,
-) -> Result<Map<u8, Set<u8, M>, N>, AllocError>
-    ensures { IfOk result (λ copy. copy ≡ plan.now) }
+/// Copies a map of sets into a larger capacity.
+/// The clone of such a map asks for no memory, so both arms `Err` are unreachable. Where keys or values are owned texts,
+/// `clone()?` is the very same list, since a clone of a `TextBuf` is the same value. A loop that clones is as in
+/// `merged_settings`.
+pub fn enlarged(plan: &Map<u8, Set<u8, 8>, 16>) -> Map<u8, Set<u8, 8>, 32>
+    ensures { result ≡ plan.now }
 {
-    let mut copy = Map::new();
-    for (name, courses) in plan {
-        copy.insert(*name, courses.clone()?);
+    match plan.clone() {
+        Ok(copy) => match copy.into_capacity() {
+            Ok(larger) => larger,
+            Err(_) => unreachable!(),
+        },
+        Err(_) => unreachable!(),
     }
-    Ok(copy)
 }
 
 /// Makes a map of the same keys with values of another type, in a loop.
-/// If the values are of the same type, `update_all` makes them in a copy, as in `above`. A signed field of a struct isn't
-/// found: there take `Map::from_fitting`, as in `first_halves`.
-pub fn sizes<const N: usize, const M: usize>(groups: &Map<u8, Set<u16, M>, N>) -> Map<u8, usize, N>
+/// If the values are of the same type, `update_all` makes them in a copy, as in `above`. A field of each struct goes the
+/// same way, also if an `if` in the loop leaves some out: then both sides of the invariant have a `filter` too. Without a
+/// loop `Map::from_fitting`, as in `first_halves`, makes the same map, and the contract is its fold.
+pub fn sizes(groups: &Map<u8, Set<u16, 8>, 16>) -> Map<u8, usize, 16>
     ensures { result ≡ map (λ p. (p.0, length p.1)) groups.now }
 {
     let mut sizes = Map::new();
@@ -150,35 +151,35 @@ pub fn map_of_maps(a: &Map<u8, u32, 8>, b: &Map<u8, u32, 8>) -> Result<Map<u8, u
 }
 
 /// Makes a set of the keys of a map.
-/// The result is always `Ok`: the set has room for all keys. A second function gets the set by a `match`, whose arm `Err`
-/// is `unreachable!()`. Those that pass go the same way, with `filter` behind `copied()`. Those whose values pass go by
-/// `retain` on a copy of the map, or as in `keys_over`. The values go by `values()`, and are
-/// `distinct nat_eq (map (λ p. p.1) pairs.now)`.
-pub fn set_of_keys<const N: usize>(pairs: &Map<u8, u32, N>) -> Result<Set<u8, N>, Overfull>
-    ensures keys { IfOk result (λ s. s ≡ keys_of pairs.now) }
-    ensures room { IsOk result }
+/// The set has room for all keys. Those that pass go the same way, with `filter` behind `copied()`. The values go by
+/// `values()`, and are `distinct nat_eq (map (λ p. p.1) pairs.now)`.
+pub fn set_of_keys<const N: usize>(pairs: &Map<u8, u32, N>) -> Set<u8, N>
+    ensures { result ≡ keys_of pairs.now }
 {
-    Set::try_from_iter(pairs.keys().copied())
+    match Set::try_from_iter(pairs.keys().copied()) {
+        Ok(keys) => keys,
+        Err(_) => unreachable!(),
+    }
 }
 
 /// Makes a set of the keys whose value passes.
-/// All keys that are owned texts are copied by a loop over `ages.keys()`, with `names.insert(name.clone()?)`. The
-/// invariant then has `l.names ++ l.name-iterator ≡ keys_of l.ages`, and the same bound.
+/// Of sets as values, which can't be copied, go as `empty_groups` does. Keys that are owned texts are copied in a loop, as
+/// `names_of` says.
 pub fn keys_over<const N: usize>(map: &Map<u8, u8, N>, limit: u8) -> Set<u8, N>
     ensures { result ≡ keys_of (filter (λ p. nat_lt limit p.1) map.now) }
 {
-    let mut keys = Set::new();
-    for (key, value) in map {
-        if *value > limit {
-            keys.insert(*key);
-        }
+    let mut over = map.copied();
+    over.retain(|_, value| *value > limit);
+    match Set::try_from_iter(over.keys().copied()) {
+        Ok(keys) => keys,
+        Err(_) => unreachable!(),
     }
-    keys
 }
 
 /// Makes a set of the union of two sets.
 /// It is refused exactly if the union has more than `L` items. Difference, intersection and symmetric difference go the
-/// same way, by their words.
+/// same way, by their words. Where the result has room for all, as that of `first.intersection(second)` with the capacity
+/// of the first set, the arm `Err` of a `match` is `unreachable!()`.
 pub fn set_of_union<const N: usize, const M: usize, const L: usize>(
     a: &Set<u8, N>,
     b: &Set<u8, M>,

@@ -27,7 +27,8 @@ pub fn greatest<const N: usize>(pairs: &Map<u8, u32, N>) -> Option<u32>
 
 /// Finds a key with the least value, and that value.
 /// It returns `None` if the map is empty. A key with the greatest value goes the same way by `max_by_key`, and so does
-/// the largest set that is a value, by `pair.1.len()`, if the capacities are numbers or constants.
+/// the largest set that is a value, by `pair.1.len()`, if the capacities are numbers or constants. Which of several least
+/// pairs it is, the contract leaves open. Of signed values the clause `least` has `≤ℤ`.
 pub fn cheapest<const N: usize>(prices: &Map<u8, u32, N>) -> Option<(u8, u32)>
     ensures none { IsNone result ↔ (prices.now ≡ []) }
     ensures found { IfSome result (Contains prices.now) }
@@ -108,10 +109,7 @@ pub fn pair_above<const N: usize>(pairs: &Map<u8, u32, N>, limit: u32) -> Option
 /// Finds the first key whose set has a certain member.
 /// It returns `None` if no set has it. Any other test of a pair goes the same way, as that its value is a certain one
 /// of an enum. A signed amount with which a value is compared is passed as `&i64`.
-pub fn group_of<const N: usize, const M: usize>(
-    groups: &Map<u8, Set<u8, M>, N>,
-    member: u8,
-) -> Option<u8>
+pub fn group_of(groups: &Map<u8, Set<u8, 8>, 16>, member: u8) -> Option<u8>
     ensures { result ≡ option_map (λ p. p.0) (find (λ p. is_member nat_eq p.1 member) groups.now) }
 {
     for (group, members) in groups {
@@ -240,19 +238,15 @@ pub fn list_of_union<const N: usize, const M: usize>(
     a.union(b).copied().collect(alloc)
 }
 
-/// Lists what a map has for each key of a list, or 0, in a loop that pushes onto a `Vec`.
-/// Of signed values a function of its own looks up, as `added` does in `add_signed_map`.
-#[tactic(auto, using(micromap::proofs::Rules::caller, std::proofs::lemmas::Grind::common_steps))]
-pub fn prices_of<const N: usize>(
+/// Lists what a map has for each key of a list, or 0.
+/// Signed values go the same way. The capacity is a number or a constant. At any other the closure says what it returns,
+/// which it can't of signed values.
+pub fn prices_of(
     alloc: Global,
-    prices: &Map<u8, u32, N>,
+    prices: &Map<u8, u32, 16>,
     keys: &[u8],
 ) -> Result<Vec<u32>, AllocError>
     ensures { IfOk result (λ v. v.items ≡ map (λ k. unwrap_or (at nat_eq prices.now k) 0) keys.now) }
 {
-    let mut found: Vec<u32> = Vec::new(alloc);
-    for key in keys {
-        found.push(prices.get_or(key, 0))?;
-    }
-    Ok(found)
+    keys.iter().map(|key| prices.get_or(key, 0)).collect(alloc)
 }

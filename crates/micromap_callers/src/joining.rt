@@ -137,6 +137,21 @@ pub fn exclude<const N: usize>(pairs: &mut Map<u8, u32, N>, set: &Set<u8, 8>)
     pairs.retain(|key, _| !set.contains(key));
 }
 
+// Returns whether a list has an item, tested as `is_member` tests it.
+fn is_in(list: &[u8], item: u8) -> bool
+    ensures { result ≡ is_member nat_eq list.now item }
+{
+    list.iter().any(|x| item == *x)
+}
+
+/// Keeps the items of a set that are in a list.
+/// A function of the list and an item is the test: by `list.contains(item)` in the closure the search finds no proof.
+pub fn keep_listed<const N: usize>(set: &mut Set<u8, N>, list: &[u8])
+    ensures { set.new ≡ filter (is_member nat_eq list.now) set.old }
+{
+    set.retain(|item| is_in(list, *item));
+}
+
 /// Takes the items of a list out of a set by value.
 pub fn left_over(set: Set<u8, 16>, list: &[u8]) -> Set<u8, 16>
     ensures { result ≡ fold (λ (s : List ℕ) (v : ℕ). take_item nat_eq s v) set list.now }

@@ -3,14 +3,14 @@
 
 ghost use Rattle.std.specs.Prelude.{◌&&◌, ◌↔◌, ◌≡◌, ◌≤◌, IfSome, IsFalse, IsNone, IsTrue, List, None, Some, false, filter, length, nat_eq, nat_lt, not, true, []};
 ghost use Rattle.std.specs.Bool.{OnTrue};
-ghost use Rattle.std.specs.List.{AllByRecursion, find, list_all};
+ghost use Rattle.std.specs.List.{AllByRecursion, list_all};
 ghost use Rattle.std.specs.Map.{values_of};
-ghost use Rattle.std.specs.Option.{option_copied, option_eq};
+ghost use Rattle.std.specs.Option.{option_copied, option_eq, option_map_or};
 ghost use Rattle.micromap.specs.Calls.{Call};
 ghost use Rattle.micromap.specs.Fair.{AnswersAgree, IsFair};
 ghost use Rattle.micromap.specs.Items.{IsItems};
 ghost use Rattle.micromap.specs.Operations.{intersection};
-ghost use Rattle.micromap.specs.Pairs.{at, has, pair};
+ghost use Rattle.micromap.specs.Pairs.{at, has, pair, put, take_out};
 ghost use Rattle.micromap.specs.Same.{HaveEqualItems, Same, has_value};
 
 use micromap::{Map, Set};
@@ -45,11 +45,14 @@ pub fn each_below<const N: usize>(amounts: &Map<u8, u8, N>, limit: u8) -> bool
     are_below(amounts, limit)
 }
 
-/// Tells by `get` that there is no pair with a key.
-/// It moves the value of another key there. If it returns `true`, there was no pair with the new key. Of a `&Map`,
-/// whether there is a pair is also told by `leases.get_key_value(&to).is_some()`, which is `has nat_eq leases.now to`.
+/// Moves a value to a key that must be new, and tells so.
+/// It returns whether the old key was stored and the new one wasn't, and else changes nothing. Of a `&Map`, whether there
+/// is a pair is also told by `leases.get_key_value(&to).is_some()`, which is `has nat_eq leases.now to`.
 pub fn reissue<const N: usize>(leases: &mut Map<u8, u8, N>, from: u8, to: u8) -> bool
-    ensures { IsTrue result → pair nat_eq leases.old to ≡ None }
+    ensures answer { result ≡ (has nat_eq leases.old from && not (has nat_eq leases.old to)) }
+    ensures missing { IsTrue result → pair nat_eq leases.old to ≡ None }
+    ensures moved { IsTrue result → leases.new ≡ option_map_or (λ value. put nat_eq (take_out nat_eq leases.old from) to value) (at nat_eq leases.old from) leases.old }
+    ensures unchanged { IsFalse result → leases.new ≡ leases.old }
 {
     if leases.get(&to).is_some() {
         return false;

@@ -5,7 +5,6 @@ ghost use Rattle.std.specs.Prelude.{◌≡◌, ◌↔◌, ◌+◌, ◌-◌, ◌^
 ghost use Rattle.std.specs.Bool.{OnTrue};
 ghost use Rattle.std.specs.Map.{keys_of, values_of};
 ghost use Rattle.std.specs.Set.{distinct_count};
-ghost use Rattle.std.specs.Vec.{vec_items};
 ghost use Rattle.micromap.specs.Build.{counts, counts_or_refuse, merged};
 ghost use Rattle.micromap.specs.Extend.{put_all_items};
 ghost use Rattle.micromap.specs.Pairs.{at, fits, put};
@@ -86,7 +85,9 @@ pub fn add_then_read<const N: usize>(
 /// Groups a list: makes a map of the members of each key.
 /// A group has the members for which its set has room. It returns `None` exactly if there are more than `N` different
 /// keys. A map of the total of each key is made the same way, by `saturated_sum` in the place of `with_member M`, and
-/// in the loop `let total = totals.entry(*number).or_insert(0)` and `*total = total.saturating_add(*amount)`.
+/// in the loop `let total = totals.entry(*number).or_insert(0)` and `*total = total.saturating_add(*amount)`. A map of the
+/// first value of each key goes the same way, by a word for `λ stored value. unwrap_or stored value`, and in the loop
+/// `if !firsts.contains_key(key)` around `firsts.checked_insert(*key, *value)?;`.
 pub fn groups_of<const N: usize, const M: usize>(
     list: &[(u8, u8)],
 ) -> Option<Map<u8, Set<u8, M>, N>>
@@ -128,6 +129,7 @@ pub fn keep_greatest<const N: usize>(greatest: &mut Map<u8, u32, N>, amounts: &[
 /// Adds the amounts of another map to the totals of a map.
 /// A total stays at the greatest number. It returns `false`, and nothing changes, exactly if there would be more than `N`
 /// keys.
+/// Keys that are `&str` go the same way, if the capacities are numbers or constants.
 pub fn add_map<const N: usize, const M: usize>(
     totals: &mut Map<u8, u32, N>,
     amounts: &Map<u8, u32, M>,
@@ -141,28 +143,6 @@ pub fn add_map<const N: usize, const M: usize>(
         let total = sums.get(number).copied().unwrap_or(0);
         if sums
             .checked_insert(*number, total.saturating_add(*amount))
-            .is_none()
-        {
-            return false;
-        }
-    }
-    *totals = sums;
-    true
-}
-
-/// Adds the amounts of a `Vec` by value.
-/// A total stays at the greatest number. It returns `false`, and nothing changes, exactly if there would be more than `N`
-/// keys.
-pub fn add_vector<const N: usize>(totals: &mut Map<u8, u32, N>, amounts: Vec<(u8, u32)>) -> bool
-    ensures totals { OnTrue result (totals.new ≡ merged nat_eq saturated_sum totals.old (vec_items amounts)) }
-    ensures refused { IsFalse result ↔ (N < length (merged nat_eq saturated_sum totals.old (vec_items amounts))) }
-    ensures unchanged { IsFalse result → totals.new ≡ totals.old }
-{
-    let mut sums = totals.copied();
-    for (number, amount) in amounts {
-        let total = sums.get(&number).copied().unwrap_or(0);
-        if sums
-            .checked_insert(number, total.saturating_add(amount))
             .is_none()
         {
             return false;

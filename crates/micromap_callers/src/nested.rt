@@ -1,14 +1,14 @@
 //! Sets as the values of a map.
 #![tactic(auto, using(micromap::proofs::Rules::caller))]
 
-ghost use Rattle.std.specs.Prelude.{◌≡◌, ◌&&◌, ◌<◌, [], ℕ, IfSome, IsFalse, IsNone, IsTrue, List, false, filter, fold, if◌then◌else◌, length, map, nat_eq, nat_le, nat_lt, not, sum, true, unwrap_or};
+ghost use Rattle.std.specs.Prelude.{◌≡◌, ◌&&◌, ◌<◌, [], ℕ, IfSome, IsFalse, IsNone, IsTrue, List, false, filter, fold, if◌then◌else◌, length, map, nat_eq, nat_le, nat_lt, not, sum, true, unwrap_or, Option, None, Some};
 ghost use Rattle.std.specs.List.{list_all};
-ghost use Rattle.std.specs.Map.{values_of};
-ghost use Rattle.std.specs.Option.{option_map_or};
+ghost use Rattle.std.specs.Map.{values_of, keys_of};
+ghost use Rattle.std.specs.Option.{option_map_or, option_and_then};
 ghost use Rattle.std.specs.Set.{is_member};
 ghost use Rattle.micromap.specs.Extend.{put_all_items};
-ghost use Rattle.micromap.specs.Items.{item_fits, put_item_if_fits, take_item};
-ghost use Rattle.micromap.specs.Pairs.{at, has, put, take_out};
+ghost use Rattle.micromap.specs.Items.{item_fits, put_item_if_fits, take_item, put_item};
+ghost use Rattle.micromap.specs.Pairs.{at, has, put, take_out, fits};
 ghost use Rattle.micromap_callers.specs.Graphs.{is_closed};
 
 use crate::finding::first_unmet;
@@ -32,6 +32,23 @@ pub fn grant<const N: usize, const M: usize>(
         }
         None => false,
     }
+}
+
+/// Inserts an item into the set of a key, which is made if the key is new.
+/// It returns whether both fit, and else changes nothing. Of `&str` keys and items the clauses have `str_eq`.
+pub fn join(groups: &mut Map<u8, Set<u8, 8>, 16>, group: u8, member: u8) -> bool
+    ensures answer { result ≡ (item_fits nat_eq 8 (unwrap_or (at nat_eq groups.old group) []) member && fits nat_eq 16 groups.old group) }
+    ensures groups { groups.new ≡ (if result then put nat_eq groups.old group (put_item nat_eq (unwrap_or (at nat_eq groups.old group) []) member) else groups.old) }
+{
+    let mut members = match groups.get(&group) {
+        Some(members) => members.copied(),
+        None => Set::new(),
+    };
+    if !members.fits(&member) {
+        return false;
+    }
+    members.insert(member);
+    groups.checked_insert(group, members).is_some()
 }
 
 // Returns a set with those items of another that fit.
@@ -121,31 +138,54 @@ pub fn limit_all<const N: usize, const M: usize>(groups: &mut Map<u8, Set<u8, M>
     );
 }
 
-/// Makes a set of the items of all sets of a map.
-/// What doesn't fit is left out. A slice of sets goes the same way, by `groups.iter()`, with `groups.now` in the place
-/// of `values_of groups.now`.
-pub fn all_members(groups: &Map<u8, Set<u8, 8>, 8>) -> Set<u8, 16>
-    ensures { result ≡ fold (λ (all : List ℕ) (group : List ℕ).
-        fold (λ (all : List ℕ) (item : ℕ). put_item_if_fits nat_eq 16 all item) all group) [] (values_of groups.now) }
+/// Makes a set of the items of all sets of a map, or returns `None` once it lacks room for the items of one.
+/// A slice of sets goes the same way, by `groups.iter()`, with `groups.now` in the place of `values_of groups.now`. What
+/// doesn't fit is left out by a `fold` within a `fold`, from `Set::new()` by `checked_insert` and `put_item_if_fits`.
+pub fn every_member(groups: &Map<u8, Set<u8, 8>, 16>) -> Option<Set<u8, 32>>
+    ensures { result ≡ fold (λ (all : Option (List ℕ)) (group : List ℕ). option_and_then (λ s.
+        if nat_le (length (put_all_items nat_eq s group)) 32 then Some (put_all_items nat_eq s group) else None) all) (Some []) (values_of groups.now) }
 {
-    groups.values().fold(Set::new(), |all: Set<u8, 16>, group| {
-        group.iter().fold(all, |mut all: Set<u8, 16>, item| {
-            all.checked_insert(*item);
-            all
+    groups
+        .values()
+        .fold(Some(Set::new()), |all: Option<Set<u8, 32>>, group| {
+            let mut all = all?;
+            all.try_extend_from(group).ok()?;
+            Some(all)
         })
-    })
 }
 
 /// Counts the items of all sets of a map.
-/// The capacities are numbers or constants, which bound the count.
+/// The capacities are numbers or constants, which bound the count. The chain goes over `iter()`.
 pub fn count_members(groups: &Map<u8, Set<u8, 8>, 16>) -> usize
-    ensures { result ≡ sum (map length (values_of groups.now)) }
+    ensures { result ≡ sum (map (λ p. length p.1) groups.now) }
 {
-    let mut count = 0;
-    for members in groups.values() {
-        count += members.len();
+    groups.iter().map(|(_, members)| members.len()).sum()
+}
+
+// Returns whether the set of a key is empty, where a missing one is.
+fn is_empty_group(groups: &Map<u8, Set<u8, 8>, 16>, group: u8) -> bool
+    ensures { result ≡ nat_eq (length (unwrap_or (at nat_eq groups.now group) [])) 0 }
+{
+    match groups.get(&group) {
+        Some(members) => members.len() == 0,
+        None => true,
     }
-    count
+}
+
+/// Makes a set of the keys whose set passes.
+/// A function of the map and a key tests the set. The capacities are numbers or constants.
+pub fn empty_groups(groups: &Map<u8, Set<u8, 8>, 16>) -> Set<u8, 16>
+    ensures { result ≡ filter (λ k. nat_eq (length (unwrap_or (at nat_eq groups.now k) [])) 0) (keys_of groups.now) }
+{
+    match Set::try_from_iter(
+        groups
+            .keys()
+            .copied()
+            .filter(|k| is_empty_group(groups, *k)),
+    ) {
+        Ok(keys) => keys,
+        Err(_) => unreachable!(),
+    }
 }
 
 /// Returns whether the set of a key has all items of a set, where a missing set is the empty one.

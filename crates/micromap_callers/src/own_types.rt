@@ -106,6 +106,9 @@ pub fn square_at(places: &Map<&str, Square, 16>, name: &str) -> Option<Square>
 
 /// Changes one field of the struct at a key.
 /// It returns whether the key is stored.
+/// A field of all structs is changed by `places.update_all(|_, square| square.row = row)`, which makes
+/// `map (λ p. (p.0, record (p.1) { row = row })) places.old`. A field is counted, added up and tested as a value is, by
+/// `p.1.row`. A word in `specs/` imports the struct as `Rattle.my_crate.specs.declared.own_types.Square.{Square}`.
 pub fn set_row<const N: usize>(places: &mut Map<u8, Square, N>, key: u8, row: u8) -> bool
     ensures answer { result ≡ has nat_eq places.old key }
     ensures places { places.new ≡ option_map_or (λ s. put nat_eq places.old key (record s { row = row })) (at nat_eq places.old key) places.old }

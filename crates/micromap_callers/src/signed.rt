@@ -1,13 +1,13 @@
 //! Signed amounts.
 #![tactic(auto, using(micromap::proofs::Rules::caller))]
 
-ghost use Rattle.std.specs.Prelude.{◌≡◌, ◌↔◌, ◌*ℤ◌, ◌+ℤ◌, ◌<◌, ◌≤◌, ◌≤ℤ◌, ◌^◌, IsFalse, Some, filter, fold, if◌then◌else◌, int_lt, length, map, nat_eq, pos, unwrap_or};
+ghost use Rattle.std.specs.Prelude.{◌≡◌, ◌&&◌, ◌↔◌, ◌*ℤ◌, ◌+ℤ◌, ◌<◌, ◌≤◌, ◌≤ℤ◌, ◌^◌, IsFalse, Some, filter, fold, if◌then◌else◌, int_lt, length, map, nat_eq, pos, unwrap_or};
 ghost use Rattle.std.specs.Bool.{OnTrue};
 ghost use Rattle.std.specs.Int.{saturate_signed, w64};
 ghost use Rattle.std.specs.Map.{keys_of, values_of};
-ghost use Rattle.std.specs.Option.{is_some, option_and_then};
+ghost use Rattle.std.specs.Option.{is_some, option_and_then, option_map_or};
 ghost use Rattle.micromap.specs.Build.{merged};
-ghost use Rattle.micromap.specs.Pairs.{at, fits, put_if_fits};
+ghost use Rattle.micromap.specs.Pairs.{at, fits, has, put, put_if_fits};
 ghost use Rattle.micromap_callers.specs.Signed.{balance_with, checked_difference, checked_sum, credited, debited, is_debt};
 
 use micromap::{Map, Set};
@@ -55,9 +55,8 @@ fn plus(total: i128, amount: &i64) -> i128
 }
 
 /// Adds up signed values exactly, in a wider type.
-/// A bound on the capacity says that the sum fits. One goal of the loop is answered by hand.
-pub fn exact_net<const N: usize>(amounts: &Map<u8, i64, N>) -> i128
-    requires { N ≤ 65536 }
+/// The capacity bounds the sum. A field of each struct goes the same way, and so does what a map has for each item of a set.
+pub fn exact_net(amounts: &Map<u8, i64, 64>) -> i128
     ensures { result ≡ fold (λ total amount. total +ℤ amount) (pos 0) (values_of amounts.now) }
 {
     let mut total: i128 = 0;
@@ -76,17 +75,17 @@ fn owes(balance: &i64) -> bool
 }
 
 /// Makes a set of the keys whose signed value passes.
-/// The test is a function of its own, whose word a search doesn't unfold in the loop.
+/// The test is a function of its own, whose word a search doesn't unfold. If the capacity is a number or a constant, the
+/// closure tests `*balance < 0` itself, and the clause has `int_lt p.1 (pos 0)`.
 pub fn overdrawn<const N: usize>(balances: &Map<u8, i64, N>) -> Set<u8, N>
     ensures { result ≡ keys_of (filter (λ p. is_debt p.1) balances.now) }
 {
-    let mut keys = Set::new();
-    for (key, balance) in balances {
-        if owes(balance) {
-            keys.insert(*key);
-        }
+    let mut owing = balances.copied();
+    owing.retain(|_, balance| owes(balance));
+    match Set::try_from_iter(owing.keys().copied()) {
+        Ok(keys) => keys,
+        Err(_) => unreachable!(),
     }
-    keys
 }
 
 /// Adds a signed amount to the value of a key, where a sum that doesn't fit stays at the end of the range.
@@ -143,7 +142,7 @@ fn debit<const N: usize>(balances: &mut Map<u8, i64, N>, account: u8, amount: i6
 
 /// Moves a signed amount from one stored key to another, or changes nothing.
 /// It returns `false` if a key is missing, or a new balance doesn't fit. The two changes are made on a copy. In one
-/// function the search finds no proof of both.
+/// function the search finds no proof of both. Where the second can't fail, as with `saturating_add`, no copy is needed.
 pub fn transfer<const N: usize>(
     balances: &mut Map<u8, i64, N>,
     from: u8,
@@ -161,6 +160,22 @@ pub fn transfer<const N: usize>(
     true
 }
 
+/// Exchanges the signed values of two keys.
+/// It returns whether both are stored, and else changes nothing. Both are asked for before the values are read: from two
+/// calls of `get` the search doesn't find that the second key still fits.
+pub fn swap<const N: usize>(balances: &mut Map<u8, i64, N>, one: u8, other: u8) -> bool
+    ensures answer { result ≡ (has nat_eq balances.old one && has nat_eq balances.old other) }
+    ensures balances { balances.new ≡ option_map_or (λ a. option_map_or (λ b. put nat_eq (put nat_eq balances.old one b) other a) (at nat_eq balances.old other) balances.old) (at nat_eq balances.old one) balances.old }
+{
+    if !balances.contains_key(&one) || !balances.contains_key(&other) {
+        return false;
+    }
+    let (first, second) = (balances[&one], balances[&other]);
+    balances.insert(one, second);
+    balances.insert(other, first);
+    true
+}
+
 /// Multiplies all values of a signed type, where a product that doesn't fit stays at the end of the range.
 /// The capacity is a number or a constant.
 pub fn scale_signed(amounts: &mut Map<u8, i64, 16>, factor: i64)
@@ -170,7 +185,7 @@ pub fn scale_signed(amounts: &mut Map<u8, i64, 16>, factor: i64)
 }
 
 /// Changes the signed values that pass a test.
-/// The capacity is a number or a constant. With an `if` without `else` in the closure the search finds no proof.
+/// The capacity is a number or a constant. With an `if` without `else` around `saturating_add` the search finds no proof.
 pub fn charge(balances: &mut Map<u8, i64, 16>, fee: i64)
     ensures { balances.new ≡ map (λ p. (p.0, if int_lt p.1 (pos 0) then saturate_signed w64 (p.1 +ℤ fee) else p.1)) balances.old }
 {
@@ -210,7 +225,7 @@ pub fn add_signed_map<const N: usize, const M: usize>(
 
 /// Adds each signed amount of a list to the balance of its key.
 /// A sum that doesn't fit stays at the end of the range. It returns `false`, and nothing changes, exactly if there would be
-/// more than `N` keys.
+/// more than `N` keys. With `checked_insert` or `entry` in the loop the search gives up.
 pub fn add_signed_list<const N: usize>(
     balances: &mut Map<u8, i64, N>,
     amounts: &[(u8, i64)],

@@ -2,8 +2,7 @@
 //! `clone()?` in the place of `copied()`.
 #![tactic(auto, using(micromap::proofs::Rules::caller))]
 
-ghost use Rattle.std.specs.Prelude.{◌≡◌, ◌↔◌, ◌&&◌, ◌<◌, ◌+◌, ◌-◌, ◌^◌, [], ℕ, IfOk, IsFalse, IsNone, List, None, false, filter, fold, if◌then◌else◌, length, map, min, nat_eq, unwrap_or};
-ghost use Rattle.std.specs.Bool.{OnTrue};
+ghost use Rattle.std.specs.Prelude.{◌≡◌, ◌↔◌, ◌&&◌, ◌<◌, ◌+◌, ◌-◌, ◌^◌, [], ℕ, IfOk, IsNone, List, None, false, filter, fold, if◌then◌else◌, length, map, min, nat_eq, unwrap_or};
 ghost use Rattle.std.specs.Borrow.{Bor};
 ghost use Rattle.std.specs.List.{find, starts_with};
 ghost use Rattle.std.specs.Option.{IfSome, option_and_then, option_copied, option_map_or, option_or};
@@ -196,6 +195,9 @@ pub fn beginning<const N: usize>(
 }
 
 /// Copies the texts of a list into a set, or refuses them if there are more than `N` different ones.
+/// All keys of a map that are owned texts are copied by a loop over `ages.keys()`, with `names.insert(name.clone()?)`. The
+/// invariant then has `l.names ++ l.name-iterator ≡ keys_of l.ages`, and that there is room for the names left:
+/// `length l.names + length l.name-iterator ≤ length l.ages`.
 pub fn names_of<const N: usize>(
     alloc: Global,
     list: &[&str],

@@ -5,4 +5,4 @@ use Rattle.micromap_callers.proofs.finding.group_of.Given as goal
 
 -- the first of all groups that has the member is the first of those still to come
 abbrev pub invariant-loop-group : goal.invariant-loop-group
-invariant-loop-group g l = find (λ p. is_member nat_eq p.1 l.member) l.groups ≡ find (λ p. is_member nat_eq p.1 l.member) l.group-iterator
+invariant-loop-group l = find (λ p. is_member nat_eq p.1 l.member) l.groups ≡ find (λ p. is_member nat_eq p.1 l.member) l.group-iterator
