@@ -13,11 +13,11 @@ module _ {T : Type 0} (eq : T → T → Bool) where
   distinct = put_all_items []
 
   -- the items once x is put, or `None` if it doesn't fit or if one before it didn't
-  abbrev pub put_item_or_refuse : ℕ → Option (List T) → T → Option (List T)
-  put_item_or_refuse N = put_whole (item_fits eq N) (put_item eq)
+  unfoldable pub put_item_or_refuse : ℕ → Option (List T) → T → Option (List T)
+  put_item_or_refuse N whole x = put_whole (item_fits eq N) (put_item eq) whole x
 
   -- for callers' clauses: the items of a new set of capacity N once these are put, or `None` if one of them doesn't fit
-  unfoldable pub distinct_or_refuse : ℕ → List T → Option (List T)
+  abbrev pub distinct_or_refuse : ℕ → List T → Option (List T)
   distinct_or_refuse N items = fold (put_item_or_refuse N) (Some []) items
 
   -- whether each item fits a new set of capacity N when it is put

@@ -25,7 +25,6 @@ pub fn map_of_list<const N: usize>(list: &[(u8, u8)]) -> Result<Map<u8, u8, N>, 
 }
 
 // What `whole_or_none` returns, in the word of `from_all`. The law of that word serves a caller.
-#[tactic(auto, unfolding(micromap_core::specs::Build::build_or_refuse))]
 fn whole<const N: usize>(list: &[(u8, u8)]) -> Option<Map<u8, u8, N>>
     ensures { result ≡ build_or_refuse nat_eq N list.now }
 {
@@ -133,7 +132,6 @@ pub fn put_each_then_read<K: Eq + Copy + Drop, const N: usize>(
 }
 
 // What `put_list_whole` makes of a set, in the word of `from_all`.
-#[tactic(auto, unfolding(micromap::specs::Extend::distinct_or_refuse))]
 fn with_list<const N: usize>(set: &Set<u8, N>, list: &[u8]) -> Option<Set<u8, N>>
     ensures { result ≡ distinct_or_refuse nat_eq N (set.now ++ list.now) }
 {

@@ -5,7 +5,7 @@ ghost use Rattle.std.specs.Prelude.{◌≡◌, ◌↔◌, ◌<◌, ◌++◌, ◌
 ghost use Rattle.std.specs.Fmt.{decimal};
 ghost use Rattle.std.specs.Map.{keys_of};
 ghost use Rattle.std.specs.String.{string_bytes};
-ghost use Rattle.micromap.specs.Build.{build, put_or_refuse};
+ghost use Rattle.micromap.specs.Build.{build, build_or_refuse};
 ghost use Rattle.micromap.specs.Operations.{union};
 ghost use Rattle.micromap.specs.Pairs.{has, put_if_fits};
 ghost use Rattle.micromap.specs.Print.{map_text};
@@ -43,7 +43,7 @@ pub fn above_in<const N: usize, const M: usize>(
 /// It is `None` if they don't all fit in `M`. By `from_fitting` and `put_pair_if_fits` those that don't fit are left
 /// out.
 pub fn low_halves<const N: usize, const M: usize>(pairs: &Map<u8, u8, N>) -> Option<Map<u8, u8, M>>
-    ensures { result ≡ fold (put_or_refuse nat_eq M) (Some []) (map (λ p. (p.0, p.1 / 2)) (filter (λ p. nat_lt p.1 100) pairs.now)) }
+    ensures { result ≡ build_or_refuse nat_eq M (map (λ p. (p.0, p.1 / 2)) (filter (λ p. nat_lt p.1 100) pairs.now)) }
 {
     Map::from_all(
         pairs
@@ -163,8 +163,8 @@ pub fn set_of_keys<const N: usize>(pairs: &Map<u8, u32, N>) -> Set<u8, N>
 }
 
 /// Makes a set of the keys whose value passes.
-/// Of sets as values, which can't be copied, go as `empty_groups` does. Keys that are owned texts are copied in a loop, as
-/// `names_of` says.
+/// The keys of a map of sets, which can't be copied, are found as `empty_groups` finds them. Keys that are owned texts are
+/// copied in a loop, as `names_of` says.
 pub fn keys_over<const N: usize>(map: &Map<u8, u8, N>, limit: u8) -> Set<u8, N>
     ensures { result ≡ keys_of (filter (λ p. nat_lt limit p.1) map.now) }
 {

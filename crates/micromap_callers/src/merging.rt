@@ -13,7 +13,6 @@ ghost use Rattle.micromap_callers.specs.Totals.{greater, saturated_sum, with_mem
 use micromap::{Map, Set};
 
 // What `counts_or_none` returns, in the word of `counts_of`.
-#[tactic(auto, unfolding(micromap_core::specs::Build::counts_or_refuse))]
 fn all_counts<const N: usize>(list: &[u8]) -> Option<Map<u8, usize, N>>
     ensures { result ≡ counts_or_refuse nat_eq N list.now }
 {

@@ -59,11 +59,11 @@ module _ {K V : Type 0} (eq : K → K → Bool) where
   put_pair_if_fits N = put_fitting (pair_fits N) put_pair
 
   -- the pairs once a pair is put, or `None` if it doesn't fit or if one before it didn't
-  abbrev pub put_or_refuse : ℕ → Option (List (K × V)) → K × V → Option (List (K × V))
-  put_or_refuse N = put_whole (pair_fits N) put_pair
+  unfoldable pub put_or_refuse : ℕ → Option (List (K × V)) → K × V → Option (List (K × V))
+  put_or_refuse N whole p = put_whole (pair_fits N) put_pair whole p
 
   -- for callers' clauses: the pairs of a new map of capacity N once the items are put, or `None` if one of them doesn't fit
-  unfoldable pub build_or_refuse : ℕ → List (K × V) → Option (List (K × V))
+  abbrev pub build_or_refuse : ℕ → List (K × V) → Option (List (K × V))
   build_or_refuse N items = fold (put_or_refuse N) (Some []) items
 
   -- the pairs once the items are put
@@ -101,11 +101,11 @@ module _ {K : Type 0} (eq : K → K → Bool) where
   counts items = fold count_one [] items
 
   -- the pairs once one more of x came, or `None` if x doesn't fit or if an item before it didn't
-  abbrev pub count_or_refuse : ℕ → Option (List (K × ℕ)) → K → Option (List (K × ℕ))
-  count_or_refuse N = put_whole (fits eq N) count_one
+  unfoldable pub count_or_refuse : ℕ → Option (List (K × ℕ)) → K → Option (List (K × ℕ))
+  count_or_refuse N whole x = put_whole (fits eq N) count_one whole x
 
   -- for callers' clauses: the pairs of a counter of capacity N once these items came, or `None` if one of them doesn't fit
-  unfoldable pub counts_or_refuse : ℕ → List K → Option (List (K × ℕ))
+  abbrev pub counts_or_refuse : ℕ → List K → Option (List (K × ℕ))
   counts_or_refuse N items = fold (count_or_refuse N) (Some []) items
 
 -- for callers' clauses: a map into which a loop merges values; `step` makes the new value of the one that is stored, if any,

@@ -15,7 +15,7 @@ use Rattle.std.proofs.lemmas.Map.Entries.{lookup_from_place}
 use Rattle.std.proofs.lemmas.Cmp.{nat_eq_equiv}
 use Rattle.std.proofs.lemmas.Map.Made.{IsDistinct-keys_filter}
 use Rattle.std.proofs.lemmas.Map.Views.{lookup-from_Contains}
-use Rattle.micromap_core.specs.Build.{build, build_or_refuse, counts, counts_or_refuse}
+use Rattle.micromap_core.specs.Build.{build, build_or_refuse, count_or_refuse, counts, counts_or_refuse, put_or_refuse}
 use Rattle.micromap_core.specs.Equalities.{Lawful}
 use Rattle.micromap_core.specs.Pairs.{at, has, IsUnique}
 use Rattle.micromap_core.proofs.BuildLemmas.{counts_keyed, pairs_keyed, whole_counted}
@@ -24,7 +24,7 @@ use Rattle.micromap_core.proofs.MapLemmas.{lookup-entry}
 use Rattle.micromap_core.proofs.Laws.Equalities.{equalities, of_lawful, Where}
 use Rattle.micromap_core.proofs.Laws.LoopLaws.{build_unique, unique_map}
 use Rattle.micromap_core.proofs.Laws.MapLaws.{at_alike}
-use Rattle.micromap.specs.Extend.{distinct, distinct_or_refuse}
+use Rattle.micromap.specs.Extend.{distinct, distinct_or_refuse, put_item_or_refuse}
 use Rattle.micromap.proofs.AddedItems.{added_all}
 use Rattle.micromap.proofs.ExtendLemmas.{items_keyed}
 
@@ -164,14 +164,14 @@ module _ {K V : Type 0} (eq : K → K → Bool) (N : ℕ) (items : List (K × V)
   pub build_or_refuse_is : Lawful eq
       → build_or_refuse eq N items
       ≡ (if nat_le (distinct_count eq (keys_of items)) N then Some (build eq items) else None)
-  unfolding build_or_refuse
+  unfolding put_or_refuse
   build_or_refuse_is laws = whole_counted (of_lawful eq laws) (pairs_keyed eq N) items
 
 -- what a counter is that all items came to, or none if too many of them are distinct
 pub counts_or_refuse_is : {K : Type 0} (eq : K → K → Bool) (N : ℕ) (items : List K) → Lawful eq
     → counts_or_refuse eq N items
     ≡ (if nat_le (distinct_count eq items) N then Some (counts eq items) else None)
-unfolding counts_or_refuse counts
+unfolding count_or_refuse counts
 counts_or_refuse_is eq N items laws = whole_counted (of_lawful eq laws) (counts_keyed eq N) items
     ∙ ap (λ n. if nat_le n N then Some (counts eq items) else None) (ap (distinct_count eq) (map-id items))
 
@@ -179,7 +179,7 @@ module _ {T : Type 0} (eq : T → T → Bool) (N : ℕ) (items : List T) where
   pub distinct_or_refuse_is : Lawful eq
       → distinct_or_refuse eq N items
       ≡ (if nat_le (distinct_count eq items) N then Some (distinct eq items) else None)
-  unfolding distinct_or_refuse
+  unfolding put_item_or_refuse
   distinct_or_refuse_is laws = whole_counted (of_lawful eq laws) (items_keyed eq N) items
 
 pub ruleset chain_laws = (

@@ -72,6 +72,7 @@ impl<T: Eq + Drop, const N: usize> Set<T, N> {
 
     // Inserts those of the items that fit, and returns whether all did.
     #[inline]
+    #[tactic(auto, unfolding(crate::specs::Extend::put_item_or_refuse))]
     fn put_fitting<I: Iterator<Item = T>>(&mut self, items: I) -> bool
         requires can { I.can_next items }
         requires ends { IsFinite (I.remaining items) }

@@ -116,6 +116,7 @@ impl<K: Eq + Drop, V: Drop, const N: usize> Map<K, V, N> {
 
     // Inserts those of the items that fit, and returns whether all did.
     #[inline]
+    #[tactic(auto, unfolding(crate::specs::Build::put_or_refuse))]
     fn put_fitting<I: Iterator<Item = (K, V)>>(&mut self, items: I) -> bool
         requires can { I.can_next items }
         requires ends { IsFinite (I.remaining items) }
@@ -217,6 +218,7 @@ impl<K: Eq + Drop, const N: usize> Map<K, usize, N> {
     /// let counts: Option<Map<&str, usize, 2>> = Map::counts_of(votes.into_iter());
     /// assert_eq!(rt; counts, Some(Map::from([("foo", 2), ("bar", 1)])));
     /// ```
+    #[tactic(auto, unfolding(crate::specs::Build::count_or_refuse))]
     pub fn counts_of<I: Iterator<Item = K>>(items: I) -> Option<Self>
         requires can { I.can_next items }
         requires ends { UpTo (I.remaining items) most_items }
