@@ -1,15 +1,16 @@
 //! Sets as the values of a map.
 #![tactic(auto, using(micromap::proofs::Rules::caller))]
 
-ghost use Rattle.std.specs.Prelude.{◌≡◌, ◌&&◌, ◌<◌, [], ℕ, IfSome, IsFalse, IsNone, IsTrue, List, false, filter, fold, if◌then◌else◌, length, map, nat_eq, nat_le, nat_lt, not, sum, true, unwrap_or, Option, None, Some};
+ghost use Rattle.std.specs.Prelude.{◌≡◌, ◌&&◌, ◌<◌, [], ℕ, IfSome, IsFalse, IsNone, IsTrue, List, false, filter, fold, if◌then◌else◌, length, map, nat_eq, nat_le, nat_lt, not, sum, true, unwrap_or, Some};
 ghost use Rattle.std.specs.List.{list_all};
 ghost use Rattle.std.specs.Map.{values_of, keys_of};
-ghost use Rattle.std.specs.Option.{option_map_or, option_and_then};
+ghost use Rattle.std.specs.Option.{option_map_or};
 ghost use Rattle.std.specs.Set.{is_member};
 ghost use Rattle.micromap.specs.Extend.{put_all_items};
 ghost use Rattle.micromap.specs.Items.{item_fits, put_item_if_fits, take_item, put_item};
 ghost use Rattle.micromap.specs.Pairs.{at, has, put, take_out, fits};
 ghost use Rattle.micromap_callers.specs.Graphs.{is_closed};
+ghost use Rattle.micromap_callers.specs.Totals.{with_group};
 
 use crate::finding::first_unmet;
 use micromap::{Map, Set};
@@ -142,8 +143,7 @@ pub fn limit_all<const N: usize, const M: usize>(groups: &mut Map<u8, Set<u8, M>
 /// A slice of sets goes the same way, by `groups.iter()`, with `groups.now` in the place of `values_of groups.now`. What
 /// doesn't fit is left out by a `fold` within a `fold`, from `Set::new()` by `checked_insert` and `put_item_if_fits`.
 pub fn every_member(groups: &Map<u8, Set<u8, 8>, 16>) -> Option<Set<u8, 32>>
-    ensures { result ≡ fold (λ (all : Option (List ℕ)) (group : List ℕ). option_and_then (λ s.
-        if nat_le (length (put_all_items nat_eq s group)) 32 then Some (put_all_items nat_eq s group) else None) all) (Some []) (values_of groups.now) }
+    ensures { result ≡ fold (with_group 32) (Some []) (values_of groups.now) }
 {
     groups
         .values()
