@@ -83,7 +83,8 @@ pub fn put_list<const N: usize>(
 
 /// Puts pairs into a map in a loop, until one doesn't fit.
 /// If it returns `false`, the map and the list have more than `N` different keys together. The keys are of any type
-/// that is `Copy`. Items go the same way into a set, by `put_all_items`.
+/// that is `Copy`. Items go the same way into a set, by `put_all_items`. To put all or none, put them into a copy, which is
+/// assigned at the end, as in `add_amounts`.
 pub fn put_each<K: Eq + Copy + Drop, const N: usize>(
     map: &mut Map<K, u8, N>,
     items: &[(K, u8)],

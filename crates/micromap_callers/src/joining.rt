@@ -33,7 +33,9 @@ pub fn put_over<K: Eq + Copy, V: Copy, const N: usize, const M: usize>(
 }
 
 /// Puts a map into a copy of another, or returns `None` exactly if they don't all fit.
-/// The second one's values stand.
+/// The second one's values stand. With `&str` keys, pass the copy to a function that returns
+/// `try_extend_from(..).is_ok()`, and whose clauses are those of `overlay`, by `str_eq`. Return `None` where it returns
+/// `false`.
 pub fn merged<const N: usize, const M: usize>(
     first: &Map<u8, u8, N>,
     second: &Map<u8, u8, M>,

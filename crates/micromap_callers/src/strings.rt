@@ -104,6 +104,7 @@ pub fn knows_all<const N: usize>(words: &[&str], known: &Set<String, N>) -> bool
 }
 
 /// Returns whether another map has each `String` key with the same value.
+/// With `&str` keys the closure calls a function that compares what `get_by(&Text(..))` finds, and says so by `option_eq`.
 pub fn changes_nothing(settings: &Map<String, String, 32>, lower: &Map<String, String, 32>) -> bool
     ensures { result ≡ list_all (λ p. option_eq string_eq (at string_eq lower.now p.0) (Some p.1)) settings.now }
 {
