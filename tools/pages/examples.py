@@ -13,7 +13,7 @@ EXAMPLES = {
     "Map: remove": "micromap_uses/src/board.rt: pub fn move_piece",
     "Map: iterate": "micromap_callers/src/counting.rt: pub fn total",
     "Map: build and convert": "micromap_callers/src/building.rt: pub fn map_of_list",
-    "Set: make": "micromap_callers/src/nested.rt: pub fn every_member",
+    "Set: make": "micromap_callers/src/nested.rt: pub fn meets",
     "Set: look up": "micromap_callers/src/asking.rt: pub fn all_stored",
     "Set: look up by probe": "micromap_callers/src/strings.rt: pub fn knows_all",
     "Set: remove": "micromap_uses/src/permissions.rt: pub fn revoke",
