@@ -48,6 +48,8 @@ WANTS = {
     "know what each value satisfies": "each_below, know_sets",
     "know that a key is missing": "reissue, forget",
     "map of a list": "map_of_list, whole_or_none, first_halves, zipped",
+    "map of a list of keys, with one value": "zeros_or_none",
+    "share an item, whether two sets": "any_common_above",
     "put a list into a map or a set": "put_each, put_each_then_read, put_list_whole",
     "count the different keys of a list": "count_keys",
     "greatest amount of each key": "keep_greatest",

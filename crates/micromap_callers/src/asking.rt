@@ -50,9 +50,10 @@ pub fn has_values<const N: usize>(pairs: &Map<u8, u32, N>, list: &[u32]) -> bool
 }
 
 /// Returns whether an item that two sets share passes a test.
-/// The other operations on two sets go the same way. Whether all members pass is a fold from `true` by `&&`. The
-/// greatest member, or 0, goes the same way, by `fold(0, |most, x| if most < *x { *x } else { most })` and
-/// `fold max 0`, if the capacities are numbers.
+/// The other operations on two sets go the same way. Whether two sets share an item at all is
+/// `a.iter().any(|x| b.contains(x))`, and `list_any (is_member nat_eq b.now) a.now`, if the capacities are numbers, also of
+/// `&str` by `str_eq`. Whether all members pass is a fold from `true` by `&&`. The greatest member, or 0, goes the same
+/// way, by `fold(0, |most, x| if most < *x { *x } else { most })` and `fold max 0`, if the capacities are numbers.
 pub fn any_common_above<const N: usize, const M: usize>(a: &Set<u8, N>, b: &Set<u8, M>) -> bool
     ensures { result ≡ fold (λ any x. any || nat_lt 9 x) false (intersection nat_eq a.now b.now) }
 {

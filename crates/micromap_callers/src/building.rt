@@ -33,14 +33,30 @@ fn whole<const N: usize>(list: &[(u8, u8)]) -> Option<Map<u8, u8, N>>
 
 /// Makes a map of pairs, or `None` if they have too many keys.
 /// It returns `None` exactly if the list has more than `N` different keys. What a function makes of each item goes the
-/// same way, by another `map`, and the list is `map (λ x. (x, x / 2)) list.now` for `|x| (*x, *x / 2)`. A set goes the
-/// same way, by `Set::from_all` and `distinct_or_refuse`, as in `put_list_whole`. It is `distinct nat_eq list.now`, or
-/// `None` exactly if `N < distinct_count nat_eq list.now`.
+/// same way, by another `map`, as in `zeros_or_none`. So does a set, by `Set::from_all` and `distinct_or_refuse`, as in
+/// `put_list_whole`. It is `distinct nat_eq list.now`, or `None` exactly if `N < distinct_count nat_eq list.now`.
 pub fn whole_or_none<const N: usize>(list: &[(u8, u8)]) -> Option<Map<u8, u8, N>>
     ensures made { IfSome result (λ m. m ≡ build nat_eq list.now) }
     ensures refused { IsNone result ↔ (N < distinct_count nat_eq (keys_of list.now)) }
 {
     whole(list)
+}
+
+// What `zeros_or_none` returns, in the word of `from_all`.
+fn zeros<const N: usize>(list: &[u8]) -> Option<Map<u8, u8, N>>
+    ensures { result ≡ build_or_refuse nat_eq N (map (λ key. (key, 0)) list.now) }
+{
+    Map::from_all(list.iter().map(|key| (*key, 0)))
+}
+
+/// Makes a map of keys, each with 0, or `None` if there are too many.
+/// It returns `None` exactly if the list has more than `N` different keys. Another value, or one that is made of the key,
+/// goes the same way: `(key, [])` stands for `(*key, Set::new())`.
+pub fn zeros_or_none<const N: usize>(list: &[u8]) -> Option<Map<u8, u8, N>>
+    ensures made { IfSome result (λ m. m ≡ build nat_eq (map (λ key. (key, 0)) list.now)) }
+    ensures refused { IsNone result ↔ (N < distinct_count nat_eq list.now) }
+{
+    zeros(list)
 }
 
 /// Makes a map of what a function makes of each item that fits.
@@ -103,7 +119,7 @@ pub fn put_each<K: Eq + Copy + Drop, const N: usize>(
 
 /// Puts two pairs into a map, both or none, as an edge and its way back.
 /// It returns `false` exactly if they don't both fit. Then nothing changes. A map of sets can't be `copied()`: there, test
-/// both changes first, and then make them.
+/// both changes first, and that their keys differ, and then make them.
 pub fn put_edge<const N: usize>(map: &mut Map<u8, u8, N>, one: u8, other: u8) -> bool
     ensures put { OnTrue result (map.new ≡ put nat_eq (put nat_eq map.old one other) other one) }
     ensures refused { IsFalse result ↔ (N < length (put nat_eq (put nat_eq map.old one other) other one)) }

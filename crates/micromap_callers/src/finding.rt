@@ -27,8 +27,11 @@ pub fn greatest<const N: usize>(pairs: &Map<u8, u32, N>) -> Option<u32>
 
 /// Finds a key with the least value, and that value.
 /// It returns `None` if the map is empty. A key with the greatest value goes the same way by `max_by_key`, and so does
-/// the largest set that is a value, by `pair.1.len()`, if the capacities are numbers or constants. Which of several least
-/// pairs it is, the contract leaves open. Of signed values the clause `least` has `≤ℤ`.
+/// the largest set that is a value, by `pair.1.len()` and `copied()`, if the capacities are numbers or constants. Of signed
+/// values the clause `least` has `≤ℤ`. Which of several least pairs it is, the contract leaves open. The first of them is
+/// found by one function for the least value, as `greatest`, one for the first pair with a value, by a loop as in
+/// `group_of`, and one that calls both, with `?` behind the first. Its result is
+/// `option_and_then (λ least. find (λ p. nat_eq p.1 least) prices.now) (reduce min (values_of prices.now))`.
 pub fn cheapest<const N: usize>(prices: &Map<u8, u32, N>) -> Option<(u8, u32)>
     ensures none { IsNone result ↔ (prices.now ≡ []) }
     ensures found { IfSome result (Contains prices.now) }

@@ -4,7 +4,7 @@
 -- or there is none, exactly if they have too many distinct keys. The ruleset `caller` of `Rules` has those that a search
 -- needs.
 use Rattle.std.proofs.Common.{◌≡◌, ℕ, nat_eq, Bool, true, false, List, [], ◌∷◌, Some, None, is_some}
-use Rattle.std.proofs.Common.{refl, ap, sym, ◌∙◌, arith, option_map, if◌then◌else◌, map-id, nat_le, not}
+use Rattle.std.proofs.Common.{refl, ap, sym, ◌∙◌, arith, option_map, if◌then◌else◌, map, map-id, nat_le, not}
 use Rattle.std.specs.List.{Contains, find, list_all, list_any, position_or_len, IsDistinct}
 use Rattle.std.specs.Map.{lookup, lookup_entry, values_of, keys_of}
 use Rattle.std.specs.Set.{is_member, distinct_count}
@@ -159,6 +159,16 @@ pub distinct_unique : {T : Type 0} (eq : T → T → Bool) (items : List T) → 
     → IsDistinct eq items → distinct eq items ≡ items
 distinct_unique eq items laws unique = added_all (of_lawful eq laws) items unique
 
+-- the keys of pairs that are made of the items of a list, each with its item as its key, are the items
+module _ {K V : Type 0} (pair_of : K → K × V) where
+  same_keys : (items : List K) → ((x : K) → (pair_of x).0 ≡ x) → keys_of (map pair_of items) ≡ items
+  same_keys [] same = refl
+  same_keys (x ∷ items) same = cc (same x, same_keys items same)
+
+  pub keys_map : (items : List K) → ((x : K) → (pair_of x).0 ≡ x)
+      → Where (map pair_of items) (keys_of (map pair_of items) ≡ items)
+  keys_map items same = (refl, same_keys items same)
+
 -- what a map or a set is that is made of all items: these put, or none if they have too many distinct keys
 module _ {K V : Type 0} (eq : K → K → Bool) (N : ℕ) (items : List (K × V)) where
   pub build_or_refuse_is : Lawful eq
@@ -200,6 +210,7 @@ pub ruleset chain_laws = (
   distinct_unique,
   unique_map,
   build_unique,
+  keys_map,
   build_or_refuse_is,
   counts_or_refuse_is,
   distinct_or_refuse_is,
