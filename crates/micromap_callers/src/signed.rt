@@ -32,7 +32,8 @@ pub fn checked_net<const N: usize>(amounts: &Map<u8, i64, N>) -> Option<i64>
 }
 
 /// Adds up signed values, where a sum that doesn't fit stays at the end of the range.
-/// The search doesn't find a `fold` whose total is a signed number and not an `Option`, so this is a loop.
+/// The search doesn't find a `fold` whose total is a signed number and not an `Option`, so this is a loop. In a loop over
+/// a slice `drop l.amount-index l.amounts` is left, in the invariant, and a `filter` of it if only some are added.
 pub fn net<const N: usize>(amounts: &Map<u8, i64, N>) -> i64
     ensures { result ≡ fold (λ total amount. saturate_signed w64 (total +ℤ amount)) (pos 0) (values_of amounts.now) }
 {
