@@ -2,7 +2,7 @@
 use Rattle.std.proofs.Common.{ℕ, Bool, inl, inr, [], refl, ap, sym, arith, map-id}
 use Rattle.std.specs.Set.{is_member, distinct_count}
 use Rattle.std.proofs.lemmas.Bool.{cases_Bool}
-use Rattle.micromap_core.proofs.BuildLemmas.{IsKeyed}
+use Rattle.micromap_core.proofs.KeyedLemmas.{IsKeyed}
 use Rattle.micromap.specs.Items.{put_item, item_fits}
 
 pub items_keyed : {T : Type 0} (eq : T → T → Bool) (N : ℕ)

@@ -3,7 +3,6 @@ pub mod AddedItems
 pub mod ExtendLemmas
 pub mod Forwarded
 pub mod ItemLemmas
-pub mod JsonPairs
 pub mod JsonReading
 pub mod JsonWriting
 pub mod OperationLaws

@@ -8,7 +8,6 @@ use Rattle.std.specs.List.{IsDistinct, list_all}
 use Rattle.std.proofs.Math.Bool.{not-not, or-true}
 use Rattle.std.proofs.lemmas.Bool.{false≢true, not-true}
 use Rattle.std.proofs.lemmas.List.Folds.{list_any-append}
-use Rattle.std.proofs.lemmas.List.Sums.{list_all-from_AllPass}
 use Rattle.std.proofs.lemmas.Map.Made.{is_member-filter}
 use Rattle.std.proofs.lemmas.Map.Steps.{list_any_congr}
 use Rattle.std.specs.Set.{is_member}
@@ -21,65 +20,47 @@ module _ {T : Type 0} {eq : T → T → Bool} (laws : IsEquivalence eq) where
   -- which items have an equal one among the members
   pub is_member-difference : (xs ys : List T) (q : T)
       → is_member eq (difference eq xs ys) q ≡ (is_member eq xs q && not (is_member eq ys q))
-  is_member-difference xs ys q =
-      is_member-filter laws (λ x. not (is_member eq ys x)) q
+  is_member-difference xs ys q = is_member-filter laws (λ x. not (is_member eq ys x)) q
       (λ x same. ap not (list_any_congr laws q x ys same)) xs
 
-  pub is_member-intersection : (xs ys : List T) (q : T)
-      → is_member eq (intersection eq xs ys) q ≡ (is_member eq xs q && is_member eq ys q)
-  is_member-intersection xs ys q =
-      is_member-filter laws (is_member eq ys) q (λ x same. list_any_congr laws q x ys same) xs
+  pub is_member-intersection : (xs ys : List T) (q : T) → is_member eq (intersection eq xs ys) q ≡ (is_member eq xs q && is_member eq ys q)
+  is_member-intersection xs ys q = is_member-filter laws (is_member eq ys) q (λ x same. list_any_congr laws q x ys same) xs
 
-  pub is_member-union : (xs ys : List T) (q : T)
-      → is_member eq (union eq xs ys) q ≡ (is_member eq xs q || is_member eq ys q)
+  pub is_member-union : (xs ys : List T) (q : T) → is_member eq (union eq xs ys) q ≡ (is_member eq xs q || is_member eq ys q)
   unfolding union
-  is_member-union xs ys q =
-      grind (arith, list_any-append (eq q) ys (difference eq xs ys), is_member-difference xs ys q)
+  is_member-union xs ys q = grind (arith, list_any-append (eq q) ys (difference eq xs ys), is_member-difference xs ys q)
 
-  pub is_member-symmetric_difference : (xs ys : List T) (q : T)
-      → is_member eq (symmetric_difference eq xs ys) q
+  pub is_member-symmetric_difference : (xs ys : List T) (q : T) → is_member eq (symmetric_difference eq xs ys) q
       ≡ (if is_member eq xs q then not (is_member eq ys q) else is_member eq ys q)
   unfolding symmetric_difference
-  is_member-symmetric_difference xs ys q =
-      grind (
-        arith,
-        list_any-append (eq q) (difference eq xs ys) (difference eq ys xs),
-        is_member-difference xs ys q,
-        is_member-difference ys xs q,
-      )
+  is_member-symmetric_difference xs ys q = grind (
+    arith,
+    list_any-append (eq q) (difference eq xs ys) (difference eq ys xs),
+    is_member-difference xs ys q,
+    is_member-difference ys xs q,
+  )
 
   -- turned round, the operations have equal members
   pub intersection_turned : (xs ys : List T) → Commutes eq (intersection eq) xs ys
-  intersection_turned xs ys q =
-      grind (arith, is_member-intersection xs ys q, is_member-intersection ys xs q)
+  intersection_turned xs ys q = grind (arith, is_member-intersection xs ys q, is_member-intersection ys xs q)
 
   pub union_turned : (xs ys : List T) → Commutes eq (union eq) xs ys
   union_turned xs ys q = grind (arith, is_member-union xs ys q, is_member-union ys xs q)
 
   pub symmetric_difference_turned : (xs ys : List T) → Commutes eq (symmetric_difference eq) xs ys
-  symmetric_difference_turned xs ys q =
-      grind (arith, is_member-symmetric_difference xs ys q, is_member-symmetric_difference ys xs q)
+  symmetric_difference_turned xs ys q = grind (arith, is_member-symmetric_difference xs ys q, is_member-symmetric_difference ys xs q)
 
   -- the members of both parts are pairwise unequal
-  pub IsDistinct-union : (xs ys : List T) → IsDistinct eq ys → IsDistinct eq (difference eq xs ys)
-      → IsDistinct eq (union eq xs ys)
+  pub IsDistinct-union : (xs ys : List T) → IsDistinct eq ys → IsDistinct eq (difference eq xs ys) → IsDistinct eq (union eq xs ys)
   unfolding union
-  IsDistinct-union xs ys others beyond =
-      IsDistinct-append laws ys (difference eq xs ys) others beyond
+  IsDistinct-union xs ys others beyond = IsDistinct-append laws ys (difference eq xs ys) others beyond
       (λ q found. grind (arith, found, is_member-difference xs ys q))
 
   pub IsDistinct-symmetric_difference : (xs ys : List T) → IsDistinct eq (difference eq xs ys)
       → IsDistinct eq (difference eq ys xs) → IsDistinct eq (symmetric_difference eq xs ys)
   unfolding symmetric_difference
-  IsDistinct-symmetric_difference xs ys first second =
-      IsDistinct-append laws (difference eq xs ys)
-      (difference eq ys xs) first second
-      (λ q found. grind (
-        arith,
-        found,
-        is_member-difference xs ys q,
-        is_member-difference ys xs q,
-      ))
+  IsDistinct-symmetric_difference xs ys first second = IsDistinct-append laws (difference eq xs ys) (difference eq ys xs) first second
+      (λ q found. grind (arith, found, is_member-difference xs ys q, is_member-difference ys xs q))
 
 -- what is counted twice in the two lists is counted once in the intersection
 pub length-union : {T : Type 0} (eq : T → T → Bool) (xs ys : List T)
@@ -91,30 +72,12 @@ length-union eq xs ys = omega (arith, length-append ys (difference eq xs ys), le
 module _ {T : Type 0} (test opposite : T → Bool) (turns : (x : T) → opposite x ≡ not (test x)) where
   none_pass : (xs : List T) → IsTrue (list_all opposite xs) ↔ (filter test xs ≡ [])
   none_pass [] = (λ all. refl, λ none. refl)
-  none_pass (x ∷ xs) = (
-    λ all. grind (arith, all, turns x, none_pass xs),
-    λ none. grind (arith, none, turns x, none_pass xs),
-  )
-
--- that nothing is in both sets is said from either side
-module _ {T : Type 0} {eq : T → T → Bool} (laws : IsEquivalence eq) where
-  none_equal : (x : T) (p : T → Bool) (ys : List T)
-      → list_all (λ y. not (eq y x || p y)) ys
-      ≡ (not (is_member eq ys x) && list_all (λ y. not (p y)) ys)
-  none_equal x p [] = refl
-  none_equal x p (y ∷ ys) = grind (arith, laws.symm y x, none_equal x p ys)
-
-  pub disjoint_turned : (xs ys : List T)
-      → list_all (λ x. not (is_member eq ys x)) xs ≡ list_all (λ y. not (is_member eq xs y)) ys
-  disjoint_turned [] ys = sym (list_all-from_AllPass (λ y. true) ys (λ i d within. refl))
-  disjoint_turned (x ∷ xs) ys = ap (λ b. not (is_member eq ys x) && b) (disjoint_turned xs ys)
-      ∙ sym (none_equal x (is_member eq xs) ys)
+  none_pass (x ∷ xs) = (λ all. grind (arith, all, turns x, none_pass xs), λ none. grind (arith, none, turns x, none_pass xs))
 
 -- each item of a list passes a test exactly where each does that has an equal one there, if equal items pass it alike
 module _ {T : Type 0} {eq : T → T → Bool} (laws : IsEquivalence eq) (test : T → Bool)
     (alike : (x y : T) → eq x y ≡ true → test x ≡ test y) where
-  each_passes : (xs : List T) → IsTrue (list_all test xs)
-      ↔ ((q : T) → IsTrue (is_member eq xs q) → IsTrue (test q))
+  each_passes : (xs : List T) → IsTrue (list_all test xs) ↔ ((q : T) → IsTrue (is_member eq xs q) → IsTrue (test q))
   each_passes [] = (λ all q there. absurd (false≢true there), λ each. refl)
   each_passes (x ∷ xs) = (
     λ all q there. grind (arith, all, there, alike q x, (each_passes xs).0),
@@ -134,19 +97,16 @@ module _ {T : Type 0} {eq : T → T → Bool} (laws : IsEquivalence eq) where
         λ each. none.1 (λ q there. ap not (each q there)),
       )
 
-  pub within_is_member : (xs ys : List T)
-      → ((q : T) → is_member eq xs q ≡ true → is_member eq ys q ≡ true)
+  pub within_is_member : (xs ys : List T) → ((q : T) → is_member eq xs q ≡ true → is_member eq ys q ≡ true)
       → list_all (is_member eq ys) xs ≡ true
   within_is_member xs ys = (within xs ys).1
 
   -- each item of either set has an equal one in the other exactly where both have the same members
   pub same_members : (xs ys : List T) → HaveEqualItems eq xs ys ↔ HaveEquals eq xs ys
   same_members xs ys = (
-    λ equal q. both_ways (is_member eq xs q) (is_member eq ys q)
-        ((within xs ys).0 (first_so _ _ equal) q)
+    λ equal q. both_ways (is_member eq xs q) (is_member eq ys q) ((within xs ys).0 (first_so _ _ equal) q)
         ((within ys xs).0 (second_so _ _ equal) q),
-    λ same. both_true ((within xs ys).1 (λ q there. sym (same q) ∙ there))
-        ((within ys xs).1 (λ q there. same q ∙ there)),
+    λ same. both_true ((within xs ys).1 (λ q there. sym (same q) ∙ there)) ((within ys xs).1 (λ q there. same q ∙ there)),
   )
 
   -- a comparison's answer says both
@@ -154,20 +114,30 @@ module _ {T : Type 0} {eq : T → T → Bool} (laws : IsEquivalence eq) where
       → (IsTrue answer ↔ HaveEqualItems eq xs ys) × (IsTrue answer ↔ HaveEquals eq xs ys)
   members_answered xs ys answer is = rw is ((λ yes. yes, λ yes. yes), same_members xs ys)
 
+  -- that nothing is in both sets is said from either side
+  apart_turned : (xs ys : List T) → IsTrue (list_all (λ x. not (is_member eq ys x)) xs)
+      → IsTrue (list_all (λ y. not (is_member eq xs y)) ys)
+  apart_turned xs ys all = (apart ys xs).1 (λ q there. grind (arith, there, (apart xs ys).0 all q))
+
+  pub disjoint_turned : (xs ys : List T) → list_all (λ x. not (is_member eq ys x)) xs ≡ list_all (λ y. not (is_member eq xs y)) ys
+  disjoint_turned xs ys = both_ways _ _ (apart_turned xs ys) (apart_turned ys xs)
+
   -- the answers of `is_subset` and `is_disjoint` say the same of every item. A set is a subset exactly where the
   -- difference is empty, and disjoint exactly where the intersection is
-  pub subset_answered : (xs ys : List T) (answer : Bool) → answer ≡ list_all (is_member eq ys) xs
-      → (IsTrue answer ↔ IsSubset eq xs ys) × (IsTrue answer ↔ (difference eq xs ys ≡ []))
-  subset_answered xs ys answer is = rw is (
-    within xs ys,
-    none_pass (λ x. not (is_member eq ys x)) (is_member eq ys)
-        (λ x. sym (not-not (is_member eq ys x))) xs,
+  pub subset_answered : (xs ys : List T) {answer : Bool} → answer ≡ list_all (is_member eq ys) xs
+      → (answer ≡ list_all (is_member eq ys) xs) × (IsTrue answer ↔ IsSubset eq xs ys) × (IsTrue answer ↔ (difference eq xs ys ≡ []))
+  subset_answered xs ys is = (
+    is,
+    rw is (within xs ys),
+    rw is (none_pass (λ x. not (is_member eq ys x)) (is_member eq ys) (λ x. sym (not-not (is_member eq ys x))) xs),
   )
 
-  pub disjoint_answered : (xs ys : List T) (answer : Bool)
-      → answer ≡ list_all (λ x. not (is_member eq ys x)) xs
-      → (IsTrue answer ↔ IsDisjoint eq xs ys) × (IsTrue answer ↔ (intersection eq xs ys ≡ []))
-  disjoint_answered xs ys answer is = rw is (
-    apart xs ys,
-    none_pass (is_member eq ys) (λ x. not (is_member eq ys x)) (λ x. refl) xs,
+  pub disjoint_answered : (xs ys : List T) {answer : Bool} → answer ≡ list_all (λ x. not (is_member eq ys x)) xs
+      → (answer ≡ list_all (λ x. not (is_member eq ys x)) xs) × (answer ≡ list_all (λ y. not (is_member eq xs y)) ys)
+      × (IsTrue answer ↔ IsDisjoint eq xs ys) × (IsTrue answer ↔ (intersection eq xs ys ≡ []))
+  disjoint_answered xs ys is = (
+    is,
+    is ∙ disjoint_turned xs ys,
+    rw is (apart xs ys),
+    rw is (none_pass (is_member eq ys) (λ x. not (is_member eq ys x)) (λ x. refl) xs),
   )

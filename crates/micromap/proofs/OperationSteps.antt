@@ -1,10 +1,9 @@
 -- What an iterator over an operation has left after a call of `next`, and that its hint bounds the members left.
-use Rattle.std.proofs.Common.{◌≡◌, ℕ, zero, suc, ◌+◌, ◌-◌, ◌^◌, ◌≤◌, min, Bool, true, false, not, List, [], ◌∷◌, ◌++◌, length}
+use Rattle.std.proofs.Common.{◌≡◌, ℕ, zero, suc, ◌+◌, ◌-◌, ◌^◌, ◌≤◌, min, Bool, true, false, not, List, [], ◌∷◌, length}
 use Rattle.std.proofs.Common.{drop, filter, Option, Some, None, if◌then◌else◌, IfSome, refl, ap, sym, subst, ◌∙◌, arith}
 use Rattle.std.proofs.Common.{Bor}
-use Rattle.std.proofs.Math.Bool.{beq}
 use Rattle.std.specs.Cmp.{IsEquivalence}
-use Rattle.std.specs.Iterator.{MakesProgress, UpTo, YieldsFirstBy, at_most, item_count}
+use Rattle.std.specs.Iterator.{MakesProgress, UpTo, at_most, item_count}
 use Rattle.std.specs.Iterator.Runs.{ItemsMapTo, EveryRun, YieldsInOrder}
 use Rattle.std.specs.List.{IsDistinct, after_first, position_or_len}
 use Rattle.std.specs.Map.Iter.{deref}
@@ -13,36 +12,22 @@ use Rattle.std.proofs.lemmas.List.Filters.{length-filter_both}
 use Rattle.std.proofs.lemmas.Map.Keys.{IsDistinct-tail}
 use Rattle.micromap_core.proofs.DistinctLemmas.{length-filter_members}
 use Rattle.std.specs.Set.{is_member}
-use Rattle.micromap.specs.Operations.{difference, difference_left, difference_on, intersection, sum_of, symmetric_left}
-use Rattle.micromap.specs.Operations.{symmetric_on, if_empty, GivesNext, TwoWalks}
+use Rattle.micromap.specs.Operations.{difference, difference_remaining, difference_advanced, intersection, sum_of, symmetric_remaining, symmetric_advanced}
+use Rattle.micromap.specs.Operations.{GivesNext, TwoWalks}
 
 module _ {S A X : Type 0} (shows : A → X) (left : S → List X) (on : S → S) where
   -- each run of such an iterator gives what was left, in order
   pub left_in_order : EveryRun (GivesNext shows left on) (λ p. ItemsMapTo p shows (left p.from))
-  left_in_order = from_front (GivesNext shows left on) shows left
-      (λ s t given. ap length given.member.0) (λ s x t given. given.member)
+  left_in_order = from_front (GivesNext shows left on) shows left (λ s t given. ap length given.member.0) (λ s x t given. given.member)
 
   -- a call that gives an item leaves fewer
-  pub progress : (s t : S) (r : Option A) → GivesNext shows left on s r t
-      → MakesProgress (λ _. Unit {0}) (item_count left) s r t
+  pub progress : (s t : S) (r : Option A) → GivesNext shows left on s r t → MakesProgress (λ _. Unit {0}) (item_count left) s r t
   progress s t None given = record { on = λ _. tt; keeps = tt; rests = λ _. tt }
   progress s t (Some x) given =
-      record {
-        on = λ _. (tt, tt, omega (arith, ap length given.member));
-        keeps = tt;
-        rests =
-            λ _. tt;
-      }
+      record { on = λ _. (tt, tt, omega (arith, ap length given.member)); keeps = tt; rests = λ _. tt }
 
-pub items_in_order : {S X : Type 0} (left : S → List X) (on : S → S)
-    → YieldsInOrder (GivesNext (λ (x : X). x) left on) left
+pub items_in_order : {S X : Type 0} (left : S → List X) (on : S → S) → YieldsInOrder (GivesNext (λ (x : X). x) left on) left
 items_in_order left on p seen = as_is p (left p.from) (left_in_order (λ x. x) left on p seen)
-
--- the test of a walk over a difference or an intersection, by what `contains` returned
-pub as_asked : {found there : Bool} (common : Bool) → found ≡ there
-    → (if common then there else not there) ≡ beq found common
-as_asked true is = grind (arith, is)
-as_asked false is = grind (arith, is)
 
 -- a walk over a list, up to and including the first item that passes a test
 module _ {T : Type 0} (test : T → Bool) where
@@ -65,15 +50,12 @@ module _ {T : Type 0} (test : T → Bool) where
     -- it gives the item that it meets, or nothing at the end
     pub walk_gives : {x : Bor T} → now ≡ x.now ∷ next → test x.now ≡ true
         → GivesNext deref (filter test) (after_first test) start (Some x) next
-    walk_gives first passes = record {
-      member = grind (arith, walk.members, first, passes);
-      led = grind (arith, walk.after, first, passes);
-    }
+    walk_gives first passes = record { member = grind (arith, walk.members, first, passes); state = grind (arith, walk.after, first, passes) }
 
     pub walk_ends : now ≡ [] → next ≡ [] → GivesNext deref (filter test) (after_first test) start None next
     walk_ends none end = record {
       member = (grind (arith, walk.members, none), grind (arith, end));
-      led = grind (arith, walk.after, none, end);
+      state = grind (arith, walk.after, none, end);
     }
 
 -- what such a walk leaves is distinct
@@ -83,61 +65,32 @@ module _ {T : Type 0} (eq : T → T → Bool) where
   IsDistinct-drop (suc n) [] distinct = distinct
   IsDistinct-drop (suc n) (x ∷ xs) distinct = IsDistinct-drop n xs (IsDistinct-tail eq x xs distinct)
 
-  pub distinct_after : (test : T → Bool) (xs ys : List T) → IsDistinct eq xs → ys ≡ after_first test xs
-      → IsDistinct eq ys
-  distinct_after test xs ys distinct led =
-      subst (IsDistinct eq) (sym led) (IsDistinct-drop (position_or_len test xs + 1) xs distinct)
+  pub distinct_after : (test : T → Bool) (xs ys : List T) → IsDistinct eq xs → ys ≡ after_first test xs → IsDistinct eq ys
+  distinct_after test xs ys distinct state = subst (IsDistinct eq) (sym state) (IsDistinct-drop (position_or_len test xs + 1) xs distinct)
 
 -- once the first of two walks has ended, a call at the second is a call at both
 pub second_gives : {T : Type 0} (eq : T → T → Bool) (s t : TwoWalks T (List T) (List T))
-    (r : Option (Bor T)) → GivesNext deref (difference_left eq)
-    (difference_on eq) s.first None t.first
-    → GivesNext deref (difference_left eq) (difference_on eq) s.second r t.second
-    → GivesNext deref (symmetric_left eq) (symmetric_on eq) s r t
-unfolding symmetric_left symmetric_on
-second_gives {T} eq s t r ended gives = record {
-  member = both r gives.member;
-  led = λ i. record {
-    first = ended.led i;
-    second =
-        (gives.led ∙ sym (ap (λ xs. if_empty xs (difference_on eq s.second) s.second)
-        ended.member.0)) i;
-  };
+    (r : Option (Bor T)) → GivesNext deref (difference_remaining eq) (difference_advanced eq) s.first None t.first
+    → GivesNext deref (difference_remaining eq) (difference_advanced eq) s.second r t.second
+    → GivesNext deref (symmetric_remaining eq) (symmetric_advanced eq) s r t
+unfolding symmetric_remaining symmetric_advanced
+second_gives eq s t r ended gives = record {
+  member = rw (ended.member.0, ended.member.1) gives.member;
+  state = rw ended.member.0 (λ i. record { first = ended.state i; second = gives.state i });
 }
-  where
-    both : (r : Option (Bor T)) → YieldsFirstBy deref (difference_left eq) s.second r t.second
-        → YieldsFirstBy deref (λ w. difference_left eq w.first ++ difference_left eq w.second) s r t
-    both None left = (
-      ap (λ xs. xs ++ difference_left eq s.second) ended.member.0
-          ∙ left.0,
-      ap (λ xs. xs ++ difference_left eq t.second) ended.member.1 ∙ left.1,
-    )
-    both (Some x) left = ap (λ xs. xs ++ difference_left eq s.second) ended.member.0 ∙ left
-        ∙ sym (ap (λ xs. x.now ∷ (xs ++ difference_left eq t.second)) ended.member.1)
 
-module _ {T : Type 0} where
-  -- each item of a list has an equal one in the other or hasn't
-  pub length-parts : (eq : T → T → Bool) (xs ys : List T)
-      → length (intersection eq xs ys) + length (difference eq xs ys) ≡ length xs
-  length-parts eq xs ys = length-filter_both (is_member eq ys) (λ x. not (is_member eq ys x))
-      (λ x. refl) xs
+-- each item of a list has an equal one in the other or hasn't
+pub length-parts : {T : Type 0} (eq : T → T → Bool) (xs ys : List T)
+    → length (intersection eq xs ys) + length (difference eq xs ys) ≡ length xs
+length-parts eq xs ys = length-filter_both (is_member eq ys) (λ x. not (is_member eq ys x)) (λ x. refl) xs
 
-  module _ {eq : T → T → Bool} (laws : IsEquivalence eq) (xs ys : List T)
-      (distinct : IsDistinct eq xs) where
-    -- a lower bound of a difference, and an upper one of an intersection
-    pub length-difference : length xs - length ys ≤ length (difference eq xs ys)
-    length-difference = omega (
-      arith,
-      length-parts eq xs ys,
-      length-filter_members laws xs ys distinct,
-    )
+module _ {T : Type 0} {eq : T → T → Bool} (laws : IsEquivalence eq) (xs ys : List T) (distinct : IsDistinct eq xs) where
+  -- a lower bound of a difference, and an upper one of an intersection
+  pub length-difference : length xs - length ys ≤ length (difference eq xs ys)
+  length-difference = omega (arith, length-parts eq xs ys, length-filter_members laws xs ys distinct)
 
-    pub length-intersection : length (intersection eq xs ys) ≤ min (length xs) (length ys)
-    length-intersection = omega (
-      arith,
-      length-parts eq xs ys,
-      length-filter_members laws xs ys distinct,
-    )
+  pub length-intersection : length (intersection eq xs ys) ≤ min (length xs) (length ys)
+  length-intersection = omega (arith, length-parts eq xs ys, length-filter_members laws xs ys distinct)
 
 -- the sum of two lower bounds is one of what both bound together
 pub lower_sum : {a b m n l : ℕ} → m ≤ a → n ≤ b → l ≡ a + b → min (m + n) (2 ^ 64 - 1) ≤ l

@@ -22,21 +22,13 @@ module _ {T : Type 0} where
 
   -- the items of a set that is read to the end
   pub items_read : {E : Type 0} {eq : T → T → Bool} {N : ℕ} {old new : Stream (T × Unit {0}) E}
-      (items : List T) → ReadsWhole eq N old new (entries_of items)
-      → items ≡ distinct eq (keys_of old.entries)
-  items_read {eq = eq} {old = old} items reads = sym (keys_of-entries items) ∙ ap keys_of reads.made
-      ∙ keys_put_all_items eq [] old.entries
+      (items : List T) → ReadsWhole eq N old new (entries_of items) → items ≡ distinct eq (keys_of old.entries)
+  items_read {eq = eq} {old = old} items reads = sym (keys_of-entries items) ∙ ap keys_of reads.made ∙ keys_put_all_items eq [] old.entries
 
   -- what a map reads back, a set does
   pub items_read_back : {F : Type 0} {eq : T → T → Bool} {N : ℕ} {same : Type 0}
       (r : Result (List (T × Unit {0})) F) (pairs : List (T × Unit {0}))
       → (IsContent eq N pairs → same → r ≡ Ok pairs) → IsItems eq N (keys_of pairs) → same
       → result_map_both keys_of (λ e. e) r ≡ Ok (keys_of pairs)
-  items_read_back r pairs read items same =
-      ap (result_map_both keys_of (λ e. e))
-      (read (record {
-        unique = items.unique;
-        bounded =
-            rw (length-keys_of pairs) at items.bounded;
-        lawful = items.lawful;
-      }) same)
+  items_read_back r pairs read items same = ap (result_map_both keys_of (λ e. e))
+      (read (record { unique = items.unique; bounded = rw (length-keys_of pairs) at items.bounded; lawful = items.lawful }) same)

@@ -26,9 +26,9 @@ module _ {T : Type 0} (eq : T → T → Bool) where
   abbrev pub find_item : List T → T → Option T
   find_item items x = find (eq x) items
 
-  -- whether x can be put: an equal item is stored, or there is room
+  -- whether x can be put
   abbrev pub item_fits : ℕ → List T → T → Bool
-  item_fits N items x = is_member eq items x || nat_lt (length items) N
+  item_fits N items x = item_fits_by (eq x) N items
 
   -- x goes last if it is no member
   unfoldable pub put_item : List T → T → List T

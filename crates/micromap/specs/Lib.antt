@@ -1,6 +1,7 @@
 pub mod Extend
 pub mod Items
 pub mod Json
+pub mod Merges
 pub mod Operations
 pub mod SetMemory
 pub mod SetStream

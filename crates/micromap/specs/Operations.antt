@@ -5,6 +5,8 @@ use Rattle.std.specs.Iterator.{YieldsFirstBy}
 use Rattle.std.specs.Iterator.Runs.{YieldsRefsInOrder}
 use Rattle.std.specs.List.{after_first}
 use Rattle.std.specs.Map.Iter.{deref}
+use Rattle.micromap.specs.declared.set.operations.Wanted.{Wanted}
+use Rattle.micromap.specs.declared.set.operations.Wanted.TheVariants.{Common, Missing}
 
 -- where an iterator stands: of a difference or an intersection, the items not walked yet, and the other set's items
 pub record Walk (T O : Type 0) : Type 0 where
@@ -28,8 +30,9 @@ if_empty (_ ∷ _) x y = y
 
 module _ {T : Type 0} (eq : T → T → Bool) where
   -- whether x has an equal one in ys, or else whether it has none
-  abbrev pub passes : Bool → List T → T → Bool
-  passes common ys x = if common then is_member eq ys x else not (is_member eq ys x)
+  abbrev pub passes : Wanted → List T → T → Bool
+  passes Common ys = is_member eq ys
+  passes Missing ys = λ x. not (is_member eq ys x)
 
   -- the items of xs without an equal one in ys
   abbrev pub difference : List T → List T → List T
@@ -64,35 +67,35 @@ module _ {T : Type 0} (eq : T → T → Bool) where
   Commutes op xs ys = HaveEquals (op xs ys) (op ys xs)
 
   -- the members that are left
-  unfoldable pub difference_left : Walk T (List T) → List T
-  difference_left w = difference w.rest w.other
+  unfoldable pub difference_remaining : Walk T (List T) → List T
+  difference_remaining w = difference w.rest w.other
 
-  unfoldable pub intersection_left : Walk T (List T) → List T
-  intersection_left w = intersection w.rest w.other
+  unfoldable pub intersection_remaining : Walk T (List T) → List T
+  intersection_remaining w = intersection w.rest w.other
 
-  unfoldable pub union_left : UnionWalk T (List T) → List T
-  union_left w = w.others ++ difference_left w.beyond
+  unfoldable pub union_remaining : UnionWalk T (List T) → List T
+  union_remaining w = w.others ++ difference_remaining w.beyond
 
-  unfoldable pub symmetric_left : TwoWalks T (List T) (List T) → List T
-  symmetric_left w = difference_left w.first ++ difference_left w.second
+  unfoldable pub symmetric_remaining : TwoWalks T (List T) (List T) → List T
+  symmetric_remaining w = difference_remaining w.first ++ difference_remaining w.second
 
   -- where a call of `next` leads: past the next member, or to the end where there is none
-  unfoldable pub difference_on : Walk T (List T) → Walk T (List T)
-  difference_on w = record w { rest = after_first (λ x. not (is_member eq w.other x)) w.rest }
+  unfoldable pub difference_advanced : Walk T (List T) → Walk T (List T)
+  difference_advanced w = record w { rest = after_first (λ x. not (is_member eq w.other x)) w.rest }
 
-  unfoldable pub intersection_on : Walk T (List T) → Walk T (List T)
-  intersection_on w = record w { rest = after_first (is_member eq w.other) w.rest }
+  unfoldable pub intersection_advanced : Walk T (List T) → Walk T (List T)
+  intersection_advanced w = record w { rest = after_first (is_member eq w.other) w.rest }
 
-  unfoldable pub union_on : UnionWalk T (List T) → UnionWalk T (List T)
-  union_on w = record { others = drop 1 w.others; beyond = if_empty w.others (difference_on w.beyond) w.beyond }
+  unfoldable pub union_advanced : UnionWalk T (List T) → UnionWalk T (List T)
+  union_advanced w = record { others = drop 1 w.others; beyond = if_empty w.others (difference_advanced w.beyond) w.beyond }
 
-  unfoldable pub symmetric_on : TwoWalks T (List T) (List T) → TwoWalks T (List T) (List T)
-  symmetric_on w = record { first = difference_on w.first; second = if_empty (difference_left w.first) (difference_on w.second) w.second }
+  unfoldable pub symmetric_advanced : TwoWalks T (List T) (List T) → TwoWalks T (List T) (List T)
+  symmetric_advanced w = record { first = difference_advanced w.first; second = if_empty (difference_remaining w.first) (difference_advanced w.second) w.second }
 
--- a call of `next` at s gave the first of what is left, as `shows` sees it, or nothing where nothing is, and led to t
+-- a call of `next` at s gave the first of what is left, as `shows` sees it, or nothing where nothing is, and its state is then t
 pub record GivesNext {S A T : Type 0} (shows : A → T) (left : S → List T) (on : S → S) (s : S) (r : Option A) (t : S) : Type 0 where
   pub member : YieldsFirstBy shows left s r t
-  pub led : t ≡ on s
+  pub state : t ≡ on s
 
 -- each run of an iterator over references gives what is left, in order
 abbrev pub GivesMembers : {S T : Type 0} → (S → List T) → (S → S) → Type 0

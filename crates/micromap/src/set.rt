@@ -29,8 +29,8 @@ pub use walk::{Drain, IntoIter, Iter};
 /// A set of at most `N` pairwise unequal items, which are found by `==`, from the front.
 ///
 /// A contract sees it as the list of its items, from front to end. It is a map with the value `()`, and no call
-/// allocates memory of its own. A *scan* compares the items from the front, each at most once. How
-/// many are compared isn't proved.
+/// allocates memory of its own. A *scan* compares the items from the front, each at most once. How many are compared
+/// isn't proved.
 #[derive(Drop)]
 pub struct Set<T: Eq, const N: usize> {
     map: Map<T, (), N>,
@@ -80,7 +80,6 @@ impl<T: Eq, const N: usize> Set<T, N> {
     #[inline]
     pub fn is_empty(&self) -> bool
         ensures answer { result ≡ (length self.now == 0) }
-        ensures content { IsItems T.eq N self.now }
     {
         self.map.is_empty()
     }

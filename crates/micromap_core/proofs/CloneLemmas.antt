@@ -1,16 +1,16 @@
 -- The clones of a map's first pairs have pairwise unequal keys.
-use Rattle.std.proofs.Common.{◌≡◌, ◌<◌, ◌≤◌, ◌+◌, ℕ, zero, suc, Bool, false, All, List, [], ◌∷◌, ◌++◌, length, IsTrue}
-use Rattle.std.proofs.Common.{Result, Ok, Err, IsOk, IfOk, sym, subst, ◌∙◌, arith, slice_get, Some, take, length-take-le, take_all}
+use Rattle.std.proofs.Common.{[], ℕ, ◌++◌, ◌+◌, ◌<◌, ◌∙◌, ◌∷◌, ◌≡◌, ◌≤◌, arith, false, length, length-take, length-take-le, slice_get, subst, suc, sym, take, take_all, zero, All, Bool, Err, IfOk, IsOk, IsTrue, List, Ok, Result, Some}
 use Rattle.std.specs.Cmp.{IsEquivalence}
 use Rattle.std.specs.List.{AllByRecursion, AllZip, IsDistinct}
 use Rattle.std.specs.Map.{keys_of}
-use Rattle.std.specs.Set.{ClonesAreEqual}
 use Rattle.std.specs.Result.{MatchResult}
+use Rattle.std.specs.Set.{ClonesAreEqual}
 use Rattle.std.proofs.lemmas.Bool.{false≢true}
-use Rattle.std.proofs.lemmas.List.Elements.{All-get_or, all_zip_more, length_all_zip}
+use Rattle.std.proofs.lemmas.List.Elements.{all_zip_more, length_all_zip, All-get_or}
 use Rattle.std.proofs.lemmas.Option.{get_or_from_slice_get, slice_get_within}
-use Rattle.micromap_core.specs.Clones.{IsPairClone}
-use Rattle.micromap_core.specs.Pairs.{IsUnique}
+use Rattle.micromap_core.specs.Clones.{IsEqualClone, IsPairClone}
+use Rattle.micromap_core.specs.Pairs.{IsContent, IsUnique}
+use Rattle.micromap_core.proofs.Laws.Equalities.{of_lawful}
 
 -- what holds of all holds of the one at an index
 pub all_at : {X : Type 0} (P : X → Type 0) (xs : List X) (i : ℕ) (x : X) → slice_get xs i ≡ Some x
@@ -18,11 +18,7 @@ pub all_at : {X : Type 0} (P : X → Type 0) (xs : List X) (i : ℕ) (x : X) →
 all_at P xs i x is all = subst P (get_or_from_slice_get xs i x x is)
     (All-get_or P xs i x (slice_get_within xs i x is) all)
 
--- a clone that is equal to its key
-abbrev pub IsEqualClone : {K : Type 0} → (K → K → Bool) → (K → K → Type 0) → K → K → Type 0
-IsEqualClone eq C k q = C k q × IsTrue (eq k q)
-
--- pairs with such keys are clones
+-- pairs whose keys are clones that are equal to theirs are clones
 pub from_equal : {K V : Type 0} (eq : K → K → Bool) (C : K → K → Type 0) (D : V → V → Type 0)
     (ps qs : List (K × V)) → AllZip (IsPairClone (IsEqualClone eq C) D) ps qs
     → AllZip (IsPairClone C D) ps qs
@@ -78,7 +74,7 @@ module _ {K V : Type 0} (eq : K → K → Bool) (laws : IsEquivalence eq) (C : K
   )
 
   -- so the keys of the first clones are pairwise unequal
-  pub unique_clones : (i : ℕ) (ps qs : List (K × V)) → AllZip (IsPairClone C D) (take i ps) qs
+  unique_clones : (i : ℕ) (ps qs : List (K × V)) → AllZip (IsPairClone C D) (take i ps) qs
       → IsUnique eq ps → IsUnique eq qs
   unfolding IsDistinct
   unique_clones zero ps [] clones unique = tt
@@ -90,3 +86,18 @@ module _ {K V : Type 0} (eq : K → K → Bool) (laws : IsEquivalence eq) (C : K
     apart_all p.0 q.0 clones.0.0 i ps qs clones.1 unique.0,
     unique_clones i ps qs clones.1 unique.1,
   )
+
+-- the first clones are the content of a map if the pairs are
+pub IsContent-clones : {K V : Type 0} {eq : K → K → Bool} (C : K → K → Type 0) (D : V → V → Type 0)
+    → ClonesAreEqual eq C → {N : ℕ} {ps : List (K × V)} → IsContent eq N ps → (i : ℕ)
+    (qs : List (K × V)) → AllZip (IsPairClone C D) (take i ps) qs → IsContent eq N qs
+IsContent-clones {eq = eq} C D equal {ps = ps} content i qs clones = record {
+  unique = unique_clones eq (of_lawful eq content.lawful) C D equal i ps qs clones content.unique;
+  bounded = omega (
+    arith,
+    content.bounded,
+    length_all_zip _ (take i ps) qs clones,
+    length-take i ps,
+  );
+  lawful = content.lawful;
+}

@@ -1,30 +1,26 @@
 -- One turn of each loop that calls a closure, and the end of the loop. For callers: which keys `retain` keeps and in
 -- which order, and the plain list that `update_all` or `update_disjoint` leaves if the closure changes nothing that it
 -- captures.
-use Rattle.std.proofs.Common.{◌≡◌, ℕ, suc, ◌+◌, ◌≤◌, Bool, true, false, cond, List, [], ◌∷◌, ◌++◌, length, take, drop}
-use Rattle.std.proofs.Common.{set, slice_get, refl, ap, sym, ◌∙◌, append-nil, append_assoc, arith, add-one, ◌<◌, get_or}
-use Rattle.std.proofs.Common.{map, Some, None, is_some, zero-add, Option, MatchOption, subst, Bor, MutBor}
+use Rattle.std.proofs.Common.{◌≡◌, ℕ, ◌+◌, ◌≤◌, [], ◌∷◌, ◌++◌, ◌∙◌, ◌<◌, add-one, ap, append-nil, append_assoc, arith, cond, drop, false, get_or, is_some, length, map, refl, set, slice_get, subst, suc, sym, take, true, zero-add, Bool, Bor, List, MatchOption, MutBor, None, Option, Some}
 use Rattle.std.specs.Fn.{Mut}
-use Rattle.std.specs.List.{swap, FoldsTo, enumerate_from, list_any, fold, items_where_true}
-use Rattle.std.specs.Map.Calls.{CallableOnEachPair, RetainsPairs}
-use Rattle.std.specs.Option.{IfSome, option_map_or}
-use Rattle.std.proofs.lemmas.List.{drop-set-lt, drop_all, length-set, take-set-le, take-append-drop, take_more, take_more_set, map_push, take_all}
-use Rattle.std.proofs.lemmas.List.Edits.{length-swap}
-use Rattle.std.proofs.lemmas.Option.{slice_get_within, get_or_from_slice_get, slice_get-get_or}
-use Rattle.micromap_core.specs.Closures.{AcceptsPair, CalledOnPair, VisitsAt, AcceptsValue, AtEachTurn, CalledOnValue}
-use Rattle.micromap_core.specs.Closures.{IsSublist, MayUpdateAll, MayUpdateDisjoint, UpdateAllTurn, UpdateDisjointTurn}
-use Rattle.micromap_core.specs.Closures.{UpdatesAll, UpdatesDisjoint, updated_disjoint, written_by}
-use Rattle.micromap_core.proofs.Lists.{IfSome-from, drop-here, slice_get-set_same, swap-behind, swap-front, slice_get-drop}
-use Rattle.std.specs.Map.{keys_of}
-use Rattle.std.proofs.lemmas.Fn.{FoldsTo-push, chained_keeps}
-use Rattle.std.proofs.lemmas.List.FromFn.{length-enumerate_from, get_or-enumerate_from}
-use Rattle.std.proofs.lemmas.Map.Made.{is_some-lookup}
-use Rattle.micromap_core.specs.Pairs.{at, has, put}
-use Rattle.micromap_core.proofs.MapLemmas.{keys_of-put_stored}
+use Rattle.std.specs.List.{enumerate_from, fold, items_where_true, list_any, swap, FoldsTo}
 use Rattle.std.specs.List.Retain.{IsFiltered}
-use Rattle.std.proofs.lemmas.Map.Entries.{length-keys_of}
-use Rattle.micromap_core.proofs.DistinctLemmas.{length-sublist}
+use Rattle.std.specs.Map.{keys_of}
+use Rattle.std.specs.Map.Calls.{CallableOnEachPair, RetainsPairs}
+use Rattle.std.specs.Option.{option_map_or, IfSome}
+use Rattle.std.proofs.lemmas.Fn.{chained_keeps, FoldsTo-push}
+use Rattle.std.proofs.lemmas.List.{drop-set-lt, drop_all, length-set, map_push, take-append-drop, take-set-le, take_all, take_more, take_more_set}
+use Rattle.std.proofs.lemmas.List.Edits.{length-swap}
+use Rattle.std.proofs.lemmas.List.FromFn.{get_or-enumerate_from, length-enumerate_from}
 use Rattle.std.proofs.lemmas.List.Sums.{fold-append}
+use Rattle.std.proofs.lemmas.Map.Entries.{length-keys_of}
+use Rattle.std.proofs.lemmas.Map.Made.{is_some-lookup}
+use Rattle.std.proofs.lemmas.Option.{get_or_from_slice_get, slice_get-get_or, slice_get_within}
+use Rattle.micromap_core.specs.Closures.{updated_disjoint, written_by, AcceptsPair, AcceptsValue, AtEachTurn, CalledOnPair, CalledOnValue, IsSublist, MayUpdateAll, MayUpdateDisjoint, UpdateAllTurn, UpdateDisjointTurn, UpdatesAll, UpdatesDisjoint, VisitsAt}
+use Rattle.micromap_core.specs.Pairs.{at, has, put}
+use Rattle.micromap_core.proofs.DistinctLemmas.{length-sublist}
+use Rattle.micromap_core.proofs.Lists.{drop-here, slice_get-drop, slice_get-set_same, swap-behind, swap-front, IfSome-from}
+use Rattle.micromap_core.proofs.MapLemmas.{keys_of-put_stored}
 
 module _ {F K V : Type 0} (g : Mut F (Bor K × (MutBor V × Unit {0})) (Bool × (MutBor V × Unit {0})))
     (f : F) (pairs : List (K × V)) where

@@ -1,18 +1,21 @@
 -- Lists of pairwise unequal items: parts of a list, two lists one after the other, and how many items of a list another
 -- one has. For callers: `IsDistinct-sublist`.
-use Rattle.std.proofs.Common.{◌≡◌, ◌≢◌, ◌<◌, ◌≤◌, Bool, true, false, ◌&&◌, ◌||◌, List, [], ◌∷◌, ◌++◌}
-use Rattle.std.proofs.Common.{filter, get_or, length, refl, ap, sym, subst, ◌∙◌, arith}
-use Rattle.std.specs.Cmp.{IsEquivalence, second_so}
+use Rattle.std.proofs.Common.{◌≡◌, ◌≢◌, ◌<◌, ◌≤◌, ◌&&◌, ◌||◌, [], ◌∷◌, ◌++◌, ◌∙◌, ap, arith, false, filter, get_or, length, refl, subst, sym, true, Bool, List}
+use Rattle.std.specs.Cmp.{second_so, IsEquivalence}
 use Rattle.std.specs.Cmp.Derive.{both_true}
-use Rattle.std.specs.List.{AllByRecursion, IsDistinct, items_where_true, list_all, list_any}
+use Rattle.std.specs.List.{items_where_true, list_all, list_any, AllByRecursion, IsDistinct}
 use Rattle.std.specs.Set.{is_member}
 use Rattle.std.proofs.Math.Bool.{or-true}
-use Rattle.std.proofs.lemmas.List.Elements.{All-append, All-from_recursion, recursion_from_All}
-use Rattle.std.proofs.lemmas.List.Sums.{AllPass-from_list_all, count_by-le-length, length-filter, list_all-from_AllPass}
+use Rattle.std.proofs.lemmas.List.Elements.{recursion_from_All, All-append, All-from_recursion}
+use Rattle.std.proofs.lemmas.List.Sums.{count_by-le-length, length-filter, list_all-from_AllPass, AllPass-from_list_all}
 use Rattle.std.proofs.lemmas.Map.Keys.{IsDistinct-cons, IsDistinct-head, IsDistinct-tail}
-use Rattle.std.proofs.lemmas.Map.Made.{All-is_member, is_member-filter, length-le_from_is_member}
+use Rattle.std.proofs.lemmas.Map.Made.{is_member-filter, length-le_from_is_member, All-is_member}
 use Rattle.std.proofs.lemmas.Map.Steps.{list_any_congr}
 use Rattle.micromap_core.specs.Closures.{IsSublist}
+
+pub IsDistinct-nil : {T : Type 0} (eq : T → T → Bool) → IsDistinct eq []
+unfolding IsDistinct
+IsDistinct-nil eq = tt
 
 -- what holds of each item holds of those that are picked
 All-picked : {T : Type 0} (P : T → Type 0) (picks : List Bool) (xs : List T) → AllByRecursion P xs
@@ -59,7 +62,7 @@ pub IsDistinct-filter : {T : Type 0} (eq : T → T → Bool) (test : T → Bool)
 IsDistinct-filter eq test xs = IsDistinct-sublist eq (filter test xs) xs (IsSublist-filter test xs)
 
 -- a test that finds nothing fails at each item
-fails_everywhere : {T : Type 0} (test : T → Bool) (xs : List T) → list_any test xs ≡ false
+pub fails_everywhere : {T : Type 0} (test : T → Bool) (xs : List T) → list_any test xs ≡ false
     → AllByRecursion (λ x. test x ≡ false) xs
 fails_everywhere test [] none = tt
 fails_everywhere test (x ∷ xs) none =

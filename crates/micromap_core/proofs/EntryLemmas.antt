@@ -1,15 +1,15 @@
 -- The entry of a stored key, the entry of a new key, and an entry after its value is written.
-use Rattle.std.proofs.Common.{◌≡◌, ℕ, Bool, List, [], ◌∷◌, ◌++◌, length, Some, None, slice_get, refl, sym, ◌∙◌, MutBor, set-set, append-nil}
-use Rattle.std.proofs.lemmas.Option.{slice_get_within}
+use Rattle.std.proofs.Common.{◌≡◌, ℕ, [], ◌∷◌, ◌++◌, ◌∙◌, append-nil, length, refl, set-set, slice_get, sym, Bool, List, MutBor, None, Some}
 use Rattle.std.proofs.Math.Seq.{set-append_seam}
+use Rattle.std.proofs.lemmas.Option.{slice_get_within}
+use Rattle.micromap_core.specs.Entry.{entry_key, entry_map_ref, entry_put, entry_taken, IsEntryOf, IsWritten, Occupied, Vacant}
 use Rattle.micromap_core.specs.Found.{FoundAt, NotFound}
 use Rattle.micromap_core.specs.Pairs.{index_of, take_out, with_value_at, without_at}
-use Rattle.micromap_core.specs.Entry.{Occupied, Vacant, entry_map_ref, entry_key, entry_put, entry_taken, IsEntryOf, IsWritten}
 use Rattle.micromap_core.specs.declared.map.entry.EntryIn.{EntryIn}
 use Rattle.micromap_core.specs.declared.map.entry.OccupiedIn.{OccupiedIn}
 use Rattle.micromap_core.specs.declared.map.entry.VacantIn.{VacantIn}
-use Rattle.micromap_core.proofs.Lists.{slice_get-set_same, slice_get_seam, remove-set, remove_seam}
-use Rattle.micromap_core.proofs.MapLemmas.{with_value_at-put, push-put}
+use Rattle.micromap_core.proofs.Lists.{remove-set, remove_seam, slice_get-set_same, slice_get_seam}
+use Rattle.micromap_core.proofs.MapLemmas.{push-put, with_value_at-put}
 
 module _ {K V : Type 0} (eq : K → K → Bool) (map : MutBor (List (K × V))) (k : K) where
   -- the key is stored at the index

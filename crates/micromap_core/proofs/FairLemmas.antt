@@ -1,27 +1,23 @@
 -- Two lists with unequal keys that are the same get answers that agree from every fair list of calls, and are the same
 -- afterwards. Two lists that differ are told apart by one look-up. The proofs use only what the calls do to look-ups.
-use Rattle.std.proofs.Common.{◌≡◌, ◌≢◌, ℕ, Bool, true, false, List, [], ◌∷◌, length, Option, Some, None}
-use Rattle.std.proofs.Common.{if◌then◌else◌, nat_eq, eq-eqb, ne_eqb, IsTrue, IsFalse, refl, sym, subst, ◌∙◌, ◌↔◌, arith}
+use Rattle.std.proofs.Common.{◌≡◌, ◌≢◌, ℕ, [], ◌∷◌, ◌∙◌, ◌↔◌, arith, eq-eqb, false, if◌then◌else◌, length, nat_eq, ne_eqb, refl, subst, sym, true, Bool, IsFalse, IsTrue, List, None, Option, Some}
 use Rattle.std.specs.Bool.{OnTrue}
-use Rattle.std.specs.Cmp.{IsEquivalence, bool_eq_equiv, first_so}
+use Rattle.std.specs.Cmp.{bool_eq_equiv, first_so, IsEquivalence}
 use Rattle.std.specs.Cmp.Derive.{both_true}
 use Rattle.std.specs.Cmp.Lexicographic.{options_equiv}
 use Rattle.std.specs.List.{list_all}
 use Rattle.std.specs.Option.{option_eq, option_map_or}
-use Rattle.std.proofs.lemmas.Bool.{false≢true, false_from_ne_true, OnTrue_from}
-use Rattle.micromap_core.specs.Calls.{Call, insert, insert_key_value, get, get_key_value, contains, remove}
-use Rattle.micromap_core.specs.Calls.{remove_entry, len, is_empty, clear, agree, answer, after, run}
+use Rattle.std.proofs.lemmas.Bool.{false_from_ne_true, false≢true, OnTrue_from}
+use Rattle.micromap_core.specs.Calls.{after, agree, answer, clear, contains, get, get_key_value, insert, insert_key_value, is_empty, len, remove, remove_entry, run, Call}
 use Rattle.micromap_core.specs.Equalities.{Lawful}
-use Rattle.micromap_core.specs.Fair.{IsFairCall, IsFair, AnswersAgree, ToldApart, SameForGood}
-use Rattle.micromap_core.specs.Pairs.{at, pair, has, has_room, fits, put, put_key, take_out, IsContent, IsUnique}
-use Rattle.micromap_core.specs.Same.{has_value, pair_eq, is_same, Same}
+use Rattle.micromap_core.specs.Fair.{AnswersAgree, IsFair, IsFairCall, SameForGood, ToldApart}
+use Rattle.micromap_core.specs.Pairs.{at, fits, has, has_room, pair, put, put_key, take_out, IsContent, IsUnique}
+use Rattle.micromap_core.specs.Same.{has_value, is_same, pair_eq, Same}
+use Rattle.micromap_core.proofs.DistinctLemmas.{IsDistinct-nil}
 use Rattle.micromap_core.proofs.Laws.Equalities.{lawful, of_lawful}
-use Rattle.micromap_core.proofs.SameLemmas.{Comparable, comparable, FindAlike, alike_from_same, same_from_alike}
-use Rattle.micromap_core.proofs.SameLemmas.{same_if_long, unlike_if_apart, long_from_same, differs_where_unlike}
-use Rattle.micromap_core.proofs.BuildLemmas.{IsDistinct-nil}
+use Rattle.micromap_core.proofs.Laws.MapLaws.{at_put, at_put_key, at_take_out, unique_put, unique_put_key, unique_take_out}
 use Rattle.micromap_core.proofs.MapLemmas.{lookup-entry}
-use Rattle.micromap_core.proofs.Laws.MapLaws.{at_put, at_put_key, at_take_out}
-use Rattle.micromap_core.proofs.Laws.MapLaws.{unique_put, unique_put_key, unique_take_out}
+use Rattle.micromap_core.proofs.SameLemmas.{alike_from_same, comparable, differs_where_unlike, long_from_same, same_from_alike, same_if_long, unlike_if_apart, Comparable, FindAlike}
 
 -- calls on two lists that are the same
 module _ {K V : Type 0} {eq : K → K → Bool} {same : V → V → Bool} {first second : List (K × V)}

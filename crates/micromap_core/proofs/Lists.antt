@@ -1,11 +1,9 @@
 -- Facts about lists and options alone.
-use Rattle.std.proofs.Common.{Bool, if◌then◌else◌, Option, Some, None, is_some, slice_get, ◌++◌, ◌≡◌, ℕ, suc, zero, ◌<◌}
-use Rattle.std.proofs.Common.{◌≤◌, List, [], ◌∷◌, length, get_or, set, take, drop, map, refl, ap, sym, ◌∙◌, arith}
-use Rattle.std.proofs.Common.{drop-cons, ◌+◌, subst, not, true, false, ◌&&◌}
+use Rattle.std.proofs.Common.{◌++◌, ◌≡◌, ℕ, ◌<◌, ◌≤◌, [], ◌∷◌, ◌∙◌, ◌+◌, ◌&&◌, ap, arith, drop, drop-cons, false, get_or, if◌then◌else◌, is_some, length, map, not, refl, set, slice_get, subst, suc, sym, take, true, zero, Bool, List, None, Option, Some}
+use Rattle.std.specs.List.{find, list_all, refill, remove, swap}
 use Rattle.std.specs.Option.{ForSome, IfSome, MatchOption}
-use Rattle.std.specs.List.{find, list_all, remove, swap, refill}
 use Rattle.std.proofs.Math.ListN.{get_or-map}
-use Rattle.std.proofs.lemmas.List.{append-nil, drop_all, get_or-set_same, length-map, drop-map, drop-set-lt, map-set, map-append, take-map, take-set, length-set, take_at}
+use Rattle.std.proofs.lemmas.List.{append-nil, drop-map, drop-set-lt, drop_all, get_or-set_same, length-map, length-set, map-append, map-set, take-map, take-set, take_at}
 use Rattle.std.proofs.lemmas.Option.{get_or_from_slice_get, slice_get-get_or, slice_get_within}
 
 -- written back whole, a list of the same length is what it was written as
@@ -66,10 +64,6 @@ pub slice_get-drop : {X : Type 0} (xs : List X) (i : ℕ) → slice_get (drop i 
 slice_get-drop xs zero = refl
 slice_get-drop [] (suc i) = refl
 slice_get-drop (x ∷ xs) (suc i) = slice_get-drop xs i
-
--- where a value is given by a test, there is one exactly where the test is passed
-pub is_some-if : {X : Type 0} (b : Bool) (x : X) → is_some (if b then Some x else None) ≡ b
-is_some-if b x = grind arith
 
 -- a function of each element, and the list without one
 pub map-remove : {X Y : Type 0} (f : X → Y) (xs : List X) (i : ℕ)

@@ -1,25 +1,27 @@
 -- What a test of keys finds in a list of pairs, and what a change of a map makes of it: the lemmas behind `MapLaws`,
 -- `ProbedLaws` and the answers of the map's calls. The first part is about the index of the first key that passes a test,
 -- and a scan for it.
-use Rattle.std.proofs.Common.{◌≡◌, ℕ, zero, suc, ◌+◌, ◌<◌, ◌≤◌, Bool, true, false, not, cond, List, [], ◌∷◌, length}
-use Rattle.std.proofs.Common.{Option, Some, None, IfSome, IfNone, is_some, refl, ap, sym, arith, if◌then◌else◌, ◌++◌}
-use Rattle.std.proofs.Common.{get_or, set, slice_get, slice_set, subst, ◌∙◌, filter, reverse}
+use Rattle.std.proofs.Common.{◌≡◌, ℕ, ◌+◌, ◌<◌, ◌≤◌, [], ◌∷◌, ◌++◌, ◌∙◌, ap, arith, cond, false, filter, get_or, if◌then◌else◌, is_some, length, not, refl, reverse, set, slice_get, slice_set, subst, suc, sym, true, zero, Bool, IfNone, IfSome, List, None, Option, Some}
 use Rattle.std.specs.Cmp.{IsEquivalence}
-use Rattle.std.specs.List.{position_or_len, position, AllByRecursion, IsDistinct, remove}
-use Rattle.std.specs.Map.{keys_of, lookup, lookup_entry, set_value, remove_entry, set_key}
+use Rattle.std.specs.List.{position, position_or_len, remove, AllByRecursion, IsDistinct}
+use Rattle.std.specs.Map.{keys_of, lookup, lookup_entry, remove_entry, set_key, set_value}
 use Rattle.std.specs.Option.{option_map, option_map_or, option_or}
 use Rattle.std.proofs.lemmas.Bool.{false≢true}
 use Rattle.std.proofs.lemmas.Bool.Decides.{nat_tests}
 use Rattle.std.proofs.lemmas.Grind.{common_steps}
-use Rattle.std.proofs.lemmas.List.{length-map, length-set, map_push, map-set, get_or-map, set-get_or, reverse-append}
+use Rattle.std.proofs.lemmas.List.{get_or-map, length-append, length-map, length-set, map-set, map_push, reverse-append, set-get_or}
 use Rattle.std.proofs.lemmas.List.Sorted.{IsPermutation-map, IsPermutation-remove}
 use Rattle.std.proofs.lemmas.Map.{keys-set_value}
-use Rattle.std.proofs.lemmas.Map.Keys.{IsDistinct-push, IsDistinct-tail, IsDistinct-IsPermutation}
+use Rattle.std.proofs.lemmas.Map.Keys.{IsDistinct-IsPermutation, IsDistinct-push, IsDistinct-tail}
+use Rattle.std.proofs.lemmas.List.Edits.{length-remove}
+use Rattle.std.proofs.lemmas.Map.Entries.{length-keys_of}
 use Rattle.std.proofs.lemmas.Option.{get_or_from_slice_get, slice_get_within}
+use Rattle.micromap_core.specs.Closures.{IsSublist}
 use Rattle.micromap_core.specs.Equalities.{IsProbe}
 use Rattle.micromap_core.specs.Found.{FoundAt, NotFound}
-use Rattle.micromap_core.proofs.Laws.Equalities.{of_lawful}
-use Rattle.micromap_core.specs.Pairs.{first_index, without_at, has, put, put_key, IsContent, IsUnique, with_value_at, pair}
+use Rattle.micromap_core.specs.Pairs.{first_index, has, pair, put, put_key, with_value_at, without_at, IsContent, IsUnique}
+use Rattle.micromap_core.proofs.Laws.Equalities.{lawful, of_lawful}
+use Rattle.micromap_core.proofs.DistinctLemmas.{length-sublist, IsDistinct-sublist}
 
 module _ {K V : Type 0} (test : K → Bool) where
   -- the first index whose key passes, or the length
@@ -233,7 +235,7 @@ module _ {K V : Type 0} (eq : K → K → Bool) (laws : IsEquivalence eq) (pairs
       → IsUnique eq (set pairs i (p.0, v))
   IsUnique-set i p v here = subst (IsDistinct eq) (sym (keys_of-set pairs i p v here)) unique
 
-  pub IsUnique-with_value_at : (i : ℕ) (v : V) → IsUnique eq (with_value_at pairs i v)
+  IsUnique-with_value_at : (i : ℕ) (v : V) → IsUnique eq (with_value_at pairs i v)
   IsUnique-with_value_at i v =
       elim (slice_get pairs i) as (λ o. slice_get pairs i ≡ o
       → IsUnique eq (option_map_or (λ p. set pairs i (p.0, v)) o pairs)) [
@@ -275,12 +277,74 @@ module _ {K V : Type 0} (pairs : List (K × V)) (i : ℕ) (v : V) where
         | Some p ↦ length-set pairs i (p.0, v)
       ]
 
-  -- what a map may hold it may hold with another value at the index of a pair
-  pub IsContent-with_value_at : (eq : K → K → Bool) (N : ℕ) → IsContent eq N pairs
-      → IsContent eq N (with_value_at pairs i v)
-  IsContent-with_value_at eq N content = record {
+-- no pairs are the content of a map
+pub IsContent-nil : {K V : Type 0} (eq : K → K → Bool) (N : ℕ) → IsEquivalence eq
+    → IsContent {V = V} eq N []
+unfolding IsDistinct
+IsContent-nil eq N laws = record {
+  unique = tt;
+  bounded = omega arith;
+  lawful = lawful eq laws;
+}
+
+-- what is the content of a map is so once the map is changed
+module _ {K V : Type 0} {eq : K → K → Bool} {N : ℕ} {pairs : List (K × V)}
+    (content : IsContent eq N pairs) where
+  -- other values
+  pub IsContent-same_keys : (new : List (K × V)) → keys_of new ≡ keys_of pairs → IsContent eq N new
+  IsContent-same_keys new same = record {
+    unique = subst (IsDistinct eq) (sym same) content.unique;
+    bounded = omega (arith, content.bounded, ap length same, length-keys_of new, length-keys_of pairs);
+    lawful = content.lawful;
+  }
+
+  -- some of the pairs in their order, which may have other values
+  pub IsContent-sublist : (new : List (K × V)) → IsSublist (keys_of new) (keys_of pairs)
+      → IsContent eq N new
+  IsContent-sublist new order = record {
+    unique = IsDistinct-sublist eq _ _ order content.unique;
+    bounded = omega (
+      arith,
+      content.bounded,
+      length-sublist _ _ order,
+      length-keys_of new,
+      length-keys_of pairs,
+    );
+    lawful = content.lawful;
+  }
+
+  -- another value at the index of a pair
+  pub IsContent-with_value_at : (i : ℕ) (v : V) → IsContent eq N (with_value_at pairs i v)
+  IsContent-with_value_at i v = record {
     unique = IsUnique-with_value_at eq (of_lawful eq content.lawful) pairs content.unique i v;
-    bounded = subst (λ n. n ≤ N) (sym length-with_value_at) content.bounded;
+    bounded = subst (λ n. n ≤ N) (sym (length-with_value_at pairs i v)) content.bounded;
+    lawful = content.lawful;
+  }
+
+  -- an equal key at the index of a pair
+  pub IsContent-set_key : (i : ℕ) (p : K × V) (k : K) (v : V) → slice_get pairs i ≡ Some p
+      → eq k p.0 ≡ true → IsContent eq N (set pairs i (k, v))
+  IsContent-set_key i p k v here same = record {
+    unique = IsUnique-set_key eq (of_lawful eq content.lawful) pairs content.unique i p k v here same;
+    bounded = subst (λ n. n ≤ N) (sym (length-set pairs i (k, v))) content.bounded;
+    lawful = content.lawful;
+  }
+
+  -- a pair whose key is new
+  pub IsContent-push : (k : K) (v : V) → NotFound (eq k) pairs → length pairs < N
+      → IsContent eq N (pairs ++ (k, v) ∷ [])
+  IsContent-push k v missing room = record {
+    unique = IsUnique-push eq (of_lawful eq content.lawful) pairs content.unique k v missing;
+    bounded = omega (arith, room, length-append pairs ((k, v) ∷ []));
+    lawful = content.lawful;
+  }
+
+  -- without the pair at an index
+  pub IsContent-remove : (i : ℕ) (p : K × V) → slice_get pairs i ≡ Some p
+      → IsContent eq N (remove pairs i)
+  IsContent-remove i p here = record {
+    unique = IsUnique-remove eq (of_lawful eq content.lawful) pairs content.unique i p here;
+    bounded = omega (arith, content.bounded, length-remove pairs i (slice_get_within pairs i p here));
     lawful = content.lawful;
   }
 

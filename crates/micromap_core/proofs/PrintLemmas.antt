@@ -1,11 +1,11 @@
 -- One step of printing a list in braces. A container over the map can cite it too.
-use Rattle.std.proofs.Common.{◌≡◌, ℕ, List, [], ◌∷◌, Option, Some, None, Result, Ok, Err, IsErr, codes, refl, ap, sym, subst, ◌∙◌, IfSome}
-use Rattle.std.specs.Fmt.{◌++?◌, DisplaysOnOk, DisplaysStyledOnOk, HasWrittenStyled, WritesStyledOnOk, WritesText, debug_items, comma_space, formatter_spec}
-use Rattle.std.specs.List.{FoldsTo, concat}
+use Rattle.std.proofs.Common.{◌≡◌, ℕ, [], ◌∷◌, ◌∙◌, ap, codes, refl, subst, sym, Err, IfSome, IsErr, List, None, Ok, Option, Result, Some}
+use Rattle.std.specs.Fmt.{◌++?◌, comma_space, debug_items, formatter_spec, DisplaysOnOk, DisplaysStyledOnOk, HasWrittenStyled, WritesStyledOnOk, WritesText}
+use Rattle.std.specs.List.{concat, FoldsTo}
 use Rattle.std.specs.declared.fmt.Error.{Error}
 use Rattle.std.specs.declared.fmt.Formatter.{Formatter}
-use Rattle.std.proofs.lemmas.Bool.{false≢true}
 use Rattle.std.proofs.Output.{displays_on_IsOk_append, has_written_styled_append, has_written_styled_nil, has_written_styled_of_eq, then_text_assoc}
+use Rattle.std.proofs.lemmas.Bool.{false≢true}
 use Rattle.micromap_core.specs.Print.{set_text}
 use Rattle.micromap_core.specs.declared.map.print.Unstyled.{Unstyled}
 

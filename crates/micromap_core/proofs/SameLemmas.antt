@@ -1,31 +1,28 @@
 -- Two lists with pairwise unequal keys are the same exactly if every key finds equal values in both, or none in either.
 -- If the lists are equally long, one side is enough: they are the same if one has an equal value at each key of the
 -- other. The pairs are items that are pairwise unequal, and `DistinctLemmas` says so of any such items.
-use Rattle.std.proofs.Common.{◌≡◌, Bool, true, false, List, [], ◌∷◌, Option, Some, None, is_some, not, get_or}
-use Rattle.std.proofs.Common.{refl, ap, sym, subst, ◌∙◌, ◌↔◌, IfSome, IsNone, IsFalse, arith, ◌≢◌, ◌&&◌, ◌||◌}
-use Rattle.std.proofs.Common.{if◌then◌else◌, filter, IsTrue, length, slice_get, Bor, ℕ}
-use Rattle.std.specs.Cmp.{IsEquivalence, and_equiv, first_so, on_equiv, second_so}
+use Rattle.std.proofs.Common.{◌≡◌, [], ◌∷◌, ◌∙◌, ◌↔◌, ◌≢◌, ◌&&◌, ◌||◌, ℕ, ap, arith, false, filter, get_or, if◌then◌else◌, is_some, length, not, refl, slice_get, subst, sym, true, Bool, Bor, IfSome, IsFalse, IsNone, IsTrue, List, None, Option, Some}
+use Rattle.std.specs.Cmp.{and_equiv, first_so, on_equiv, second_so, IsEquivalence}
 use Rattle.std.specs.Cmp.Derive.{both_true}
-use Rattle.std.specs.List.{AllByRecursion, IsDistinct, find, list_all}
+use Rattle.std.specs.Cmp.Lexicographic.{options_equiv}
+use Rattle.std.specs.List.{find, list_all, AllByRecursion, IsDistinct}
 use Rattle.std.specs.Map.{keys_of}
+use Rattle.std.specs.Option.{option_copied, option_eq, option_map, option_map_or, option_or, MatchOption}
 use Rattle.std.specs.Set.{is_member}
-use Rattle.std.specs.Option.{MatchOption, option_copied, option_eq, option_map, option_map_or, option_or}
 use Rattle.std.proofs.Math.Bool.{or-false}
 use Rattle.std.proofs.lemmas.Bool.{false≢true}
+use Rattle.std.proofs.lemmas.List.Sums.{list_all-from_AllPass}
 use Rattle.std.proofs.lemmas.Map.{lookup-none}
 use Rattle.std.proofs.lemmas.Map.Entries.{lookup_from_place, none_past_head}
-use Rattle.std.proofs.lemmas.List.Sums.{list_all-from_AllPass}
 use Rattle.std.proofs.lemmas.Map.Keys.{any_passes_from_place}
 use Rattle.std.proofs.lemmas.Map.Made.{is_some-lookup}
 use Rattle.std.proofs.lemmas.Option.{slice_get-get_or}
-use Rattle.std.specs.Cmp.Lexicographic.{options_equiv}
 use Rattle.micromap_core.specs.Pairs.{at, has, IsUnique}
-use Rattle.micromap_core.specs.Same.{pair_eq, is_same, Same, same_at, has_value}
-use Rattle.micromap_core.specs.Same.{first_missing, first_unequal, first_difference}
+use Rattle.micromap_core.specs.Same.{first_difference, first_missing, first_unequal, has_value, is_same, pair_eq, same_at, Same}
 use Rattle.micromap_core.proofs.DistinctLemmas.{both_sides, not_both_sides}
-use Rattle.micromap_core.proofs.Lists.{all_by_find, find_tells}
 use Rattle.micromap_core.proofs.Laws.Equalities.{lawful}
 use Rattle.micromap_core.proofs.Laws.MapLaws.{at_alike}
+use Rattle.micromap_core.proofs.Lists.{all_by_find, find_tells}
 
 -- at the next of the pairs that are left: what the other list has at its key is found
 module _ {K V : Type 0} (eq : K → K → Bool) (same : V → V → Bool) (k : K) (v : Bor V)

@@ -1,11 +1,11 @@
--- Where a struct fits in memory, its fields do.
-use Rattle.std.proofs.Common.{ℕ, Bool, arith}
+-- Trigger a struct fits in memory, its fields do.
+use Rattle.std.proofs.Common.{ℕ, arith, Bool}
+use denote.Param.{number, param}
 use Rattle.std.specs.Borrow.{RattleType}
+use Rattle.micromap_core.specs.Memory.{FitsInMemory}
 use Rattle.micromap_core.specs.contracts.map.Map as map
 use Rattle.micromap_core.specs.contracts.slots.Slots as slots
 use Rattle.micromap_core.specs.contracts.slots.columns.Columns as columns
-use Rattle.micromap_core.specs.Memory.{FitsInMemory}
-use denote.Param.{number, param}
 
 module _ (K V : RattleType) (N : ℕ) where
   -- the columns of a map

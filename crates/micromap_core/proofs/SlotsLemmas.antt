@@ -1,21 +1,17 @@
 -- Facts about filled slots and the items in them, and about two columns of equal length and their pairs. The rulesets at
 -- the end are for `using` at the calls of both.
-use Rattle.std.proofs.Common.{◌≡◌, ℕ, ◌<◌, List, [], ◌∷◌, ◌++◌, length, get_or, set, take, map, Option, Some, None}
-use Rattle.std.proofs.Common.{is_some, slice_get, ap, sym, ◌∙◌, zero, suc, slice_set, refl, arith, remove, swap, zip}
-use Rattle.std.proofs.Common.{option_map, ◌≤◌, append-nil, append_assoc, length-append, subst}
-use Rattle.std.specs.List.{AllZip}
-use Rattle.std.proofs.lemmas.Bool.{false≢true}
-use Rattle.std.proofs.lemmas.Option.{slice_get-get_or}
-use Rattle.std.proofs.lemmas.List.{get_or-map, length-map, map-set, map-append, take-map}
-use Rattle.std.proofs.lemmas.Slice.Zip.{all_zipped_more, AllZip-long}
-use Rattle.std.proofs.lemmas.List.Edits.{length-swap}
-use Rattle.micromap_core.proofs.Lists.{map-remove, map-swap}
-use Rattle.micromap_walk.specs.Filled.{items_of, AreFilled}
-pub use Rattle.micromap_walk.proofs.FilledLemmas.{items_of-map, AreFilled-from, length_filled, some_at}
+use Rattle.std.proofs.Common.{◌≡◌, ℕ, ◌<◌, [], ◌∷◌, ◌++◌, ◌∙◌, ap, arith, get_or, is_some, length, map, option_map, refl, remove, set, slice_get, slice_set, suc, swap, sym, take, zero, zip, List, None, Option, Some}
 use Rattle.std.specs.Map.{keys_of, values_of}
+use Rattle.std.proofs.lemmas.Bool.{false≢true}
 use Rattle.std.proofs.lemmas.Grind.{common_steps}
+use Rattle.std.proofs.lemmas.List.{get_or-map, map-append, map-set, take-map}
+use Rattle.std.proofs.lemmas.List.Edits.{length-swap}
+use Rattle.std.proofs.lemmas.Option.{slice_get-get_or}
 use Rattle.micromap_walk.proofs.ZipLemmas.{keys_zip, length_zip, values_zip}
+use Rattle.micromap_walk.specs.Filled.{items_of, AreFilled}
 use Rattle.micromap_core.specs.Pairs.{with_value_at}
+use Rattle.micromap_core.proofs.Lists.{map-remove, map-swap}
+pub use Rattle.micromap_walk.proofs.FilledLemmas.{items_of-map, AreFilled-from, length_filled, some_at}
 
 module _ {X : Type 0} (slots : List (Option X)) (filled : AreFilled slots) where
   -- a slot within has the item at its index
@@ -50,61 +46,6 @@ module _ {X : Type 0} (slots : List (Option X)) (filled : AreFilled slots) where
   push_filled x = ap (λ s. s ++ Some x ∷ []) filled
       ∙ sym (map-append Some (items_of slots) (x ∷ []))
 
--- the items that are converted so far, what they are converted into, and the slots that are left of all
-pub record Converted {T U : Type 0} (R : T → U → Type 0) (slots : List (Option U))
-    (left whole : List (Option T)) : Type 0 where
-  pub done : List T
-  pub made : List U
-  pub filled : slots ≡ map Some made
-  pub parts : map Some done ++ left ≡ whole
-  pub given : AllZip R done made
-
-module _ {T U : Type 0} (R : T → U → Type 0) where
-  pub converted_none : (whole : List (Option T)) → Converted R [] whole whole
-  converted_none whole = record { done = []; made = []; filled = refl; parts = refl; given = tt }
-
-  -- one more
-  pub converted_next : (slots : List (Option U)) (left rest whole : List (Option T))
-      (slot : Option T) (x : T) (y : U) → Converted R slots left whole → left ≡ slot ∷ rest
-      → slot ≡ Some x → R x y → Converted R (slots ++ Some y ∷ []) rest whole
-  converted_next slots left rest whole slot x y so_far next some gives = record {
-    done = so_far.done ++ x ∷ [];
-    made = so_far.made ++ y ∷ [];
-    filled = ap (λ l. l ++ Some y ∷ []) so_far.filled ∙ sym (map-append Some so_far.made (y ∷ []));
-    parts = ap (λ l. l ++ rest) (map-append Some so_far.done (x ∷ []))
-        ∙ append_assoc (map Some so_far.done) (Some x ∷ []) rest
-        ∙ ap (λ s. map Some so_far.done ++ s ∷ rest) (sym some)
-        ∙ ap (λ l. map Some so_far.done ++ l) (sym next) ∙ so_far.parts;
-    given = all_zipped_more R so_far.done so_far.made x y so_far.given gives;
-  }
-
-  -- there is room while one is left
-  pub converted_room : (slots : List (Option U)) (left rest whole : List (Option T))
-      (slot : Option T) (room : ℕ) → Converted R slots left whole → left ≡ slot ∷ rest
-      → length whole ≤ room → length slots < room
-  converted_room slots left rest whole slot room so_far next fits =
-      omega (
-        arith,
-        ap length so_far.filled,
-        length-map so_far.made Some,
-        AllZip-long R so_far.done so_far.made so_far.given,
-        length-map so_far.done Some,
-        length-append (map Some so_far.done) left,
-        ap length so_far.parts,
-        ap length next,
-        fits,
-      )
-
-  -- once none is left, all are converted
-  pub converted_all : (slots : List (Option U)) (left whole : List (Option T))
-      → Converted R slots left whole → left ≡ [] → AllZip R (items_of whole) (items_of slots)
-  converted_all slots left whole so_far none =
-      let all : map Some so_far.done ≡ whole = sym (append-nil (map Some so_far.done))
-      ∙ ap (λ l. map Some so_far.done ++ l) (sym none) ∙ so_far.parts in
-      subst (λ l. AllZip R l (items_of slots)) (sym (items_of-map so_far.done) ∙ ap items_of all)
-      (subst (AllZip R so_far.done) (sym (items_of-map so_far.made) ∙ ap items_of (sym so_far.filled))
-      so_far.given)
-
 -- filled slots with equally many items are as many
 pub equal_slots : {X Y : Type 0} (xs : List (Option X)) (ys : List (Option Y)) → AreFilled xs
     → AreFilled ys → length (items_of xs) ≡ length (items_of ys) → length xs ≡ length ys
@@ -112,10 +53,14 @@ equal_slots xs ys filled filled_too same = sym (length_filled xs filled) ∙ sam
     ∙ length_filled ys filled_too
 
 module _ {K V : Type 0} where
-  -- there are as many keys as pairs
-  pub as_long : (ks : List K) (vs : List V) (pairs : List (K × V)) → length ks ≡ length vs
-      → zip ks vs ≡ pairs → length pairs ≡ length ks
-  as_long ks vs pairs same seen = ap length (sym seen) ∙ length_zip ks vs same
+  -- there are as many keys as pairs, and as many values
+  module _ (ks : List K) (vs : List V) (pairs : List (K × V)) (same : length ks ≡ length vs)
+      (seen : zip ks vs ≡ pairs) where
+    pub as_many_keys : length pairs ≡ length ks
+    as_many_keys = ap length (sym seen) ∙ length_zip ks vs same
+
+    pub as_many_values : length pairs ≡ length vs
+    as_many_values = as_many_keys ∙ same
 
   -- the pair at an index
   pub get_zip : (ks : List K) (vs : List V) (i : ℕ) (k : K) (v : V) → slice_get ks i ≡ Some k
@@ -203,4 +148,4 @@ pub ruleset opened_slots = (
 )
 
 pub ruleset opened_columns =
-    (keys_zip, values_zip, length-swap, equal_slots, as_long, equal_remove, equal_push)
+    (keys_zip, values_zip, length-swap, equal_slots, as_many_keys, equal_remove, equal_push)

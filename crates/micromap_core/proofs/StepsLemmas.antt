@@ -1,12 +1,11 @@
 -- How many steps a look-up and a comparison take at most, so that there is room for them in a counter.
-use Rattle.std.proofs.Common.{◌≡◌, ◌≢◌, ℕ, suc, ◌+◌, ◌*◌, ◌≤◌, Bool, true, false, not, ◌&&◌, if◌then◌else◌, List, []}
-use Rattle.std.proofs.Common.{◌∷◌, length, sum_by, take, refl, ap, sym, subst, ◌∙◌, arith, eq-eqb, ne_eqb}
+use Rattle.std.proofs.Common.{◌≡◌, ◌≢◌, ℕ, ◌+◌, ◌*◌, ◌≤◌, ◌&&◌, [], ◌∷◌, ◌∙◌, ap, arith, eq-eqb, false, if◌then◌else◌, length, ne_eqb, not, refl, subst, suc, sum_by, sym, take, true, Bool, List}
 use Rattle.std.specs.List.{list_all, position_or_len}
 use Rattle.std.proofs.lemmas.Bool.Decides.{nat_tests}
 use Rattle.std.proofs.lemmas.List.Sums.{sum_by-cons}
 use Rattle.std.proofs.lemmas.Map.Entries.{length-keys_of}
 use Rattle.micromap_core.specs.Same.{has_value}
-use Rattle.micromap_core.specs.Steps.{look_up_steps, walk_steps, comparison_steps}
+use Rattle.micromap_core.specs.Steps.{comparison_steps, look_up_steps, walk_steps}
 
 -- the most steps of a look-up of each key that is left among n pairs
 abbrev pub most_steps : {X : Type 0} → List X → ℕ → ℕ

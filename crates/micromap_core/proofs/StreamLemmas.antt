@@ -1,20 +1,18 @@
--- One turn of a loop that writes to a sink or reads from a source, and the end of the loop.
-use Rattle.std.proofs.Common.{◌≡◌, ℕ, suc, Bool, true, false, not, List, [], ◌∷◌, ◌++◌, length, take, Option, Result}
-use Rattle.std.proofs.Common.{Ok, Err, if◌then◌else◌, IsTrue, refl, ap, sym, subst, ◌∙◌, append_assoc, arith}
+-- A loop that reads from a source: one turn of it and its ends.
+use Rattle.std.proofs.Common.{◌≡◌, ℕ, [], ◌∷◌, ◌++◌, ◌∙◌, ap, arith, false, length, not, refl, subst, suc, sym, true, Bool, Err, List, Ok, Option, Result}
 use Rattle.std.specs.Cmp.{IsEquivalence}
-use Rattle.std.specs.List.{fold, IsDistinct}
 use Rattle.std.specs.Map.{keys_of}
-use Rattle.std.proofs.lemmas.List.{append-nil, length-append, length_push, map-append, take_at}
+use Rattle.std.proofs.lemmas.List.{length-append, length_push}
 use Rattle.std.proofs.lemmas.Map.Entries.{length-keys_of}
-use Rattle.std.proofs.lemmas.Map.Made.{distinct_count-le, is_some-lookup}
-use Rattle.micromap_core.specs.Build.{all_fit, build, pair_fits, put_pair}
-use Rattle.micromap_core.specs.Pairs.{fits, has, IsContent, IsUnique}
+use Rattle.std.proofs.lemmas.Map.Made.{distinct_count-le}
+use Rattle.micromap_core.specs.Build.{pair_fits, put_pair, put_pair_if_fits}
+use Rattle.micromap_core.specs.Pairs.{fits, IsContent}
+use Rattle.micromap_core.specs.Stream.{stream_of, Faultless, Faults, MapReads, Stream}
 use Rattle.micromap_core.specs.declared.stream.ReadFault.{ReadFault}
 use Rattle.micromap_core.specs.declared.stream.ReadFault.TheVariants.{Source, TooMany}
-use Rattle.micromap_core.specs.Stream.{Stream, stream_of, Faultless, Faults, TakesBeginning, MapReads}
-use Rattle.micromap_core.proofs.BuildLemmas.{has_put_more, few_distinct, many_distinct, pairs_keyed}
-use Rattle.micromap_core.proofs.DistinctLemmas.{new_behind}
-use Rattle.micromap_core.proofs.Laws.MapLaws.{put_new}
+use Rattle.micromap_core.proofs.KeyedLemmas.{built_in_turn, few_distinct, many_put, pairs_keyed, IsContent-build}
+use Rattle.micromap_core.proofs.PuttingLemmas.{puts_each, putting_begins, putting_goes_on, walk_puts, Putting}
+use Rattle.micromap_core.proofs.Walked.{walk_begins, walk_goes_on, walk_seam, Walked}
 
 -- no fault, and then a call with none
 pub still_faultless : {S E : Type 0} {faults : S → ℕ} {last_fault : S → Option E} {old now new : S}
@@ -23,73 +21,17 @@ pub still_faultless : {S E : Type 0} {faults : S → ℕ} {last_fault : S → Op
 still_faultless so_far step =
     record { count = step.count ∙ so_far.count; last = step.last ∙ so_far.last }
 
--- of the entries these are left, and those before them were appended to old
-pub record Writing {X : Type 0} (old entries left now : List X) : Type 0 where
-  pub before : List X
-  pub split : entries ≡ before ++ left
-  pub taken : now ≡ old ++ before
-
-pub writing_begins : {X : Type 0} (old entries : List X) → Writing old entries entries old
-writing_begins old entries = record { before = []; split = refl; taken = sym (append-nil old) }
-
-module _ {X : Type 0} {old entries left now : List X} (writing : Writing old entries left now) where
-  pub writing_ends : left ≡ [] → now ≡ old ++ entries
-  writing_ends none = writing.taken
-      ∙ ap (λ l. old ++ l) (sym (writing.split ∙ ap (λ l. writing.before ++ l) none
-      ∙ append-nil writing.before))
-
-  module _ {x : X} {rest : List X} (next : left ≡ x ∷ rest) where
-    pub writing_more : {new : List X} → new ≡ now ++ x ∷ [] → Writing old entries rest new
-    writing_more took = record {
-      before = writing.before ++ x ∷ [];
-      split = writing.split ∙ ap (λ l. writing.before ++ l) next
-          ∙ sym (append_assoc writing.before (x ∷ []) rest);
-      taken = took ∙ ap (λ l. l ++ x ∷ []) writing.taken ∙ append_assoc old writing.before (x ∷ []);
-    }
-
-    pub writing_fails : {new : List X} → new ≡ now → TakesBeginning old entries new
-    writing_fails kept =
-        let split = writing.split ∙ ap (λ l. writing.before ++ l) next in (
-          length writing.before,
-          rw split (omega (arith, length-append writing.before (x ∷ rest))),
-          kept ∙ writing.taken ∙ ap (λ l. old ++ l)
-              (sym (ap (take (length writing.before)) split
-              ∙ take_at writing.before (x ∷ rest) (length writing.before) refl)),
-        )
-
--- pairs with pairwise unequal keys are built as they are
-pub built_in_turn : {K V : Type 0} {eq : K → K → Bool} (laws : IsEquivalence eq)
-    (built pairs : List (K × V)) → IsUnique eq (built ++ pairs)
-    → fold (put_pair eq) built pairs ≡ built ++ pairs
-built_in_turn {K = K} {V = V} {eq = eq} laws built [] unique = sym (append-nil built)
-built_in_turn {K = K} {V = V} {eq = eq} laws built (p ∷ pairs) unique =
-    let new : has eq built p.0 ≡ false = is_some-lookup (eq p.0) built
-    ∙ new_behind laws (keys_of built) p.0 (keys_of pairs)
-    (subst (IsDistinct eq) (map-append (λ (q : K × V). q.0) built (p ∷ pairs)) unique) in
-    ap (λ l. fold (put_pair eq) l pairs) (put_new eq built p.0 p.1 new)
-    ∙ built_in_turn laws (built ++ p ∷ []) pairs
-    (subst (IsUnique eq) (sym (append_assoc built (p ∷ []) pairs)) unique)
-    ∙ append_assoc built (p ∷ []) pairs
-
 module _ {K V S E : Type 0} (eq : K → K → Bool) (N : ℕ) (left : S → List (K × V)) (faults : S → ℕ)
     (last_fault : S → Option E) (old : S) where
   -- the entries taken so far all fit a new map and were put, and no fault came
   pub record Reading (now : S) (map : List (K × V)) : Type 0 where
-    pub before : List (K × V)
-    pub split : left old ≡ before ++ left now
-    pub fit : IsTrue (all_fit eq N before)
-    pub made : map ≡ build eq before
+    pub put : Walked (left old) (left now)
+        (λ before. Putting (pair_fits eq N) (put_pair eq) [] before true map)
     pub faultless : Faultless faults last_fault old now
 
   pub reading_begins : Reading old []
-  reading_begins = record {
-    before = [];
-    split = refl;
-    fit = refl;
-    made = refl;
-    faultless =
-        record { count = refl; last = refl };
-  }
+  reading_begins =
+      record { put = walk_begins putting_begins; faultless = record { count = refl; last = refl } }
 
   -- the source as a stream
   abbrev stream : S → Stream (K × V) E
@@ -125,26 +67,13 @@ module _ {K V S E : Type 0} (eq : K → K → Bool) (N : ℕ) (left : S → List
 module _ {K V S E : Type 0} {eq : K → K → Bool} {N : ℕ} {left : S → List (K × V)} {faults : S → ℕ}
     {last_fault : S → Option E} {old now : S} {map : List (K × V)}
     (reading : Reading eq N left faults last_fault old now map) where
-  seam : (new : S) (x : K × V) → left now ≡ x ∷ left new → left old ≡ reading.before ++ x ∷ left new
-  seam new x next = reading.split ∙ ap (λ l. reading.before ++ l) next
-
-  pub reading_more : (new : S) (x : K × V) {more : List (K × V)} → left now ≡ x ∷ left new
-      → Faultless faults last_fault now new → pair_fits eq N map x ≡ true
-      → more ≡ (if pair_fits eq N map x then put_pair eq map x else map)
-      → Reading eq N left faults last_fault old new more
-  reading_more new x next step fit put =
-      let has = has_put_more (pair_fits eq N)
-      (put_pair eq) [] reading.before (length reading.before) map _ x
-      (record { fit = reading.fit; made = reading.made; position_is = refl }) put fit in
-      record {
-        before = reading.before ++ x ∷ [];
-        split = seam new x next
-            ∙ sym (append_assoc reading.before (x ∷ []) (left new));
-        fit = has.fit;
-        made =
-            has.made;
-        faultless = still_faultless reading.faultless step;
-      }
+  pub reading_goes_on : (new : S) (x : K × V) {more : List (K × V)} → left now ≡ x ∷ left new
+      → Faultless faults last_fault now new → more ≡ put_pair_if_fits eq N map x
+      → pair_fits eq N map x ≡ true → Reading eq N left faults last_fault old new more
+  reading_goes_on new x next step made fit = record {
+    put = walk_goes_on reading.put next (putting_goes_on reading.put.holds x made fit);
+    faultless = still_faultless reading.faultless step;
+  }
 
   -- the ends
   module _ (laws : IsEquivalence eq) (new : S) where
@@ -161,38 +90,30 @@ module _ {K V S E : Type 0} {eq : K → K → Bool} {N : ℕ} {left : S → List
     pub read_misfit : (x : K × V) → left now ≡ x ∷ left new → Faultless faults last_fault now new
         → fits eq N map x.0 ≡ false → Reads eq N left faults last_fault old new (Err TooMany)
     read_misfit x next step refused =
-        let misfit : IsTrue (not (fits eq N (build eq reading.before) x.0)) =
-        ap not (ap (λ c. fits eq N c x.0) (sym reading.made) ∙ refused) in
+        let put = puts_each reading.put.holds in
         read_back eq N left faults last_fault old laws new (Err TooMany)
         (record {
-          before = reading.before;
+          before = reading.put.before;
           item = x;
-          split = seam new x next;
-          fit =
-              reading.fit;
-          misfit = misfit;
-          many =
-              many_distinct laws (pairs_keyed eq N) reading.before x misfit;
-          faultless =
-              ends_faultless step;
+          split = walk_seam reading.put next;
+          fit = put.0;
+          misfit = ap not (ap (λ c. fits eq N c x.0) (sym put.1) ∙ refused);
+          many = many_put laws (pairs_keyed eq N) (putting_goes_on reading.put.holds x refl refused);
+          faultless = ends_faultless step;
         })
 
     pub read_whole : (left now ≡ []) × (left new ≡ []) → Faultless faults last_fault now new
-        → IsContent eq N map → Reads eq N left faults last_fault old new (Ok map)
-    read_whole end step content =
-        let all : reading.before ≡ left old =
-        sym (reading.split ∙ ap (λ l. reading.before ++ l) end.0 ∙ append-nil reading.before) in
-        let fit = subst (λ l. IsTrue (all_fit eq N l)) all reading.fit in
+        → Reads eq N left faults last_fault old new (Ok map)
+    read_whole end step =
+        let put = walk_puts reading.put end.0 in
         read_back eq N left faults last_fault old laws new (Ok map)
         (record {
-          fit = fit;
-          few = few_distinct laws (pairs_keyed eq N) (left old) fit;
-          made =
-              reading.made ∙ ap (build eq) all;
+          fit = put.0;
+          few = few_distinct laws (pairs_keyed eq N) (left old) put.0;
+          made = put.1;
           emptied = end.1;
-          content = content;
-          faultless =
-              ends_faultless step;
+          content = subst (IsContent eq N) (sym put.1) (IsContent-build eq N laws (left old) put.0);
+          faultless = ends_faultless step;
         })
 
     pub read_fault : (fault : E) → left new ≡ left now → Faults faults last_fault now new fault
@@ -200,10 +121,9 @@ module _ {K V S E : Type 0} {eq : K → K → Bool} {N : ℕ} {left : S → List
     read_fault fault kept step =
         read_back eq N left faults last_fault old laws new (Err (Source fault))
         (record {
-          before = reading.before;
-          split = rw kept reading.split;
-          fit =
-              reading.fit;
+          before = reading.put.before;
+          split = rw kept reading.put.split;
+          fit = (puts_each reading.put.holds).0;
           fault_is =
               record { count = step.count ∙ ap suc reading.faultless.count; last = step.last };
         })

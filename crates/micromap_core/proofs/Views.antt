@@ -1,8 +1,7 @@
 -- What the words of lists make of a list of which each element is seen by a function.
-use Rattle.std.proofs.Common.{◌≡◌, ℕ, Bool, false, ◌&&◌, ◌||◌, List, [], ◌∷◌, Option, Some}
-use Rattle.std.proofs.Common.{map, refl, ap, ◌∙◌, arith, option_map}
+use Rattle.std.proofs.Common.{◌≡◌, ℕ, ◌&&◌, ◌||◌, [], ◌∷◌, ◌∙◌, ap, arith, false, map, option_map, refl, Bool, List, Option, Some}
 use Rattle.std.specs.Fmt.{◌++?◌, comma_space, debug_items}
-use Rattle.std.specs.List.{AllByRecursion, IsDistinct, find, list_all, list_any}
+use Rattle.std.specs.List.{find, list_all, list_any, AllByRecursion, IsDistinct}
 use Rattle.std.specs.Ordering.{on}
 use Rattle.std.specs.Set.{remove_key}
 use Rattle.std.proofs.lemmas.List.Folds.{list_all-map}

@@ -60,7 +60,7 @@ module _ {K V : Type 0} where
 
     -- whether a pair with the key k can be put
     abbrev pub fits : ℕ → List (K × V) → K → Bool
-    fits N pairs k = has pairs k || has_room N pairs
+    fits N pairs k = fits_by (eq k) N pairs
 
     -- v is the value of k: a stored key stays where it is, and a new pair goes last
     unfoldable pub put : List (K × V) → K → V → List (K × V)

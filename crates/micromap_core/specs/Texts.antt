@@ -1,5 +1,5 @@
 -- Texts seen by their bytes. The words are for callers' contracts: a caller that makes a `String` knows no more of it, and
--- a `&str` of its own says where it points besides. `see` shows a key's bytes: `string_bytes` those of a `String`, and
+-- a `&str` of its own says where it points besides. `bytes_of` shows a key's bytes: `string_bytes` those of a `String`, and
 -- `λ s. s.now` those of a `&str`.
 use Rattle.std.specs.Prelude.{ℕ, Bool, List, String, map, string_bytes}
 use Rattle.std.specs.Borrow.{Bor}
@@ -10,13 +10,13 @@ use Rattle.std.specs.Str.{bytes_eq}
 abbrev pub str_eq : Bor (List ℕ) → Bor (List ℕ) → Bool
 str_eq = on (λ s. s.now) bytes_eq
 
--- the pairs with each key as its bytes, and each value as `read` sees it
+-- the pairs with each key as its bytes, and each value by `value_of`
 unfoldable pub texts_by : {K V W : Type 0} → (K → List ℕ) → (V → W) → List (K × V) → List (List ℕ × W)
-texts_by see read pairs = map (λ p. (see p.0, read p.1)) pairs
+texts_by bytes_of value_of pairs = map (λ p. (bytes_of p.0, value_of p.1)) pairs
 
 -- a set's items, by their bytes
 unfoldable pub items_by : {T : Type 0} → (T → List ℕ) → List T → List (List ℕ)
-items_by see items = map see items
+items_by bytes_of items = map bytes_of items
 
 -- of `String`: the keys by their bytes and the values as they are, both by their bytes, and a set's items
 abbrev pub key_texts : {Z V : Type 0} → List (String Z × V) → List (List ℕ × V)

@@ -21,6 +21,7 @@ mod walk;
 
 use crate::slots::Columns;
 pub use entry::{Entry, OccupiedEntry, VacantEntry};
+use micromap_walk::hint;
 pub use micromap_walk::{Drain, IntoIter, IntoKeys, IntoValues, Iter, Keys, Values};
 use std::marker::Model;
 
@@ -36,13 +37,13 @@ pub struct Map<K: Eq, V, const N: usize> {
 
 impl<K: Eq, V, const N: usize> Model for Map<K, V, N> {
     ghost use Rattle.std.specs.Prelude.{List};
-    ghost use Rattle.micromap_core.specs.Pairs.{IsUnique};
+    ghost use Rattle.micromap_core.specs.Pairs.{IsContent};
 
     ghost Value = { List (K × V) };
 
     ghost view = { λ m. m.pairs };
 
-    ghost invariant = { λ m. IsUnique K.eq m.pairs };
+    ghost invariant = { λ m. IsContent K.eq N m.pairs };
 }
 
 impl<K: Eq, V, const N: usize> Map<K, V, N> {
@@ -64,16 +65,15 @@ impl<K: Eq, V, const N: usize> Map<K, V, N> {
         ensures answer { result ≡ [] }
         ensures content { IsContent K.eq N result }
     {
-        let _same = capacity;
+        hint::equal(capacity, N);
         Map::new()
     }
 
     /// Returns the number of pairs.
     ///
     /// The clause `content` states three facts of the map: no two keys are equal, there are at most `N` pairs, and the
-    /// equality of keys is lawful (reflexive, symmetric and transitive). A call that changes the map itself states them
-    /// of the map before and after. One that lends a value to be changed, as `get_mut` and `index_mut`, states them of
-    /// the map before, and a call of an entry that changes the map, after.
+    /// equality of keys is lawful (reflexive, symmetric and transitive). A call that makes a map states them of the result,
+    /// and one that changes the map itself of the map before and after.
     #[inline]
     pub fn len(&self) -> usize
         ensures answer { result ≡ length self.now }
@@ -86,7 +86,6 @@ impl<K: Eq, V, const N: usize> Map<K, V, N> {
     #[inline]
     pub fn is_empty(&self) -> bool
         ensures answer { result ≡ (length self.now == 0) }
-        ensures content { IsContent K.eq N self.now }
     {
         self.len() == 0
     }
@@ -106,9 +105,7 @@ impl<K: Eq + Drop, V: Drop, const N: usize> Map<K, V, N> {
         ensures emptied { self.new ≡ [] }
         ensures content { AreContents K.eq N self.old self.new }
     {
-        let _content = self.len();
         self.pairs.clear();
-        let _after = self.len();
     }
 }
 

@@ -12,7 +12,8 @@ mod columns;
 
 use arrayvec::ArrayVec;
 pub(crate) use columns::Columns;
-use micromap_walk::slot::{hint_below, into_item, item_of, item_of_mut};
+use micromap_walk::hint;
+use micromap_walk::slot::{into_item, item_of, item_of_mut};
 use std::marker::Model;
 use std::mem;
 
@@ -165,7 +166,7 @@ impl<T: Drop, const N: usize> Slots<T, N> {
         requires { length self.old < N }
         ensures { self.new ≡ self.old ++ item ∷ [] }
     {
-        hint_below(self.slots.len(), N);
+        hint::below(self.slots.len(), N);
         self.slots.push(Some(item));
     }
 

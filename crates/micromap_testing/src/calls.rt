@@ -50,7 +50,7 @@ pub fn lockstep<K: Eq + Copy, V: Eq + Copy, const N: usize, const M: usize>(
         → IsTrue result × Same K.eq V.eq first.new second.new }
 {
     // `len` ensures what is true of each map's content.
-    let _contents = (first.len(), second.len());
+    let _known = (first.len(), second.len());
     let mut agreed = true;
     for call in calls {
         let one = perform(first, call);

@@ -76,14 +76,14 @@ module _ {X : Type 0} (slots : List (Option X)) (i : ℕ) (filled : AreFilled (d
         (rest_filled (drop i slots) filled slot (drop (i + 1) slots) parts x some)
 
 -- as many items are left of both columns
-pub left_equal : {X Y : Type 0} (given : ℕ) (xs : List (Option X)) (ys : List (Option Y))
-    → AreLeft given xs ys → length (items_of (drop given xs)) ≡ length (items_of (drop given ys))
-left_equal given xs ys left =
+pub left_equal : {X Y : Type 0} (front : ℕ) (xs : List (Option X)) (ys : List (Option Y))
+    → AreLeft front xs ys → length (items_of (drop front xs)) ≡ length (items_of (drop front ys))
+left_equal front xs ys left =
     omega (
       arith,
       length_filled _ left.keys,
       length_filled _ left.values,
-      length-drop given xs,
-      length-drop given ys,
+      length-drop front xs,
+      length-drop front ys,
       left.equal,
     )

@@ -10,9 +10,9 @@ module _ {X : Type 0} where
   abbrev pub AreFilled : List (Option X) → Type 0
   AreFilled slots = slots ≡ map Some (items_of slots)
 
--- two columns of as many slots, of which none behind those given is empty
-pub record AreLeft {X Y : Type 0} (given : ℕ) (xs : List (Option X)) (ys : List (Option Y)) : Type 0 where
-  pub keys : AreFilled (drop given xs)
-  pub values : AreFilled (drop given ys)
+-- two columns of as many slots, of which none behind those front is empty
+pub record AreLeft {X Y : Type 0} (front : ℕ) (xs : List (Option X)) (ys : List (Option Y)) : Type 0 where
+  pub keys : AreFilled (drop front xs)
+  pub values : AreFilled (drop front ys)
   pub equal : length xs ≡ length ys
-  pub within : given ≤ length xs
+  pub within : front ≤ length xs

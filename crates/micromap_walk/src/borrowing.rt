@@ -17,11 +17,11 @@ use std::slice;
 /// An iterator over references to the items of one column, from the front. Each public iterator here has one or two of
 /// these.
 #[derive(Drop)]
-pub(crate) struct Lent<'a, X> {
+pub(crate) struct ColumnIter<'a, X> {
     slots: slice::Iter<'a, Option<X>>,
 }
 
-impl<'a, X> Model for Lent<'a, X> {
+impl<'a, X> Model for ColumnIter<'a, X> {
     ghost use Rattle.std.specs.Prelude.{List};
     ghost use Rattle.std.specs.Slice.Iter.{iter_rest};
     ghost use Rattle.micromap_walk.specs.Filled.{items_of, AreFilled};
@@ -33,14 +33,14 @@ impl<'a, X> Model for Lent<'a, X> {
     ghost invariant = { λ walk. AreFilled (iter_rest walk.slots) };
 }
 
-impl<'a, X> Lent<'a, X> {
+impl<'a, X> ColumnIter<'a, X> {
     /// Creates an iterator over the items in `slots`. No slot may be empty.
     #[inline]
     pub(crate) fn over(slots: &'a [Option<X>]) -> Self
         requires { AreFilled slots.now }
         ensures { result ≡ items_of slots.now }
     {
-        Lent {
+        ColumnIter {
             slots: slots.iter(),
         }
     }
@@ -55,27 +55,27 @@ impl<'a, X> Lent<'a, X> {
 
     /// Creates an iterator over the items left.
     #[inline]
-    pub(crate) fn left(&self) -> Lent<'_, X>
+    pub(crate) fn as_iter(&self) -> ColumnIter<'_, X>
         ensures { result ≡ self.now }
     {
-        Lent::over(self.slots.as_slice())
+        ColumnIter::over(self.slots.as_slice())
     }
 }
 
-impl<'a, X> Clone for Lent<'a, X> {
+impl<'a, X> Clone for ColumnIter<'a, X> {
     ghost is_clone = { λ walk new. new ≡ walk };
 
     ghost is_infallible = { λ _. ⊤ };
 
     #[inline]
     fn clone(&self) -> Result<Self, AllocError> {
-        Ok(Lent {
+        Ok(ColumnIter {
             slots: self.slots.clone()?,
         })
     }
 }
 
-impl<'a, X> Iterator for Lent<'a, X> {
+impl<'a, X> Iterator for ColumnIter<'a, X> {
     type Item = &'a X;
 
     ghost next_gives = { TakesFirst deref };
@@ -102,8 +102,8 @@ impl<'a, X> Iterator for Lent<'a, X> {
 /// An iterator over the pairs of a map as `(&K, &V)`, from the front.
 #[derive(Drop)]
 pub struct Iter<'a, K, V> {
-    pub(crate) keys: Lent<'a, K>,
-    pub(crate) values: Lent<'a, V>,
+    pub(crate) keys: ColumnIter<'a, K>,
+    pub(crate) values: ColumnIter<'a, V>,
 }
 
 impl<'a, K, V> Model for Iter<'a, K, V> {
@@ -128,19 +128,19 @@ impl<'a, K, V> Iter<'a, K, V> {
         ensures { result ≡ zip (items_of keys.now) (items_of values.now) }
     {
         Iter {
-            keys: Lent::over(keys),
-            values: Lent::over(values),
+            keys: ColumnIter::over(keys),
+            values: ColumnIter::over(values),
         }
     }
 
     /// Creates an iterator over the pairs left.
     #[inline]
-    pub(crate) fn left(&self) -> Iter<'_, K, V>
+    pub(crate) fn as_iter(&self) -> Iter<'_, K, V>
         ensures { result ≡ self.now }
     {
         Iter {
-            keys: self.keys.left(),
-            values: self.values.left(),
+            keys: self.keys.as_iter(),
+            values: self.values.as_iter(),
         }
     }
 }
@@ -205,7 +205,7 @@ impl<'a, K, V> Default for Iter<'a, K, V> {
 /// An iterator over references to the keys of a map, from the front.
 #[derive(Drop)]
 pub struct Keys<'a, K, V> {
-    pub(crate) keys: Lent<'a, K>,
+    pub(crate) keys: ColumnIter<'a, K>,
     _values: PhantomData<V>,
 }
 
@@ -225,7 +225,7 @@ impl<'a, K, V> Keys<'a, K, V> {
         ensures { result ≡ items_of keys.now }
     {
         Keys {
-            keys: Lent::over(keys),
+            keys: ColumnIter::over(keys),
             _values: PhantomData,
         }
     }
@@ -288,7 +288,7 @@ impl<'a, K, V> Default for Keys<'a, K, V> {
 /// An iterator over references to the values of a map, from the front.
 #[derive(Drop)]
 pub struct Values<'a, K, V> {
-    pub(crate) values: Lent<'a, V>,
+    pub(crate) values: ColumnIter<'a, V>,
     _keys: PhantomData<K>,
 }
 
@@ -308,7 +308,7 @@ impl<'a, K, V> Values<'a, K, V> {
         ensures { result ≡ items_of values.now }
     {
         Values {
-            values: Lent::over(values),
+            values: ColumnIter::over(values),
             _keys: PhantomData,
         }
     }

@@ -5,6 +5,7 @@
 #![tactic(auto)]
 
 mod borrowing;
+pub mod hint;
 mod owning;
 mod print;
 pub mod slot;

@@ -22,7 +22,7 @@ pub struct IntoIter<K, V, const N: usize> {
     keys: ArrayVec<Option<K>, N>,
     values: ArrayVec<Option<V>, N>,
     // The number of pairs yielded. As many slots in front are empty.
-    given: usize,
+    front: usize,
 }
 
 /// An iterator over the pairs that a map had, as `Map::drain` returns it.
@@ -35,9 +35,9 @@ impl<K, V, const N: usize> Model for IntoIter<K, V, N> {
 
     ghost Value = { List (K × V) };
 
-    ghost view = { λ walk. zip (items_of (drop walk.given walk.keys.items)) (items_of (drop walk.given walk.values.items)) };
+    ghost view = { λ walk. zip (items_of (drop walk.front walk.keys.items)) (items_of (drop walk.front walk.values.items)) };
 
-    ghost invariant = { λ walk. AreLeft walk.given walk.keys.items walk.values.items };
+    ghost invariant = { λ walk. AreLeft walk.front walk.keys.items walk.values.items };
 }
 
 impl<K, V, const N: usize> IntoIter<K, V, N> {
@@ -53,23 +53,23 @@ impl<K, V, const N: usize> IntoIter<K, V, N> {
         IntoIter {
             keys,
             values,
-            given: 0,
+            front: 0,
         }
     }
 
     /// Creates an iterator over references to the pairs left.
     #[inline]
-    pub(crate) fn left(&self) -> Iter<'_, K, V>
+    pub(crate) fn as_iter(&self) -> Iter<'_, K, V>
         ensures { result ≡ self.now }
     {
         let (keys, values) = (self.keys.as_slice(), self.values.as_slice());
-        Iter::over(&keys[self.given..], &values[self.given..])
+        Iter::over(&keys[self.front..], &values[self.front..])
     }
 }
 
 // Takes the item out of the slot at `index`, which is empty from then on.
 #[inline]
-fn taken<X: Drop, const N: usize>(slots: &mut ArrayVec<Option<X>, N>, index: usize) -> X
+fn take_slot<X: Drop, const N: usize>(slots: &mut ArrayVec<Option<X>, N>, index: usize) -> X
     requires filled { AreFilled (drop index slots.old.items) }
     requires within { index < length slots.old.items }
     ensures items { items_of (drop index slots.old.items)
@@ -89,12 +89,15 @@ impl<K: Drop, V: Drop, const N: usize> Iterator for IntoIter<K, V, N> {
 
     #[inline]
     fn next(&mut self) -> Option<(K, V)> {
-        let index = self.given;
+        let index = self.front;
         if index == self.keys.len() {
             return None;
         }
-        self.given = index + 1;
-        Some((taken(&mut self.keys, index), taken(&mut self.values, index)))
+        self.front = index + 1;
+        Some((
+            take_slot(&mut self.keys, index),
+            take_slot(&mut self.values, index),
+        ))
     }
 
     #[inline]
@@ -113,7 +116,7 @@ impl<K: Drop, V: Drop, const N: usize> FusedIterator for IntoIter<K, V, N> {}
 impl<K: Drop, V: Drop, const N: usize> ExactSizeIterator for IntoIter<K, V, N> {
     #[inline]
     fn len(&self) -> usize {
-        self.keys.len() - self.given
+        self.keys.len() - self.front
     }
 }
 

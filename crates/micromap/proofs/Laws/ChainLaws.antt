@@ -5,33 +5,41 @@
 -- needs.
 use Rattle.std.proofs.Common.{◌≡◌, ℕ, nat_eq, Bool, true, false, List, [], ◌∷◌, Some, None, is_some}
 use Rattle.std.proofs.Common.{refl, ap, sym, ◌∙◌, arith, option_map, if◌then◌else◌, map, map-id, nat_le, not}
-use Rattle.std.specs.List.{Contains, find, list_all, list_any, position_or_len, IsDistinct}
+use Rattle.std.proofs.Common.{◌+◌, ◌<◌, ◌≤◌, inl, inr, filter, fold, get_or, length, le-leb}
+use Rattle.std.specs.Cmp.{IsEquivalence}
+use Rattle.std.specs.List.{Contains, count_by, find, list_all, list_any, position, position_or_len, IsDistinct}
 use Rattle.std.specs.Map.{lookup, lookup_entry, values_of, keys_of}
 use Rattle.std.specs.Set.{is_member, distinct_count}
-use Rattle.std.proofs.lemmas.Bool.{false≢true}
+use Rattle.std.proofs.lemmas.Bool.{cases_Bool, false≢true}
 use Rattle.std.proofs.lemmas.Bool.Decides.{nat_tests}
+use Rattle.std.proofs.lemmas.List.{length-map}
+use Rattle.std.proofs.lemmas.List.Filters.{length-filter_both}
 use Rattle.std.proofs.lemmas.List.Folds.{find_at}
-use Rattle.std.proofs.lemmas.Map.Entries.{lookup_from_place}
+use Rattle.std.proofs.lemmas.List.Quantifiers.{position-Some}
+use Rattle.std.proofs.lemmas.List.Sums.{length-filter}
+use Rattle.std.proofs.lemmas.Map.Entries.{length-keys_of, lookup_from_place}
 use Rattle.std.proofs.lemmas.Cmp.{nat_eq_equiv}
-use Rattle.std.proofs.lemmas.Map.Made.{IsDistinct-keys_filter}
+use Rattle.std.proofs.lemmas.Map.Made.{distinct_count-from_IsDistinct, IsDistinct-from_count, IsDistinct-keys_filter}
 use Rattle.std.proofs.lemmas.Map.Views.{lookup-from_Contains}
 use Rattle.micromap_core.specs.Build.{build, build_or_refuse, count_or_refuse, counts, counts_or_refuse, put_or_refuse}
+use Rattle.micromap_core.specs.Build.{put_fitting, put_whole}
 use Rattle.micromap_core.specs.Equalities.{Lawful}
 use Rattle.micromap_core.specs.Pairs.{at, has, IsUnique}
-use Rattle.micromap_core.proofs.BuildLemmas.{counts_keyed, pairs_keyed, whole_counted}
+use Rattle.micromap_core.proofs.KeyedLemmas.{counts_keyed, pairs_keyed, whole_counted}
 use Rattle.micromap_core.proofs.DistinctLemmas.{IsDistinct-filter}
 use Rattle.micromap_core.proofs.MapLemmas.{lookup-entry}
-use Rattle.micromap_core.proofs.Laws.Equalities.{equalities, of_lawful, Where}
+use Rattle.micromap_core.proofs.Laws.Equalities.{equalities, of_lawful, Trigger}
 use Rattle.micromap_core.proofs.Laws.LoopLaws.{build_unique, unique_map}
-use Rattle.micromap_core.proofs.Laws.MapLaws.{at_alike}
+use Rattle.micromap_core.proofs.Laws.MapLaws.{at_alike, length_build}
 use Rattle.micromap.specs.Extend.{distinct, distinct_or_refuse, put_item_or_refuse}
+use Rattle.micromap.specs.Items.{item_fits, put_item, put_item_if_fits}
 use Rattle.micromap.proofs.AddedItems.{added_all}
 use Rattle.micromap.proofs.ExtendLemmas.{items_keyed}
 
 module _ {K V : Type 0} where
   -- a key has a value exactly if it has a pair, and it is the pair's
   pub each_pair : (test : K → Bool) (pairs : List (K × V))
-      → Where (lookup_entry test pairs)
+      → Trigger (lookup_entry test pairs)
       (lookup test pairs ≡ option_map (λ e. e.1) (lookup_entry test pairs))
   each_pair test pairs = (refl, lookup-entry test pairs)
 
@@ -47,7 +55,7 @@ module _ {X : Type 0} (test : X → Bool) where
   any_found (x ∷ items) = grind (arith, any_found items)
 
   pub is_some_find : (items : List X)
-      → Where (find test items) (is_some (find test items) ≡ list_any test items)
+      → Trigger (find test items) (is_some (find test items) ≡ list_any test items)
   is_some_find items = (refl, any_found items)
 
   passes : (items : List X) (x : X) → find test items ≡ Some x → test x ≡ true
@@ -55,7 +63,7 @@ module _ {X : Type 0} (test : X → Bool) where
   passes (y ∷ items) x found = grind (arith, found, passes items x)
 
   pub find_passes : (items : List X)
-      → Where (find test items) ((x : X) → find test items ≡ Some x → test x ≡ true)
+      → Trigger (find test items) ((x : X) → find test items ≡ Some x → test x ≡ true)
   find_passes items = (refl, passes items)
 
 -- the first pair that passes a test
@@ -73,13 +81,13 @@ module _ {K V : Type 0} (test : K × V → Bool) where
       (sym (find_at test pairs) ∙ found)
 
   pub at_find : (eq : K → K → Bool) (pairs : List (K × V)) → Lawful eq → IsUnique eq pairs
-      → Where (find test pairs)
+      → Trigger (find test pairs)
       ((p : K × V) → find test pairs ≡ Some p → at eq pairs p.0 ≡ Some p.1)
   at_find eq pairs laws unique = (refl, λ p found. found_at eq pairs p laws unique found)
 
   -- where there is none, no pair that is found passes
   pub none_passes : (pairs : List (K × V))
-      → Where (find test pairs)
+      → Trigger (find test pairs)
       (find test pairs ≡ None → (key : K → Bool) (p : K × V) → lookup_entry key pairs ≡ Some p
       → test p ≡ false)
   none_passes pairs = (refl, λ none key p found. fails key pairs p none found)
@@ -97,7 +105,7 @@ module _ {K V : Type 0} (test : V → Bool) where
   value_passes eq (e ∷ pairs) v all found = grind (arith, all, found, value_passes eq pairs v)
 
   pub each_value : (pairs : List (K × V))
-      → Where (list_all test (values_of pairs))
+      → Trigger (list_all test (values_of pairs))
       (list_all test (values_of pairs) ≡ true → (key : K → Bool) (v : V)
       → lookup key pairs ≡ Some v → test v ≡ true)
   each_value pairs = (refl, λ all key v found. value_passes key pairs v all found)
@@ -127,7 +135,7 @@ passes_there test (y ∷ items) x all member =
 -- where all numbers of a list pass a test, each member does. Name it where it serves: with it in a ruleset some searches
 -- reach their limit
 pub member_passes : (test : ℕ → Bool) (items : List ℕ)
-    → Where (list_all test items)
+    → Trigger (list_all test items)
     ((x : ℕ) → list_all test items ≡ true → is_member nat_eq items x ≡ true → test x ≡ true)
 member_passes test items = (refl, passes_there test items)
 
@@ -140,7 +148,7 @@ module _ {X : Type 0} (test : X → Bool) where
 
   -- what a search finds passes each test that all items pass
   pub each_passes : (items : List X)
-      → Where (list_all test items)
+      → Trigger (list_all test items)
       (list_all test items ≡ true → (other : X → Bool) (x : X) → find other items ≡ Some x
       → test x ≡ true)
   each_passes items = (refl, λ all other x. found_passes items other x all)
@@ -151,7 +159,7 @@ module _ {X : Type 0} (test : X → Bool) where
 
   -- all items pass a test exactly if none fails it. Name it too where it serves
   pub none_fails : (items : List X)
-      → Where (list_all test items) (list_all test items ≡ not (list_any (λ x. not (test x)) items))
+      → Trigger (list_all test items) (list_all test items ≡ not (list_any (λ x. not (test x)) items))
   none_fails items = (refl, all_or_any items)
 
 -- a set that is built of unequal items has these items
@@ -166,7 +174,7 @@ module _ {K V : Type 0} (pair_of : K → K × V) where
   same_keys (x ∷ items) same = cc (same x, same_keys items same)
 
   pub keys_map : (items : List K) → ((x : K) → (pair_of x).0 ≡ x)
-      → Where (map pair_of items) (keys_of (map pair_of items) ≡ items)
+      → Trigger (map pair_of items) (keys_of (map pair_of items) ≡ items)
   keys_map items same = (refl, same_keys items same)
 
 -- what a map or a set is that is made of all items: these put, or none if they have too many distinct keys
@@ -192,6 +200,103 @@ module _ {T : Type 0} (eq : T → T → Bool) (N : ℕ) (items : List T) where
   unfolding put_item_or_refuse
   distinct_or_refuse_is laws = whole_counted (of_lawful eq laws) (items_keyed eq N) items
 
+-- items that are all put if each has to fit are all put where those that don't fit are left out
+module _ {C X : Type 0} (admits : C → X → Bool) (add : C → X → C) where
+  none_left : (items : List X) → fold (put_whole admits add) None items ≡ None
+  none_left [] = refl
+  none_left (x ∷ items) = none_left items
+
+  all_put : (content whole : C) (items : List X)
+      → fold (put_whole admits add) (Some content) items ≡ Some whole
+      → fold (put_fitting admits add) content items ≡ whole
+  all_put content whole [] put = cc
+  all_put content whole (x ∷ items) put = elim (cases_Bool (admits content x)) [
+    | inl fits ↦ rw fits (all_put (add content x) whole items (rw fits at put))
+    | inr misfit ↦ (let none : fold (put_whole admits add) None items ≡ Some whole =
+        rw misfit at put in cc (none_left items))
+  ]
+
+few_enough : {K : Type 0} (eq : K → K → Bool) (N : ℕ) (keys : List K) → IsEquivalence eq
+    → IsDistinct eq keys → length keys ≤ N → nat_le (distinct_count eq keys) N ≡ true
+few_enough eq N keys laws unequal short =
+    ap (λ n. nat_le n N) (distinct_count-from_IsDistinct laws keys unequal)
+    ∙ le-leb (length keys) N short
+
+-- unequal items that are no more than there is room for are a set's as they are
+module _ {T : Type 0} (eq : T → T → Bool) (N : ℕ) (items : List T) where
+  whole_unique : Lawful eq → IsDistinct eq items → length items ≤ N
+      → distinct_or_refuse eq N items ≡ Some items
+  whole_unique laws unequal short =
+      distinct_or_refuse_is eq N items laws
+      ∙ ap (λ b. if b then Some (distinct eq items) else None)
+      (few_enough eq N items (of_lawful eq laws) unequal short)
+      ∙ ap Some (distinct_unique eq items laws unequal)
+
+  pub fitting_unique : Lawful eq → IsDistinct eq items → length items ≤ N
+      → fold (put_item_if_fits eq N) [] items ≡ items
+  unfolding put_item_or_refuse
+  fitting_unique laws unequal short =
+      all_put (item_fits eq N) (put_item eq) [] items items (whole_unique laws unequal short)
+
+-- what passes a test is no longer, also as a function reads it
+pub length_passing : {X Y : Type 0} (f : X → Y) (test : X → Bool) (items : List X) (N : ℕ)
+    → length items ≤ N → length (map f (filter test items)) ≤ N
+length_passing f test items N short =
+    omega (
+      arith,
+      length-map (filter test items) f,
+      length-filter_both test (λ x. not (test x)) (λ x. refl) items,
+      short,
+    )
+
+-- pairs of which none is put at the key of another are built as they are, also where a function makes them
+module _ {K V : Type 0} (eq : K → K → Bool) where
+  all_built : (pairs : List (K × V)) → Lawful eq → length (build eq pairs) ≡ length pairs
+      → build eq pairs ≡ pairs
+  all_built pairs laws all = build_unique eq pairs laws
+      (IsDistinct-from_count (of_lawful eq laws) (keys_of pairs)
+      (sym (length_build eq pairs laws) ∙ all ∙ sym (length-keys_of pairs)))
+
+  pub each_built : (pairs : List (K × V)) → Lawful eq
+      → Trigger (build eq pairs) (length (build eq pairs) ≡ length pairs → build eq pairs ≡ pairs)
+  each_built pairs laws = (refl, all_built pairs laws)
+
+  pub each_built_map : {X : Type 0} (pair_of : X → K × V) (items : List X) → Lawful eq
+      → Trigger (build eq (map pair_of items)) (length (build eq (map pair_of items)) ≡ length items
+      → build eq (map pair_of items) ≡ map pair_of items)
+  each_built_map pair_of items laws = (
+    refl,
+    λ all. all_built (map pair_of items) laws (all ∙ sym (length-map items pair_of)),
+  )
+
+-- the items that pass a test and those that don't are as many as there are
+pub each_filter : {X : Type 0} (test : X → Bool) (items : List X)
+    → Trigger (filter test items)
+    (length (filter test items) + count_by (λ x. not (test x)) items ≡ length items)
+each_filter test items = (
+  refl,
+  ap (λ n. length (filter test items) + n) (sym (length-filter (λ x. not (test x)) items))
+      ∙ length-filter_both test (λ x. not (test x)) (λ x. refl) items,
+)
+
+-- at the position of the first item that passes a test one stands that passes, and there is one exactly if some item does
+module _ {X : Type 0} (test : X → Bool) where
+  any_at : (items : List X) → is_some (position test items) ≡ list_any test items
+  any_at [] = refl
+  any_at (x ∷ items) = grind (arith, any_at items)
+
+  pub each_position : (items : List X)
+      → Trigger (position test items) ((is_some (position test items) ≡ list_any test items)
+      × ((i : ℕ) (d : X) → position test items ≡ Some i
+      → (i < length items) × (test (get_or items i d) ≡ true)))
+  each_position items = (
+    refl,
+    (
+      any_at items,
+      λ i d found. let all = position-Some test items i d found in (all.0, all.1),
+    ),
+  )
+
 pub ruleset chain_laws = (
   each_pair,
   at_alike,
@@ -216,4 +321,10 @@ pub ruleset chain_laws = (
   distinct_or_refuse_is,
   IsDistinct-filter,
   IsDistinct-keys_filter,
+  fitting_unique,
+  length_passing,
+  each_built,
+  each_built_map,
+  each_filter,
+  each_position,
 )

@@ -10,11 +10,12 @@ use Rattle.std.specs.Map.{keys_of, lookup, lookup_entry, remove_entry}
 use Rattle.std.specs.Set.{is_member, remove_key}
 use Rattle.std.proofs.lemmas.Bool.Decides.{nat_tests}
 use Rattle.std.proofs.lemmas.Map.Entries.{length-keys_of}
+use Rattle.std.proofs.lemmas.Map.Made.{is_some-lookup}
 use Rattle.micromap_core.specs.Equalities.{Lawful, Probes}
 use Rattle.micromap_core.specs.Pairs.{put, put_key, take_out, IsUnique}
 use Rattle.micromap_core.specs.Probe.{is_str}
 use Rattle.micromap_core.specs.Texts.{str_eq}
-use Rattle.micromap_core.proofs.Laws.Equalities.{equalities, of_lawful, probes_bytes, probes_key, probes_str, Where}
+use Rattle.micromap_core.proofs.Laws.Equalities.{equalities, of_lawful, probes_bytes, probes_key, probes_str, Trigger}
 use Rattle.std.proofs.option.Match.{None-if_not_some}
 use Rattle.micromap_core.proofs.Laws.MapLaws.{lookup_put, lookup_put_key, lookup_take_out, pair_put, pair_put_key}
 use Rattle.micromap_core.proofs.Laws.MapLaws.{pair_take_out, length_put, length_put_key, length_take_out, unique_put}
@@ -25,7 +26,7 @@ use Rattle.micromap.specs.Extend.{put_all_items}
 use Rattle.micromap.specs.Items.{put_item, replace_item, find_item, item_fits, take_item}
 use Rattle.micromap.specs.Operations.{difference, intersection, symmetric_difference, union}
 use Rattle.micromap.proofs.SetStreamLemmas.{keys_of-entries}
-use Rattle.micromap.proofs.ItemLemmas.{keys_put_item, any-keys, replace_item-keys, find-keys, take-keys, take_item-keys}
+use Rattle.micromap.proofs.ItemLemmas.{keys_put_item, replace_item-keys, find-keys, take-keys, take_item-keys}
 use Rattle.micromap.proofs.OperationLaws.{is_member-difference, is_member-intersection, is_member-symmetric_difference, is_member-union, within_is_member}
 
 length-entries : {T : Type 0} (items : List T) → length (entries_of items) ≡ length items
@@ -34,7 +35,7 @@ length-entries items = sym (length-keys_of (entries_of items)) ∙ ap length (ke
 any-entries : {T : Type 0} (test : T → Bool) (items : List T)
     → list_any test items ≡ is_some (lookup test (entries_of items))
 any-entries test items = ap (list_any test) (sym (keys_of-entries items))
-    ∙ any-keys test (entries_of items)
+    ∙ sym (is_some-lookup test (entries_of items))
 
 find-entries : {T : Type 0} (test : T → Bool) (items : List T)
     → find test items ≡ option_map (λ e. e.0) (lookup_entry test (entries_of items))
@@ -66,7 +67,7 @@ module _ {T : Type 0} (eq : T → T → Bool) (test : T → Bool) (items : List 
   any_put_item probes = grind (
     arith,
     entries-put_item eq items x,
-    any-keys test (put eq (entries_of items) x tt),
+    is_some-lookup test (put eq (entries_of items) x tt),
     lookup_put eq test (entries_of items) x tt probes,
     any-entries test items,
   )
@@ -77,7 +78,7 @@ module _ {T : Type 0} (eq : T → T → Bool) (test : T → Bool) (items : List 
       grind (
         arith,
         entries-replace_item eq items x,
-        any-keys test (put_key eq (entries_of items) x tt),
+        is_some-lookup test (put_key eq (entries_of items) x tt),
         lookup_put_key eq test (entries_of items) x tt probes,
         any-entries test items,
       )
@@ -88,7 +89,7 @@ module _ {T : Type 0} (eq : T → T → Bool) (test : T → Bool) (items : List 
       grind (
         arith,
         entries-take_item eq items x,
-        any-keys test (take_out eq (entries_of items) x),
+        is_some-lookup test (take_out eq (entries_of items) x),
         lookup_take_out eq test (entries_of items) x probes (unique-entries eq items distinct),
         any-entries test items,
       )
@@ -218,7 +219,7 @@ module _ {T : Type 0} (eq : T → T → Bool) (items : List T) (x : T) where
       (None-if_not_some _ (sym (any-entries (eq x) items) ∙ missing))) ∙ keys_of-entries items
 
   -- a removal by a probe that matches the items equal to an item
-  pub take_item_key : Where (take_item eq items x) (take_item eq items x ≡ remove_key (eq x) items)
+  pub take_item_key : Trigger (take_item eq items x) (take_item eq items x ≡ remove_key (eq x) items)
   unfolding take_item
   take_item_key = (refl, refl)
 
@@ -297,7 +298,7 @@ module _ {T : Type 0} (test : T → Bool) where
   any_remove_key eq items probes distinct =
       ap (λ l. list_any test (remove_key test l)) (sym (keys_of-entries items))
       ∙ ap (list_any test) (take-keys test (entries_of items))
-      ∙ any-keys test (remove_entry test (entries_of items))
+      ∙ sym (is_some-lookup test (remove_entry test (entries_of items)))
       ∙ ap is_some (lookup_remove_entry test (entries_of items) eq probes
       (unique-entries eq items distinct))
 
@@ -322,7 +323,7 @@ is_member_walked eq items left all laws = ap (list_all (is_member eq items)) all
 -- item of one's own equals itself
 module _ {T : Type 0} (eq : T → T → Bool) (items : List T) (x : T) where
   pub each_put_item : Lawful eq
-      → Where (put_item eq items x) ((is_member eq (put_item eq items x) x ≡ true)
+      → Trigger (put_item eq items x) ((is_member eq (put_item eq items x) x ≡ true)
       × ((y : T) → is_member eq (put_item eq items x) y ≡ (eq x y || is_member eq items y)))
   each_put_item laws = (
     refl,
@@ -334,7 +335,7 @@ module _ {T : Type 0} (eq : T → T → Bool) (items : List T) (x : T) where
   )
 
   pub each_take_item : Lawful eq → IsDistinct eq items
-      → Where (take_item eq items x) ((is_member eq (take_item eq items x) x ≡ false)
+      → Trigger (take_item eq items x) ((is_member eq (take_item eq items x) x ≡ false)
       × ((y : T) → is_member eq (take_item eq items x) y ≡ (not (eq x y) && is_member eq items y)))
   each_take_item laws distinct = (
     refl,
@@ -347,28 +348,28 @@ module _ {T : Type 0} (eq : T → T → Bool) (items : List T) (x : T) where
 
 module _ {T : Type 0} (eq : T → T → Bool) (xs ys : List T) where
   pub each_put_all_items : Lawful eq
-      → Where (put_all_items eq xs ys) ((y : T) → is_member eq (put_all_items eq xs ys) y
+      → Trigger (put_all_items eq xs ys) ((y : T) → is_member eq (put_all_items eq xs ys) y
       ≡ (is_member eq ys y || is_member eq xs y))
   each_put_all_items laws = (refl, λ y. is_member_put_all_items eq xs ys y laws)
 
   pub each_union : Lawful eq
-      → Where (union eq xs ys)
+      → Trigger (union eq xs ys)
       ((y : T) → is_member eq (union eq xs ys) y ≡ (is_member eq xs y || is_member eq ys y))
   each_union laws = (refl, is_member-union (of_lawful eq laws) xs ys)
 
   pub each_symmetric_difference : Lawful eq
-      → Where (symmetric_difference eq xs ys)
+      → Trigger (symmetric_difference eq xs ys)
       ((y : T) → is_member eq (symmetric_difference eq xs ys) y
       ≡ (if is_member eq xs y then not (is_member eq ys y) else is_member eq ys y))
   each_symmetric_difference laws = (refl, is_member-symmetric_difference (of_lawful eq laws) xs ys)
 
   pub each_difference : Lawful eq
-      → Where (difference eq xs ys) ((y : T) → is_member eq (difference eq xs ys) y
+      → Trigger (difference eq xs ys) ((y : T) → is_member eq (difference eq xs ys) y
       ≡ (is_member eq xs y && not (is_member eq ys y)))
   each_difference laws = (refl, is_member-difference (of_lawful eq laws) xs ys)
 
   pub each_intersection : Lawful eq
-      → Where (intersection eq xs ys) ((y : T) → is_member eq (intersection eq xs ys) y
+      → Trigger (intersection eq xs ys) ((y : T) → is_member eq (intersection eq xs ys) y
       ≡ (is_member eq xs y && is_member eq ys y))
   each_intersection laws = (refl, is_member-intersection (of_lawful eq laws) xs ys)
 

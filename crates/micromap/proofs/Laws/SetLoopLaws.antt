@@ -15,10 +15,11 @@ use Rattle.std.proofs.lemmas.Map.Keys.{IsDistinct-head, IsDistinct-tail}
 use Rattle.micromap_core.specs.Build.{merge_pair, merged}
 use Rattle.micromap_core.specs.Equalities.{Lawful}
 use Rattle.micromap_core.specs.Pairs.{at, has}
-use Rattle.micromap_core.proofs.BuildLemmas.{fold_beyond, length-built, length-fold, member-fold, IsDistinct-nil}
+use Rattle.micromap_core.proofs.DistinctLemmas.{IsDistinct-nil}
+use Rattle.micromap_core.proofs.KeyedLemmas.{fold_beyond, length-built, length-fold, member-fold}
 use Rattle.micromap_core.proofs.DistinctLemmas.{IsDistinct-filter, missing_in_shorter, new_behind}
 use Rattle.micromap_core.proofs.Lists.{all_read, taken_read}
-use Rattle.micromap_core.proofs.Laws.Equalities.{equalities, of_lawful, Where}
+use Rattle.micromap_core.proofs.Laws.Equalities.{equalities, of_lawful, Trigger}
 use Rattle.micromap_core.proofs.Laws.LoopLaws.{each_left}
 use Rattle.micromap.specs.Extend.{put_all_items, distinct}
 use Rattle.micromap.specs.Items.{item_fits, put_item, take_item}
@@ -122,12 +123,12 @@ module _ {T : Type 0} (eq : T → T → Bool) where
 
   -- what a search needs, at once: of a set that is built of a list, and of its first so many
   pub each_distinct : (xs : List T) → Lawful eq
-      → Where (distinct eq xs) ((length (distinct eq xs) ≡ distinct_count eq xs)
+      → Trigger (distinct eq xs) ((length (distinct eq xs) ≡ distinct_count eq xs)
       × ((x : T) → is_member eq (distinct eq xs) x ≡ list_any (eq x) xs))
   each_distinct xs laws = (refl, (length_distinct xs laws, λ x. is_member_distinct xs x laws))
 
   pub each_distinct_take : (xs : List T) (i : ℕ) → Lawful eq
-      → Where (distinct eq (take i xs)) ((length xs ≤ i → distinct eq (take i xs) ≡ distinct eq xs)
+      → Trigger (distinct eq (take i xs)) ((length xs ≤ i → distinct eq (take i xs) ≡ distinct eq xs)
       × ((d : T) → i < length xs
       → distinct eq (take (i + 1) xs) ≡ put_item eq (distinct eq (take i xs)) (get_or xs i d))
       × ((d : T) → i < length xs → is_member eq (distinct eq (take i xs)) (get_or xs i d) ≡ false
@@ -144,7 +145,7 @@ module _ {T : Type 0} (eq : T → T → Bool) where
 
   -- of a set that is built of the first so many items that a function reads
   pub each_distinct_take_map : {X : Type 0} (read : X → T) (xs : List X) (i : ℕ) → Lawful eq
-      → Where (distinct eq (map read (take i xs)))
+      → Trigger (distinct eq (map read (take i xs)))
       ((length xs ≤ i → distinct eq (map read (take i xs)) ≡ distinct eq (map read xs))
       × ((d : X) → i < length xs
       → distinct eq (map read (take (i + 1) xs))
@@ -180,7 +181,7 @@ module _ {T : Type 0} (eq : T → T → Bool) (whole items : List T) where
   ]
 
   pub fits_within : Lawful eq → IsDistinct eq items
-      → Where (list_all (is_member eq whole) items)
+      → Trigger (list_all (is_member eq whole) items)
       (list_all (is_member eq whole) items ≡ true → (N : ℕ) (x : T)
       → length whole ≤ N → is_member eq whole x ≡ true → item_fits eq N items x ≡ true)
   fits_within laws unique = (refl, fits_there laws unique)
@@ -188,7 +189,7 @@ module _ {T : Type 0} (eq : T → T → Bool) (whole items : List T) where
 -- so has a set of keys of a map, as the nodes that a search has seen
 pub fits_among : {K V : Type 0} (eq : K → K → Bool) (pairs : List (K × V)) (items : List K)
     → Lawful eq → IsDistinct eq items
-    → Where (list_all (has eq pairs) items)
+    → Trigger (list_all (has eq pairs) items)
     (list_all (has eq pairs) items ≡ true → (N : ℕ) (x : K)
     → length pairs ≤ N → has eq pairs x ≡ true → item_fits eq N items x ≡ true)
 fits_among {K = K} eq pairs items laws unique =

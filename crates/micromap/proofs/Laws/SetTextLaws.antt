@@ -13,84 +13,84 @@ use Rattle.micromap_core.specs.Same.{have_equal_items}
 use Rattle.micromap_core.specs.Texts.{items_by}
 use Rattle.micromap_core.proofs.Views.{any-map, distinct-map, equal_items-map}
 use Rattle.micromap_core.proofs.Views.{find-map, remove_key-map}
-use Rattle.micromap_core.proofs.Laws.Equalities.{equalities, Where}
+use Rattle.micromap_core.proofs.Laws.Equalities.{equalities, Trigger}
 use Rattle.micromap_core.proofs.Laws.TextLaws.{compares_by, ComparesBy}
 use Rattle.micromap.specs.Extend.{put_all_items}
 use Rattle.micromap.specs.Items.{put_item, find_item, take_item}
 use Rattle.micromap.proofs.Laws.SetLaws.{length_put_item, put_item_back}
 
-module _ {T : Type 0} (see : T → List ℕ) where
-  pub item_texts_empty : items_by see [] ≡ []
+module _ {T : Type 0} (bytes_of : T → List ℕ) where
+  pub item_texts_empty : items_by bytes_of [] ≡ []
   unfolding items_by
   item_texts_empty = refl
 
   module _ (items : List T) where
-    pub length_item_texts : length (items_by see items) ≡ length items
+    pub length_item_texts : length (items_by bytes_of items) ≡ length items
     unfolding items_by
-    length_item_texts = length-map items see
+    length_item_texts = length-map items bytes_of
 
-    pub unique_item_texts : IsDistinct (on see bytes_eq) items
-        → IsDistinct bytes_eq (items_by see items)
+    pub unique_item_texts : IsDistinct (on bytes_of bytes_eq) items
+        → IsDistinct bytes_eq (items_by bytes_of items)
     unfolding items_by
-    unique_item_texts distinct = distinct-map see bytes_eq items distinct
+    unique_item_texts distinct = distinct-map bytes_of bytes_eq items distinct
 
     module _ (bs : List ℕ) where
       pub is_member_item_texts :
-          is_member bytes_eq (items_by see items) bs ≡ list_any (λ x. bytes_eq bs (see x)) items
+          is_member bytes_eq (items_by bytes_of items) bs ≡ list_any (λ x. bytes_eq bs (bytes_of x)) items
       unfolding items_by
-      is_member_item_texts = any-map see (bytes_eq bs) items
+      is_member_item_texts = any-map bytes_of (bytes_eq bs) items
 
       pub item_texts_remove_key :
-          take_item bytes_eq (items_by see items) bs
-          ≡ items_by see (remove_key (λ x. bytes_eq bs (see x)) items)
+          take_item bytes_eq (items_by bytes_of items) bs
+          ≡ items_by bytes_of (remove_key (λ x. bytes_eq bs (bytes_of x)) items)
       unfolding items_by take_item
-      item_texts_remove_key = sym (remove_key-map see (bytes_eq bs) items)
+      item_texts_remove_key = sym (remove_key-map bytes_of (bytes_eq bs) items)
 
       -- the item that a probe finds, and whether it finds one
       pub find_item_item_texts :
-          find_item bytes_eq (items_by see items) bs
-          ≡ option_map see (find (λ x. bytes_eq bs (see x)) items)
+          find_item bytes_eq (items_by bytes_of items) bs
+          ≡ option_map bytes_of (find (λ x. bytes_eq bs (bytes_of x)) items)
       unfolding items_by
-      find_item_item_texts = find-map see (bytes_eq bs) items
+      find_item_item_texts = find-map bytes_of (bytes_eq bs) items
 
     module _ (eq : T → T → Bool) (x : T) where
-      pub item_texts_put_item : ComparesBy see eq
-          → items_by see (put_item eq items x) ≡ put_item bytes_eq (items_by see items) (see x)
+      pub item_texts_put_item : ComparesBy bytes_of eq
+          → items_by bytes_of (put_item eq items x) ≡ put_item bytes_eq (items_by bytes_of items) (bytes_of x)
       unfolding items_by put_item
       item_texts_put_item compares =
-          ap (λ e. items_by see (put_item e items x)) (compares_by see eq compares)
-          ∙ grind (arith, any-map see (bytes_eq (see x)) items, map-append see items (x ∷ []))
+          ap (λ e. items_by bytes_of (put_item e items x)) (compares_by bytes_of eq compares)
+          ∙ grind (arith, any-map bytes_of (bytes_eq (bytes_of x)) items, map-append bytes_of items (x ∷ []))
 
   -- two sets: they have equal items exactly if they have equal texts
   module _ (a b : List T) where
-    pub same_item_texts : have_equal_items bytes_eq (items_by see a)
-        (items_by see b) ≡ have_equal_items (on see bytes_eq) a b
+    pub same_item_texts : have_equal_items bytes_eq (items_by bytes_of a)
+        (items_by bytes_of b) ≡ have_equal_items (on bytes_of bytes_eq) a b
     unfolding items_by
-    same_item_texts = equal_items-map see bytes_eq a b
+    same_item_texts = equal_items-map bytes_of bytes_eq a b
 
 -- the items once these are put
-module _ {T : Type 0} (see : T → List ℕ) where
+module _ {T : Type 0} (bytes_of : T → List ℕ) where
   module _ (eq : T → T → Bool) where
-    pub item_texts_put_all : (items xs : List T) → ComparesBy see eq
-        → items_by see (put_all_items eq items xs) ≡ put_all_items bytes_eq (items_by see items)
-        (items_by see xs)
+    pub item_texts_put_all : (items xs : List T) → ComparesBy bytes_of eq
+        → items_by bytes_of (put_all_items eq items xs) ≡ put_all_items bytes_eq (items_by bytes_of items)
+        (items_by bytes_of xs)
     unfolding items_by
     item_texts_put_all items [] compares = refl
     item_texts_put_all items (x ∷ xs) compares =
         item_texts_put_all (put_item eq items x) xs compares
-        ∙ ap (λ l. put_all_items bytes_eq l (items_by see xs))
-        (item_texts_put_item see items eq x compares)
+        ∙ ap (λ l. put_all_items bytes_eq l (items_by bytes_of xs))
+        (item_texts_put_item bytes_of items eq x compares)
 
   -- what is put of texts is put of their items, so that a search finds what a set extended by another has
   pub extended_item_texts : (items xs : List T)
-      → put_all_items bytes_eq (items_by see items) (items_by see xs)
-      ≡ items_by see (put_all_items (on see bytes_eq) items xs)
+      → put_all_items bytes_eq (items_by bytes_of items) (items_by bytes_of xs)
+      ≡ items_by bytes_of (put_all_items (on bytes_of bytes_eq) items xs)
   extended_item_texts items xs =
-      sym (item_texts_put_all (on see bytes_eq) items xs (λ x y. refl))
+      sym (item_texts_put_all (on bytes_of bytes_eq) items xs (λ x y. refl))
 
 -- the item that an owned text finds is that text
 pub stored_item : (items : List (List ℕ)) (text : List ℕ)
-    → Where (find_item bytes_eq items text)
+    → Trigger (find_item bytes_eq items text)
     (find_item bytes_eq items text ≡ (if is_member bytes_eq items text then Some text else None))
 stored_item items text = (refl, find_same bytes_eq-Decides text items)
 

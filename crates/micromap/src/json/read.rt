@@ -8,7 +8,7 @@ ghost use Rattle.serde_json.specs.Read.{read as value_of};
 ghost use Rattle.serde_json.specs.View.{view, items_view, members_view};
 ghost use Rattle.micromap.specs.Json.{pairs_for, pairs_in, texts_for, texts_in, whole_number, Pairs, HasPairs, IsFault};
 ghost use Rattle.micromap.specs.Items.{IsItems};
-ghost use Rattle.micromap.specs.Pairs.{IsContent, fits, put_if_fits};
+ghost use Rattle.micromap.specs.Pairs.{IsContent};
 ghost use Rattle.micromap.specs.Same.{Same};
 ghost use Rattle.micromap.specs.Texts.{item_texts, key_texts};
 ghost use Rattle.micromap.specs.declared.json.JsonFault.TheVariants.{BadText, Memory};
@@ -86,9 +86,10 @@ fn map_of_members<const N: usize>(
         let Some(whole) = whole_of(value) else {
             return Err(JsonFault::NotWhole);
         };
-        all_fit = all_fit && put(&mut map, name, whole);
+        all_fit = all_fit && map.put(name, whole);
     }
-    let _content = map.len();
+    // This tells the prover what a map may hold.
+    let _known = map.len();
     if all_fit {
         Ok(map)
     } else {
@@ -101,14 +102,6 @@ fn whole_of(value: Value) -> Option<i64>
     ensures { result ≡ whole_number (view value) }
 {
     value.as_i64()
-}
-
-// Inserts the pair if it fits, by one scan, and returns whether it did.
-fn put<const N: usize>(map: &mut Map<String, i64, N>, name: String, whole: i64) -> bool
-    ensures answer { result ≡ fits string_eq N map.old name }
-    ensures pairs { map.new ≡ put_if_fits string_eq N map.old name whole }
-{
-    map.checked_insert(name, whole).is_some()
 }
 
 // Creates the set of these elements. Each is inserted as it is looked at, until one doesn't fit. An element that is no
@@ -127,7 +120,7 @@ fn set_of_elements<const N: usize>(elements: Vec<Value>) -> Result<Set<String, N
         };
         all_fit = all_fit && set.put(text);
     }
-    let _content = set.len();
+    let _known = set.len();
     if all_fit {
         Ok(set)
     } else {

@@ -1,14 +1,12 @@
 //! Writing a map as an object, and a set as an array.
 ghost use Rattle.std.specs.Prelude.{◌≡◌, ℕ, ◌≤◌, length, IfOk, IfErr, Ok, Some, string_bytes};
 ghost use Rattle.std.specs.String.{string_eq};
-ghost use Rattle.serde_json.specs.Data.{array, depth, number, object};
+ghost use Rattle.serde_json.specs.Data.{array, number, object};
 ghost use Rattle.serde_json.specs.Find.{of_integer};
 ghost use Rattle.serde_json.specs.Read.{read};
 ghost use Rattle.serde_json.specs.View.{view};
 ghost use Rattle.serde_json.specs.Written.{compact_text};
-ghost use Rattle.micromap.specs.Items.{IsItems};
 ghost use Rattle.micromap.specs.Json.{HasPairs, elements, members, texts_for, whole_number};
-ghost use Rattle.micromap.specs.Pairs.{IsContent};
 ghost use Rattle.micromap.specs.Texts.{item_texts};
 ghost use Rattle.micromap.specs.declared.json.JsonFault.TheVariants.{Memory};
 
@@ -29,9 +27,7 @@ pub fn map_to_json<const N: usize>(
         → HasPairs M (string_bytes text) map.now) }
     ensures text { IfOk result (λ text. string_bytes text ≡ compact_text (object (members map.now))) }
     ensures fault { IfErr result (λ fault. fault ≡ Memory) }
-    ensures content { IsContent string_eq N map.now }
 {
-    let _content = map.len();
     let mut members = serde_json::Map::new(alloc);
     for (name, value) in map {
         serde_json::put(&mut members, alloc, name.as_str(), value_of(*value))?;
@@ -48,9 +44,7 @@ pub fn set_to_json<const N: usize>(alloc: Global, set: &Set<String, N>) -> Resul
         → texts_for M (string_bytes text) ≡ Ok (item_texts set.now)) }
     ensures text { IfOk result (λ text. string_bytes text ≡ compact_text (array (elements set.now))) }
     ensures fault { IfErr result (λ fault. fault ≡ Memory) }
-    ensures content { IsItems string_eq N set.now }
 {
-    let _content = set.len();
     let mut elements = Vec::new(alloc);
     for text in set {
         serde_json::push(&mut elements, Value::try_from_str(alloc, text.as_str())?)?;
@@ -62,7 +56,6 @@ pub fn set_to_json<const N: usize>(alloc: Global, set: &Set<String, N>) -> Resul
 fn value_of(n: i64) -> Value
     ensures value { view result ≡ number (of_integer n) }
     ensures whole { whole_number (view result) ≡ Some n }
-    ensures flat { depth (view result) ≡ 0 }
 {
     Value::from(n)
 }

@@ -27,18 +27,19 @@ impl<T: Eq + Drop, const N: usize> Set<T, N> {
     pub fn try_extend<I: Iterator<Item = T>>(&mut self, items: I) -> Result<(), Overfull>
         requires can { I.can_next items }
         requires ends { UpTo (I.remaining items) most_items }
-        ensures runs { OnOk result (AllItems I.next_gives items (PutsAllItems T.eq N self.old self.new)) }
-        ensures stops { IfErr result (ItemsUpTo I.next_gives items (PutsItemsBefore T.eq N self.old self.new)) }
+        ensures whole { OnOk result (AllItems I.next_gives items (PutsAllItems T.eq N self.old self.new)) }
+        ensures misfit { IfErr result (ItemsUpTo I.next_gives items (PutsItemsBefore T.eq N self.old self.new)) }
         ensures full { OnErr result (length self.new ≡ N) }
         ensures content { AreItems T.eq N self.old self.new }
     {
-        let _content = self.len();
-        let mut at = 0;
+        // This tells the prover what a set may hold.
+        let _known = self.len();
+        let mut position = 0;
         for x in items {
             if !self.put(x) {
-                return Err(Overfull { at });
+                return Err(Overfull { at: position });
             }
-            at += 1;
+            position += 1;
         }
         Ok(())
     }
@@ -57,8 +58,8 @@ impl<T: Eq + Drop, const N: usize> Set<T, N> {
     pub fn try_from_iter<I: Iterator<Item = T>>(items: I) -> Result<Self, Overfull>
         requires can { I.can_next items }
         requires ends { UpTo (I.remaining items) most_items }
-        ensures runs { IfOk result (λ set. AllItems I.next_gives items (PutsAllItems T.eq N [] set)) }
-        ensures stops { IfErr result (ItemsUpTo I.next_gives items (ItemMisfitIn T.eq N [])) }
+        ensures whole { IfOk result (λ set. AllItems I.next_gives items (PutsAllItems T.eq N [] set)) }
+        ensures misfit { IfErr result (ItemsUpTo I.next_gives items (ItemMisfitIn T.eq N [])) }
         ensures few { OnOk result (AllItems I.next_gives items (λ taken. distinct_count T.eq taken ≤ N)) }
         ensures many { IfErr result
             (ItemsUpTo I.next_gives items (λ taken _. N < distinct_count T.eq taken)) }
@@ -76,12 +77,12 @@ impl<T: Eq + Drop, const N: usize> Set<T, N> {
     fn put_fitting<I: Iterator<Item = T>>(&mut self, items: I) -> bool
         requires can { I.can_next items }
         requires ends { IsFinite (I.remaining items) }
-        ensures ran { (xs : List T) × (⊤ → Drains I.next_gives items xs)
+        ensures built { (xs : List T) × (⊤ → Drains I.next_gives items xs)
             × (then_some result self.new ≡ fold (put_item_or_refuse T.eq N) (Some self.old) xs)
             × (self.new ≡ fold (put_item_if_fits T.eq N) self.old xs) }
         ensures content { AreItems T.eq N self.old self.new }
     {
-        let _content = self.len();
+        let _known = self.len();
         let mut all_fit = true;
         for x in items {
             all_fit &= self.put(x);
@@ -102,7 +103,7 @@ impl<T: Eq + Drop, const N: usize> Set<T, N> {
     pub fn from_all<I: Iterator<Item = T>>(items: I) -> Option<Self>
         requires can { I.can_next items }
         requires ends { IsFinite (I.remaining items) }
-        ensures ran { (xs : List T) × (⊤ → Drains I.next_gives items xs)
+        ensures built { (xs : List T) × (⊤ → Drains I.next_gives items xs)
             × (result ≡ fold (put_item_or_refuse T.eq N) (Some []) xs) }
         ensures content { IfSome result (IsItems T.eq N) }
     {
@@ -121,7 +122,7 @@ impl<T: Eq + Drop, const N: usize> Set<T, N> {
     pub fn from_fitting<I: Iterator<Item = T>>(items: I) -> Self
         requires can { I.can_next items }
         requires ends { IsFinite (I.remaining items) }
-        ensures ran { (xs : List T) × (⊤ → Drains I.next_gives items xs)
+        ensures built { (xs : List T) × (⊤ → Drains I.next_gives items xs)
             × (result ≡ fold (put_item_if_fits T.eq N) [] xs) }
         ensures content { IsItems T.eq N result }
     {
@@ -149,7 +150,7 @@ impl<T: Eq + Copy, const N: usize> Set<T, N> {
     pub fn try_extend_from<const M: usize>(&mut self, other: &Set<T, M>) -> Result<(), Overfull>
         ensures items { OnOk result (self.new ≡ put_all_items T.eq self.old other.now) }
         ensures many { IsErr result ↔ (N < length (put_all_items T.eq self.old other.now)) }
-        ensures stops { IfErr result (λ e. ItemMisfitIn T.eq N self.old other.now e.at) }
+        ensures misfit { IfErr result (λ e. ItemMisfitIn T.eq N self.old other.now e.at) }
         ensures unchanged { OnErr result (self.new ≡ self.old) }
         ensures content { AreItems T.eq N self.old self.new }
     {

@@ -1,12 +1,12 @@
 //! Comparing two sets, whose capacities may differ.
 ghost use Rattle.std.specs.Prelude.{◌↔◌, IsTrue};
 ghost use Rattle.std.specs.Cmp.{partial_equiv_from_equiv};
-ghost use Rattle.micromap.specs.Items.{IsItems};
 ghost use Rattle.micromap.specs.Operations.{HaveEquals};
 ghost use Rattle.micromap.specs.Same.{have_equal_items, HaveEqualItems};
 ghost use Rattle.micromap.specs.SameLaws.{have_equal_items_equiv};
 
 use super::Set;
+use super::operations::Wanted;
 
 impl<T: Eq, const N: usize> Set<T, N> {
     /// Returns `true` if each item of either set has an equal one in the other, so that both contain the same items.
@@ -16,10 +16,9 @@ impl<T: Eq, const N: usize> Set<T, N> {
     pub fn eq_with<const M: usize>(&self, other: &Set<T, M>) -> bool
         ensures answer { IsTrue result ↔ HaveEqualItems T.eq self.now other.now }
         ensures members { IsTrue result ↔ HaveEquals T.eq self.now other.now }
-        ensures content { IsItems T.eq N self.now × IsItems T.eq M other.now }
     {
         // Both have the same number of items, and `other` has each item of this set. So `other` has no other item.
-        self.len() == other.len() && self.is_subset(other)
+        self.len() == other.len() && self.all_are(other, Wanted::Common)
     }
 }
 

@@ -69,6 +69,19 @@ impl<T: Eq + Drop, const N: usize> Set<T, N> {
         }
     }
 
+    /// Inserts the item if it fits, and returns `true` if it did.
+    ///
+    /// A stored item stays, and the one that was passed is dropped. A new item goes last. A new item doesn't fit a full
+    /// set: then the set is unchanged, and the item is dropped. Makes one scan.
+    #[inline]
+    pub fn put(&mut self, item: T) -> bool
+        ensures answer { result ≡ item_fits T.eq N self.old item }
+        ensures items { self.new ≡ put_item_if_fits T.eq N self.old item }
+        ensures content { AreItems T.eq N self.old self.new }
+    {
+        self.map.put(item, ())
+    }
+
     /// Inserts the item if it is new and there is room. Returns `Err(Occupied(item))` if an equal one is stored, and
     /// `Err(Full(item))` if the item is new and the set is full.
     ///
@@ -93,15 +106,5 @@ impl<T: Eq + Drop, const N: usize> Set<T, N> {
             Err(InsertError::Occupied((item, _))) => Err(InsertError::Occupied(item)),
             Err(InsertError::Full((item, _))) => Err(InsertError::Full(item)),
         }
-    }
-
-    /// Inserts the item if it fits, by one scan, and returns whether it did.
-    #[inline]
-    pub(crate) fn put(&mut self, item: T) -> bool
-        ensures answer { result ≡ item_fits T.eq N self.old item }
-        ensures items { self.new ≡ put_item_if_fits T.eq N self.old item }
-        ensures content { AreItems T.eq N self.old self.new }
-    {
-        self.map.checked_insert(item, ()).is_some()
     }
 }

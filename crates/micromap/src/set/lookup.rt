@@ -2,7 +2,7 @@
 ghost use Rattle.std.specs.Prelude.{◌≡◌, ◌-◌, length, slice_get};
 ghost use Rattle.std.specs.Option.{option_copied};
 ghost use Rattle.std.specs.Set.{is_member};
-ghost use Rattle.micromap.specs.Items.{IsItems, find_item, item_fits};
+ghost use Rattle.micromap.specs.Items.{find_item, item_fits};
 
 use super::Set;
 
@@ -11,7 +11,6 @@ impl<T: Eq, const N: usize> Set<T, N> {
     #[inline]
     pub fn get(&self, item: &T) -> Option<&T>
         ensures answer { option_copied result ≡ find_item T.eq self.now item.now }
-        ensures content { IsItems T.eq N self.now }
     {
         let (stored, _) = self.map.get_key_value(item)?;
         Some(stored)
@@ -21,7 +20,6 @@ impl<T: Eq, const N: usize> Set<T, N> {
     #[inline]
     pub fn first(&self) -> Option<&T>
         ensures answer { option_copied result ≡ slice_get self.now 0 }
-        ensures content { IsItems T.eq N self.now }
     {
         let (item, _) = self.map.first()?;
         Some(item)
@@ -31,7 +29,6 @@ impl<T: Eq, const N: usize> Set<T, N> {
     #[inline]
     pub fn last(&self) -> Option<&T>
         ensures answer { option_copied result ≡ slice_get self.now (length self.now - 1) }
-        ensures content { IsItems T.eq N self.now }
     {
         let (item, _) = self.map.last()?;
         Some(item)
@@ -41,7 +38,6 @@ impl<T: Eq, const N: usize> Set<T, N> {
     #[inline]
     pub fn contains(&self, item: &T) -> bool
         ensures answer { result ≡ is_member T.eq self.now item.now }
-        ensures content { IsItems T.eq N self.now }
     {
         self.map.contains_key(item)
     }
@@ -52,7 +48,6 @@ impl<T: Eq, const N: usize> Set<T, N> {
     #[inline]
     pub fn fits(&self, item: &T) -> bool
         ensures answer { result ≡ item_fits T.eq N self.now item.now }
-        ensures content { IsItems T.eq N self.now }
     {
         self.map.fits(item)
     }

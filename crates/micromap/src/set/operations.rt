@@ -5,10 +5,10 @@ ghost use Rattle.std.specs.List.{after_first};
 ghost use Rattle.std.specs.Map.Iter.{deref};
 ghost use Rattle.micromap.specs.Operations.{both_hints, passes, GivesNext};
 
-mod cloned;
 mod difference;
 mod difference_ref;
 mod intersection;
+mod operators;
 mod symmetric_difference;
 mod union;
 
@@ -20,19 +20,36 @@ pub use intersection::Intersection;
 pub use symmetric_difference::SymmetricDifference;
 pub use union::Union;
 
-// Returns the next item for which `other.contains` returns `common`, or `None` at the end. It is inlined, so that
-// `common` is a constant.
+// Which items of a set are wanted: those with an equal one in the other set, or those without.
+#[derive(Clone, Copy)]
+pub(super) enum Wanted {
+    Common,
+    Missing,
+}
+
+// Returns `true` if the item is wanted, by a scan of `other`.
+#[inline(always)]
+pub(super) fn is_wanted<T: Eq, const M: usize>(wanted: Wanted, item: &T, other: &Set<T, M>) -> bool
+    ensures { result ≡ passes T.eq wanted other.now item.now }
+{
+    match wanted {
+        Wanted::Common => other.contains(item),
+        Wanted::Missing => !other.contains(item),
+    }
+}
+
+// Returns the next item that is wanted, or `None` at the end. It is inlined, so that `wanted` is a constant.
 #[inline(always)]
 fn next_where<'a, T: Eq, const M: usize>(
     rest: &mut Iter<'a, T>,
     other: &Set<T, M>,
-    common: bool,
+    wanted: Wanted,
 ) -> Option<&'a T>
-    ensures { GivesNext deref (filter (passes T.eq common other.now)) (after_first (passes T.eq common other.now))
+    ensures { GivesNext deref (filter (passes T.eq wanted other.now)) (after_first (passes T.eq wanted other.now))
         rest.old result rest.new }
 {
     while let Some(x) = rest.next() {
-        if other.contains(x) == common {
+        if is_wanted(wanted, x, other) {
             return Some(x);
         }
     }

@@ -4,7 +4,7 @@ ghost use Rattle.std.specs.Prelude.{◌≡◌, is_some};
 ghost use Rattle.std.specs.List.{find, list_any};
 ghost use Rattle.std.specs.Option.{option_copied};
 ghost use Rattle.std.specs.Set.{remove_key};
-ghost use Rattle.micromap.specs.Items.{AreItems, IsItems, item_fits_by};
+ghost use Rattle.micromap.specs.Items.{AreItems, item_fits_by};
 
 use super::{Set, item_of};
 use crate::Probe;
@@ -14,7 +14,6 @@ impl<T: Eq, const N: usize> Set<T, N> {
     #[inline]
     pub fn get_by<P: Probe<T>>(&self, probe: &P) -> Option<&T>
         ensures answer { option_copied result ≡ find (P.matches probe.now) self.now }
-        ensures content { IsItems T.eq N self.now }
     {
         let (stored, _) = self.map.get_key_value_by(probe)?;
         Some(stored)
@@ -24,7 +23,6 @@ impl<T: Eq, const N: usize> Set<T, N> {
     #[inline]
     pub fn contains_by<P: Probe<T>>(&self, probe: &P) -> bool
         ensures answer { result ≡ list_any (P.matches probe.now) self.now }
-        ensures content { IsItems T.eq N self.now }
     {
         self.map.contains_key_by(probe)
     }
@@ -35,7 +33,6 @@ impl<T: Eq, const N: usize> Set<T, N> {
     #[inline]
     pub fn fits_by<P: Probe<T>>(&self, probe: &P) -> bool
         ensures answer { result ≡ item_fits_by (P.matches probe.now) N self.now }
-        ensures content { IsItems T.eq N self.now }
     {
         self.map.fits_by(probe)
     }

@@ -27,7 +27,7 @@ impl<T: Eq + Drop, const N: usize> Set<T, N> {
         ensures items { self.new ≡ take_item T.eq self.old item.now }
         ensures content { AreItems T.eq N self.old self.new }
     {
-        self.map.remove(item).is_some()
+        self.take(item).is_some()
     }
 
     /// Removes the first item, and returns it, or `None` if the set is empty.

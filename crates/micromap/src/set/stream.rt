@@ -20,7 +20,6 @@ impl<T: Eq, const N: usize> Set<T, N> {
         ensures beginning { OnErr result
             (TakesBeginning (S.taken sink.old) (entries_of self.now) (S.taken sink.new)) }
         ensures fault { IfErr result (Faults S.faults S.last_fault sink.old sink.new) }
-        ensures content { IsItems T.eq N self.now }
     {
         self.map.write_entries(sink)
     }

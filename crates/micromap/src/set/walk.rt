@@ -5,7 +5,7 @@ ghost use Rattle.micromap.specs.Items.{AreItems, IsItems};
 
 use super::Set;
 use crate::map;
-use micromap_walk::slot::hint_at_most;
+use micromap_walk::hint;
 use std::mem;
 
 /// An iterator over the items of a set by reference, from the front.
@@ -25,7 +25,7 @@ impl<T: Eq, const N: usize> Set<T, N> {
         ensures runs { ShowsInOrder (deref {X = T}) }
         ensures content { IsItems T.eq N self.now }
     {
-        hint_at_most(self.len(), N);
+        hint::at_most(self.len(), N);
         self.map.keys()
     }
 }
@@ -42,7 +42,6 @@ impl<T: Eq + Drop, const N: usize> Set<T, N> {
         ensures runs { GivesInOrder T }
         ensures content { AreItems T.eq N self.old self.new }
     {
-        let _content = self.len();
         mem::take(self).into_iter()
     }
 }
@@ -57,7 +56,6 @@ impl<T: Eq + Drop, const N: usize> IntoIterator for Set<T, N> {
     ghost into_iter_gives = { λ s walk. (walk ≡ s) × GivesInOrder T × IsItems T.eq N s };
 
     fn into_iter(self) -> IntoIter<T, N> {
-        let _content = self.len();
         let Set { map } = self;
         map.into_keys()
     }

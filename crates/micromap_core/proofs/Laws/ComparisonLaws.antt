@@ -2,26 +2,25 @@
 -- sameness is an equivalence; and that two maps that are the same stay the same where both get the same put, the same
 -- removal, or the same fair list of calls. A map's or a set's `content` has the premises: `Lawful`, and the unequal items
 -- or keys. Whether there is room is for the caller to know. The ruleset `comparison` of `Rules` has what a search needs.
-use Rattle.std.proofs.Common.{◌≡◌, ◌<◌, ◌≤◌, ◌↔◌, Bool, true, false, not, ◌&&◌, ◌||◌, IsTrue, List, [], ◌∷◌, filter}
-use Rattle.std.proofs.Common.{length, ap, sym, ◌∙◌, inl, inr, arith, IsFalse, refl, ℕ}
+use Rattle.std.proofs.Common.{◌≡◌, ◌<◌, ◌≤◌, ◌↔◌, ◌&&◌, ◌||◌, [], ◌∷◌, ◌∙◌, ℕ, ap, arith, false, filter, inl, inr, length, not, refl, sym, true, Bool, IsFalse, IsTrue, List}
 use Rattle.std.specs.Cmp.{IsEquivalence}
 use Rattle.std.specs.Cmp.Derive.{both_true}
-use Rattle.std.specs.List.{IsDistinct, list_all}
+use Rattle.std.specs.List.{list_all, IsDistinct}
 use Rattle.std.specs.Map.{keys_of}
 use Rattle.std.specs.Set.{is_member}
 use Rattle.std.proofs.lemmas.Bool.{cases_Bool, true≢false}
 use Rattle.std.proofs.lemmas.Map.Entries.{length-keys_of}
 use Rattle.std.proofs.lemmas.Map.Made.{is_some-lookup}
-use Rattle.micromap_core.specs.Calls.{Call, run}
+use Rattle.micromap_core.specs.Calls.{run, Call}
 use Rattle.micromap_core.specs.Equalities.{Lawful}
-use Rattle.micromap_core.specs.Fair.{IsFair, AnswersAgree}
-use Rattle.micromap_core.specs.Pairs.{has, IsUnique, has_room, fits, put, put_key, take_out}
-use Rattle.micromap_core.specs.Same.{have_equal_items, HaveEqualItems, has_value, is_same, Same}
+use Rattle.micromap_core.specs.Fair.{AnswersAgree, IsFair}
+use Rattle.micromap_core.specs.Pairs.{fits, has, has_room, put, put_key, take_out, IsUnique}
+use Rattle.micromap_core.specs.Same.{has_value, have_equal_items, is_same, HaveEqualItems, Same}
 use Rattle.micromap_core.specs.SameLaws.{have_equal_items_equiv, is_same_equiv}
 use Rattle.micromap_core.proofs.DistinctLemmas.{length-filter_members, members_turned, missing_in_shorter}
-use Rattle.micromap_core.proofs.FairLemmas.{put_same, put_key_same, take_out_same, run_same}
-use Rattle.micromap_core.proofs.SameLemmas.{Comparable, comparable, long_from_same, same_by_filters, same_if_long}
-use Rattle.micromap_core.proofs.Laws.Equalities.{lawful, of_lawful, equalities, Where}
+use Rattle.micromap_core.proofs.FairLemmas.{put_key_same, put_same, run_same, take_out_same}
+use Rattle.micromap_core.proofs.Laws.Equalities.{equalities, lawful, of_lawful, Trigger}
+use Rattle.micromap_core.proofs.SameLemmas.{comparable, long_from_same, same_by_filters, same_if_long, Comparable}
 
 -- where not all items pass a test, one fails it
 some_fails : {T : Type 0} {eq : T → T → Bool} (laws : IsEquivalence eq) (test : T → Bool)
@@ -88,8 +87,8 @@ module _ {K V : Type 0} (eq : K → K → Bool) (equality : Lawful eq) where
           sym (same_if_long pair long) ∙ all
 
       -- and lists that are the same are equally long
-      pub length-same : Same eq same first second → length first ≡ length second
-      length-same = long_from_same pair
+      pub length_same : Same eq same first second → length first ≡ length second
+      length_same = long_from_same pair
 
       -- they are the same exactly where no key is in one alone, and none has unequal values
       pub same_iff_filters : Same eq same first second
@@ -135,21 +134,21 @@ module _ {K V : Type 0} (eq : K → K → Bool) (same : V → V → Bool) (first
 -- the same by the word alone: for a search that doesn't see the equality in what it computes to
 module _ {K V : Type 0} (eq : K → K → Bool) (first : List (K × V)) (k : K) where
   pub each_same_put : (v : V) → Lawful eq → IsUnique eq first
-      → Where (put eq first k v)
+      → Trigger (put eq first k v)
       ((same : V → V → Bool) (second : List (K × V)) → Lawful same → IsUnique eq second
       → Same eq same first second → Same eq same (put eq first k v) (put eq second k v))
   each_same_put v keys unique =
       (refl, λ same second values. same_put eq same first second k v keys values unique)
 
   pub each_same_put_key : (v : V) → Lawful eq → IsUnique eq first
-      → Where (put_key eq first k v)
+      → Trigger (put_key eq first k v)
       ((same : V → V → Bool) (second : List (K × V)) → Lawful same → IsUnique eq second
       → Same eq same first second → Same eq same (put_key eq first k v) (put_key eq second k v))
   each_same_put_key v keys unique =
       (refl, λ same second values. same_put_key eq same first second k v keys values unique)
 
   pub each_same_take_out : Lawful eq → IsUnique eq first
-      → Where (take_out eq first k)
+      → Trigger (take_out eq first k)
       ((same : V → V → Bool) (second : List (K × V)) → Lawful same → IsUnique eq second
       → Same eq same first second → Same eq same (take_out eq first k) (take_out eq second k))
   each_same_take_out keys unique =

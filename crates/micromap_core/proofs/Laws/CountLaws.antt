@@ -1,24 +1,22 @@
 -- For callers: what a map has into which a loop merges values (`merged`): after one item more, at each key, and how many
 -- keys there are; how many keys a map has after a list is put into it, and what a counter has. The ruleset `caller` of
 -- `Rules` has those that a search needs.
-use Rattle.std.proofs.Common.{◌≡◌, ℕ, ◌+◌, ◌<◌, ◌≤◌, ◌||◌, Bool, true, false, List, [], ◌∷◌, ◌++◌, filter, length}
-use Rattle.std.proofs.Common.{map, get_or, take, Option, Some, refl, ap, sym, ◌∙◌, arith, unwrap_or, fold, cond}
+use Rattle.std.proofs.Common.{◌≡◌, ℕ, ◌+◌, ◌<◌, ◌≤◌, ◌||◌, [], ◌∷◌, ◌++◌, ◌∙◌, ap, arith, cond, false, filter, fold, get_or, length, map, refl, sym, take, true, unwrap_or, Bool, List, Option, Some}
 use Rattle.std.specs.List.{count_by, fold, list_any}
 use Rattle.std.specs.Map.{keys_of, values_of}
 use Rattle.std.specs.Set.{distinct_count}
 use Rattle.std.proofs.lemmas.Grind.{common_steps}
-use Rattle.std.proofs.lemmas.List.{nil_from_length, take_all, length-take, map-id}
-use Rattle.std.proofs.lemmas.List.Sums.{fold_more, fold_push, count_by-le-length}
+use Rattle.std.proofs.lemmas.List.{length-take, map-id, nil_from_length, take_all}
+use Rattle.std.proofs.lemmas.List.Sums.{count_by-le-length, fold_more, fold_push}
 use Rattle.std.proofs.lemmas.Map.Entries.{length-keys_of}
 use Rattle.std.proofs.lemmas.Map.Made.{is_some-lookup}
 use Rattle.micromap_core.specs.Build.{count_one, counts, merge_pair, merged, put_all}
 use Rattle.micromap_core.specs.Equalities.{Lawful}
-use Rattle.micromap_core.specs.Pairs.{at, fits, has, IsUnique, put}
-use Rattle.micromap_core.proofs.BuildLemmas.{counts_keyed, distinct-fold, fold_beyond, length-fold, member-fold}
-use Rattle.micromap_core.proofs.BuildLemmas.{puts_keyed, IsKeyed, length-built}
-use Rattle.micromap_core.proofs.Lists.{all_read, taken_read}
-use Rattle.micromap_core.proofs.Laws.Equalities.{of_lawful, Where}
+use Rattle.micromap_core.specs.Pairs.{at, fits, has, put, IsUnique}
+use Rattle.micromap_core.proofs.KeyedLemmas.{counts_keyed, distinct-fold, fold_beyond, length-built, length-fold, member-fold, puts_keyed, IsKeyed}
+use Rattle.micromap_core.proofs.Laws.Equalities.{of_lawful, Trigger}
 use Rattle.micromap_core.proofs.Laws.MapLaws.{at_alike, at_put, unique_empty}
+use Rattle.micromap_core.proofs.Lists.{all_read, taken_read}
 
 module _ {K V W : Type 0} (eq : K → K → Bool) (step : Option V → W → V) where
   -- no item, the first item, and one more
@@ -113,7 +111,7 @@ module _ {K V W : Type 0} (eq : K → K → Bool) (step : Option V → W → V) 
 
   -- what a search needs, at once: of all items, and of the first so many, also where a function reads them
   pub each_merged : (pairs : List (K × V)) (items : List (K × W)) → Lawful eq
-      → Where (merged eq step pairs items) (((q : K) → at eq (merged eq step pairs items) q
+      → Trigger (merged eq step pairs items) (((q : K) → at eq (merged eq step pairs items) q
       ≡ fold (λ o w. Some (step o w)) (at eq pairs q)
       (values_of (filter (λ item. eq item.0 q) items)))
       × ((q : K) → has eq (merged eq step pairs items) q ≡ (has eq items q || has eq pairs q))
@@ -132,12 +130,12 @@ module _ {K V W : Type 0} (eq : K → K → Bool) (step : Option V → W → V) 
 
   -- what a loop ends with where its iterator has no items left
   pub each_merged_end : (pairs : List (K × V)) (items : List (K × W))
-      → Where (merged eq step pairs items) (length items ≡ 0 → merged eq step pairs items ≡ pairs)
+      → Trigger (merged eq step pairs items) (length items ≡ 0 → merged eq step pairs items ≡ pairs)
   each_merged_end pairs items =
       (refl, λ none. ap (merged eq step pairs) (nil_from_length items none) ∙ merged_none pairs)
 
   pub each_merged_take : (pairs : List (K × V)) (items : List (K × W)) (i : ℕ)
-      → Where (merged eq step pairs (take i items))
+      → Trigger (merged eq step pairs (take i items))
       ((length items ≤ i → merged eq step pairs (take i items) ≡ merged eq step pairs items)
       × ((d : K × W) → i < length items
       → merged eq step pairs (take (i + 1) items)
@@ -156,7 +154,7 @@ module _ {K V W : Type 0} (eq : K → K → Bool) (step : Option V → W → V) 
 
   pub each_merged_take_map :
       {X : Type 0} (read : X → K × W) (pairs : List (K × V)) (items : List X) (i : ℕ)
-      → Where (merged eq step pairs (map read (take i items)))
+      → Trigger (merged eq step pairs (map read (take i items)))
       ((length items ≤ i → merged eq step pairs (map read (take i items))
       ≡ merged eq step pairs (map read items))
       × ((d : X) → i < length items
@@ -191,7 +189,7 @@ module _ {K V : Type 0} (eq : K → K → Bool) where
   length_put_all = length_merged eq (λ o v. v)
 
   pub each_put_all_take : (pairs items : List (K × V)) (i : ℕ) → Lawful eq → IsUnique eq pairs
-      → Where (put_all eq pairs (take i items))
+      → Trigger (put_all eq pairs (take i items))
       ((length items ≤ i → put_all eq pairs (take i items) ≡ put_all eq pairs items)
       × ((d : K × V) → i < length items
       → put_all eq pairs (take (i + 1) items) ≡ put eq (put_all eq pairs (take i items))
@@ -277,12 +275,12 @@ module _ {K : Type 0} (eq : K → K → Bool) where
 
   -- what a search needs, at once: of a counter of some items, and of one of the first so many
   pub each_counts : (items : List K) → Lawful eq
-      → Where (counts eq items) ((length (counts eq items) ≡ distinct_count eq items)
+      → Trigger (counts eq items) ((length (counts eq items) ≡ distinct_count eq items)
       × ((q : K) → unwrap_or (at eq (counts eq items) q) 0 ≡ count_by (eq q) items))
   each_counts items laws = (refl, (length_counts items laws, λ q. count_counts items q laws))
 
   pub each_counts_take : (items : List K) (i : ℕ) → Lawful eq
-      → Where (counts eq (take i items))
+      → Trigger (counts eq (take i items))
       ((length items ≤ i → counts eq (take i items) ≡ counts eq items)
       × ((q : K) → unwrap_or (at eq (counts eq (take i items)) q) 0 ≤ length items)
       × ((d : K) → i < length items

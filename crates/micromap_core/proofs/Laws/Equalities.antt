@@ -1,8 +1,8 @@
 -- For callers: the equalities that are known to be lawful, and the tests that are known to be probes for them. For an
 -- equality of your own, `lawful` proves `lawful_mine : Lawful my_eq` in one line.
-use Rattle.std.proofs.Common.{◌≡◌, Bool, true, sym, ◌∙◌, ℕ, List, String, nat_eq, string_bytes}
-use Rattle.std.specs.Cmp.{both_ways, IsEquivalence, bool_eq_equiv}
+use Rattle.std.proofs.Common.{◌≡◌, ◌∙◌, ℕ, nat_eq, string_bytes, sym, true, Bool, List, String}
 use Rattle.std.specs.Bool.{beq}
+use Rattle.std.specs.Cmp.{bool_eq_equiv, both_ways, IsEquivalence}
 use Rattle.std.specs.Cmp.Lexicographic.{pointwise}
 use Rattle.std.specs.Ordering.{int_eq, on}
 use Rattle.std.specs.String.{string_eq, string_eq_equiv}
@@ -12,8 +12,8 @@ use Rattle.micromap_core.specs.Probe.{alike, equal, is_str, is_text}
 use Rattle.micromap_core.specs.Texts.{str_eq}
 
 -- P, which a search comes upon where it sees x: the equation of x with itself shows it the law
-abbrev pub Where : {X : Type 0} → X → Type 0 → Type 0
-Where x P = (x ≡ x) × P
+abbrev pub Trigger : {X : Type 0} → X → Type 0 → Type 0
+Trigger x P = (x ≡ x) × P
 
 -- if a key passes a test that has the two laws of a probe, then the test is equality with that key
 pub same_test : {K : Type 0} (eq : K → K → Bool) (test : K → Bool)
@@ -68,13 +68,13 @@ pub probes_string : (Z : Type 0) (k : String Z) → Probes (string_eq {Z = Z}) (
 probes_string Z k = probes_key string_eq k (lawful_string Z)
 
 -- a key that is seen by its bytes
-pub probes_by : {K : Type 0} (see : K → List ℕ) (bytes : List ℕ)
-    → Probes (on see (pointwise nat_eq)) (λ k. pointwise nat_eq bytes (see k))
-probes_by see bytes =
+pub probes_by : {K : Type 0} (bytes_of : K → List ℕ) (bytes : List ℕ)
+    → Probes (on bytes_of (pointwise nat_eq)) (λ k. pointwise nat_eq bytes (bytes_of k))
+probes_by bytes_of bytes =
     probes _ _ (record {
-      laws = on_equiv see nat_list_eq_equiv;
-      alike_keys = λ x y. alike nat_list_eq_equiv bytes (see x) (see y);
-      equal_keys = λ x y. equal nat_list_eq_equiv bytes (see x) (see y);
+      laws = on_equiv bytes_of nat_list_eq_equiv;
+      alike_keys = λ x y. alike nat_list_eq_equiv bytes (bytes_of x) (bytes_of y);
+      equal_keys = λ x y. equal nat_list_eq_equiv bytes (bytes_of x) (bytes_of y);
     })
 
 pub probes_text : (Z : Type 0) (bytes : List ℕ) → Probes (string_eq {Z = Z}) (is_text {Z = Z} bytes)
@@ -87,8 +87,8 @@ pub probes_bytes : (bytes : List ℕ) → Probes (pointwise nat_eq) (pointwise n
 probes_bytes bytes = probes_key (pointwise nat_eq) bytes lawful_bytes
 
 -- a search needs to be told of either order, since it computes the comparison
-pub bytes_turned : (xs ys : List ℕ) → pointwise nat_eq xs ys ≡ pointwise nat_eq ys xs
-bytes_turned = nat_list_eq_equiv.symm
+pub bytes_swapped : (xs ys : List ℕ) → pointwise nat_eq xs ys ≡ pointwise nat_eq ys xs
+bytes_swapped = nat_list_eq_equiv.symm
 
 pub lawful_str : Lawful str_eq
 lawful_str = lawful str_eq (on_equiv (λ s. s.now) nat_list_eq_equiv)
@@ -110,7 +110,7 @@ pub ruleset equalities = (
   probes_text,
   lawful_bytes,
   probes_bytes,
-  bytes_turned,
+  bytes_swapped,
   lawful_str,
   probes_str,
   lawful_on,

@@ -2,40 +2,32 @@
 -- comes to is in the map; the sum of a map's values after a change, and the sum of what a function makes of each value; and
 -- what a closure that changes no capture leaves of a map, and of a list of items. The ruleset `loops` of `Rules` has what
 -- the first of these need, and `caller` what the others need.
-use Rattle.std.proofs.Common.{◌≡◌, ℕ, ◌+◌, ◌<◌, ◌≤◌, Bool, true, false, ◌||◌, List, [], ◌∷◌, ◌++◌, drop, get_or}
-use Rattle.std.proofs.Common.{length, map, refl, ap, sym, subst, ◌∙◌, add-one, append_assoc, arith}
-use Rattle.std.proofs.Common.{drop-cons, lt-ltb, Option, unwrap_or, sum, sum_by, option_map, Bor, MutBor, filter}
+use Rattle.std.proofs.Common.{◌≡◌, ℕ, ◌+◌, ◌<◌, ◌≤◌, ◌||◌, [], ◌∷◌, ◌++◌, ◌∙◌, ◌-◌, add-one, ap, append_assoc, arith, drop, drop-cons, false, filter, get_or, length, lt-ltb, map, option_map, refl, subst, suc, sum, sum_by, sym, true, unwrap_or, Bool, Bor, List, MutBor, Option, Some}
 use Rattle.std.specs.Fn.{Mut}
-use Rattle.std.specs.List.{IsDistinct, FoldsTo, enumerate_from, items_where_true}
+use Rattle.std.specs.List.{enumerate_from, items_where_true, list_all, range_with_len, FoldsTo, IsDistinct}
 use Rattle.std.specs.List.Retain.{ReturnsInTurn}
 use Rattle.std.specs.Map.{keys_of, lookup, values_of}
 use Rattle.std.specs.Map.Calls.{RetainsPairs}
+use Rattle.std.specs.Option.{option_eq}
 use Rattle.std.proofs.Math.Bool.{or-true}
 use Rattle.std.proofs.lemmas.Fn.{filter_same}
-use Rattle.std.proofs.lemmas.List.{drop_all, length-append, map-append, map_push, map-id}
-use Rattle.std.proofs.lemmas.List.Sums.{sum_by_push}
-use Rattle.std.proofs.lemmas.Map.Entries.{sum_by-remove_entry, sum_by-set_value}
-use Rattle.std.proofs.lemmas.Map.Made.{IsDistinct-keys_filter, is_some-lookup, filter_same_pairs}
+use Rattle.std.proofs.lemmas.List.{drop_all, length-append, map-append, map-id, map_push}
+use Rattle.std.proofs.lemmas.List.Sums.{list_all-from_AllPass, sum_by_push}
+use Rattle.std.proofs.lemmas.Map.Entries.{lookup_from_place, sum_by-remove_entry, sum_by-set_value}
+use Rattle.std.proofs.lemmas.Map.Made.{filter_same_pairs, is_some-lookup, All-is_member, IsDistinct-keys_filter}
 use Rattle.std.proofs.lemmas.Map.Steps.{lookup-le-sum}
+use Rattle.std.proofs.lemmas.Option.{slice_get-get_or}
 use Rattle.std.proofs.lemmas.Simd.{map-map}
 use Rattle.micromap_core.specs.Build.{build, put_all}
-use Rattle.micromap_core.specs.Closures.{CalledOnPair, CalledOnValue, UpdateAllTurn, UpdateDisjointTurn}
-use Rattle.micromap_core.specs.Closures.{updated_disjoint}
+use Rattle.micromap_core.specs.Closures.{updated_disjoint, CalledOnPair, CalledOnValue, UpdateAllTurn, UpdateDisjointTurn}
 use Rattle.micromap_core.specs.Equalities.{Lawful}
-use Rattle.micromap_core.specs.Pairs.{fits, has, put, IsUnique, at, take_out}
+use Rattle.micromap_core.specs.Pairs.{at, fits, has, put, take_out, IsUnique}
+use Rattle.micromap_core.specs.Same.{has_value}
 use Rattle.micromap_core.proofs.ClosureLemmas.{seen, updated_at_keys}
 use Rattle.micromap_core.proofs.DistinctLemmas.{new_behind}
-use Rattle.micromap_core.proofs.StreamLemmas.{built_in_turn}
-use Rattle.micromap_core.proofs.Laws.Equalities.{equalities, of_lawful, Where}
+use Rattle.micromap_core.proofs.KeyedLemmas.{built_in_turn}
+use Rattle.micromap_core.proofs.Laws.Equalities.{equalities, of_lawful, Trigger}
 use Rattle.micromap_core.proofs.Laws.MapLaws.{length_put, not_fits, put_new}
-use Rattle.std.proofs.Common.{Some, suc, ◌-◌}
-use Rattle.std.specs.List.{list_all, range_with_len}
-use Rattle.std.specs.Option.{option_eq}
-use Rattle.std.proofs.lemmas.List.Sums.{list_all-from_AllPass}
-use Rattle.std.proofs.lemmas.Map.Entries.{lookup_from_place}
-use Rattle.std.proofs.lemmas.Map.Made.{All-is_member}
-use Rattle.std.proofs.lemmas.Option.{slice_get-get_or}
-use Rattle.micromap_core.specs.Same.{has_value}
 
 module _ {K V : Type 0} (eq : K → K → Bool) where
   -- with room each key fits
@@ -83,12 +75,12 @@ module _ {K V : Type 0} (eq : K → K → Bool) where
 
 -- what a loop over a list leaves: all from the index on, as they are and as a function reads them
 module _ {X : Type 0} (items : List X) (i : ℕ) where
-  pub each_left : Where (drop i items) ((length items ≤ i → drop i items ≡ [])
+  pub each_left : Trigger (drop i items) ((length items ≤ i → drop i items ≡ [])
       × ((d : X) → i < length items → drop i items ≡ get_or items i d ∷ drop (i + 1) items))
   each_left = (refl, (drop_all i items, λ d within. rw (drop-cons items i d within, add-one) refl))
 
   pub each_left_map : {Y : Type 0} (read : X → Y)
-      → Where (map read (drop i items)) ((length items ≤ i → map read (drop i items) ≡ [])
+      → Trigger (map read (drop i items)) ((length items ≤ i → map read (drop i items) ≡ [])
       × ((d : X) → i < length items
       → map read (drop i items) ≡ read (get_or items i d) ∷ map read (drop (i + 1) items)))
   each_left_map read = (
@@ -101,7 +93,7 @@ module _ {X : Type 0} (items : List X) (i : ℕ) where
 
 -- the numbers that a loop over a range has left
 pub each_range : (a b : ℕ)
-    → Where (range_with_len a (b - a))
+    → Trigger (range_with_len a (b - a))
     ((b ≤ a → range_with_len a (b - a) ≡ [])
     × (a < b → range_with_len a (b - a) ≡ a ∷ range_with_len (a + 1) (b - (a + 1))))
 each_range a b = (
@@ -161,7 +153,7 @@ module _ {K : Type 0} (eq : K → K → Bool) (pairs : List (K × ℕ)) (k : K) 
 
 -- a value is at most the sum
 pub lookup_le_sum : {K : Type 0} (test : K → Bool) (pairs : List (K × ℕ))
-    → Where (lookup test pairs) (unwrap_or (lookup test pairs) 0 ≤ sum (values_of pairs))
+    → Trigger (lookup test pairs) (unwrap_or (lookup test pairs) 0 ≤ sum (values_of pairs))
 lookup_le_sum test pairs = (refl, lookup-le-sum test pairs)
 
 pub ruleset sum_laws = (sum_by_put, sum_by_take_out, sum_put, sum_take_out, lookup_le_sum)

@@ -2,35 +2,26 @@
 -- the value, `pair` of the pair), look-ups by a key (`at`, `has`, `fits`), the number of pairs (`length`), and that keys
 -- are pairwise unequal (`unique`). `ProbedLaws` has the changes by probe. The ruleset `caller` of `Rules` has those that a
 -- search needs.
-use Rattle.std.proofs.Common.{◌≡◌, ℕ, ◌+◌, ◌||◌, Bool, true, not, List, [], ◌∷◌, ◌++◌, filter, length, reverse, Some}
-use Rattle.std.proofs.Common.{None, is_some, if◌then◌else◌, refl, ap, sym, subst, ◌∙◌, inl, inr, arith, ◌≤◌}
-use Rattle.std.proofs.Common.{false}
+use Rattle.std.proofs.Common.{◌≡◌, ℕ, ◌+◌, ◌||◌, [], ◌∷◌, ◌++◌, ◌∙◌, ◌≤◌, ap, arith, false, filter, if◌then◌else◌, inl, inr, is_some, length, not, refl, reverse, subst, sym, true, Bool, List, None, Some}
 use Rattle.std.specs.List.{fold, IsDistinct}
 use Rattle.std.specs.Map.{keys_of, lookup, lookup_entry, remove_entry, set_value}
 use Rattle.std.specs.Option.{option_map, option_map_or, option_or, unwrap_or}
 use Rattle.std.specs.Set.{distinct_count}
-use Rattle.std.proofs.lemmas.List.{reverse-append, length-append}
-use Rattle.std.proofs.lemmas.Map.Entries.{length-keys_of, option_filter, none_past_head}
-use Rattle.std.proofs.lemmas.Map.{length-set_value, lookup-none}
-use Rattle.std.proofs.lemmas.Map.Made.{IsDistinct-keys_filter, is_some-lookup}
 use Rattle.std.proofs.lemmas.Bool.{cases_Bool}
 use Rattle.std.proofs.lemmas.Bool.Decides.{nat_tests}
+use Rattle.std.proofs.lemmas.List.{length-append, reverse-append}
+use Rattle.std.proofs.lemmas.Map.{length-set_value, lookup-none}
+use Rattle.std.proofs.lemmas.Map.Entries.{length-keys_of, none_past_head, option_filter}
+use Rattle.std.proofs.lemmas.Map.Made.{is_some-lookup, IsDistinct-keys_filter}
 use Rattle.std.proofs.lemmas.Map.Steps.{set_value_same}
 use Rattle.micromap_core.specs.Build.{build, put_all, put_pair}
 use Rattle.micromap_core.specs.Equalities.{Lawful, Probes}
-use Rattle.micromap_core.specs.Pairs.{at, pair, has, put, put_key, take_out, IsUnique, fits}
-use Rattle.micromap_core.proofs.Laws.Equalities.{equalities, of_lawful, of_probes, probes_key, same_test, Where}
-use Rattle.micromap_core.proofs.DistinctLemmas.{IsDistinct-filter}
-use Rattle.micromap_core.proofs.BuildLemmas.{IsDistinct-nil, distinct-built, length-built, pairs_keyed}
-use Rattle.micromap_core.proofs.MapLemmas.{lookup-entry, push-put, push-put_key, slice_set-put_key, IsUnique-push}
-use Rattle.micromap_core.proofs.MapLemmas.{IsUnique-set, IsUnique-set_key, keys_of-put_new, keys_of-put_stored}
-use Rattle.micromap_core.proofs.MapLemmas.{entry_push, entry_set, entry_set_key, none_apart, lookup-append, entry_new}
-use Rattle.micromap_core.proofs.MapLemmas.{length-remove_entry, length-set_key, keys_removed, by_test, lookup-set}
-use Rattle.micromap_core.proofs.MapLemmas.{no_value, set_put, lookup-reverse}
-use Rattle.micromap_core.proofs.Laws.ProbedLaws.{keys_remove_entry, lookup_remove_bytes, lookup_remove_entry}
-use Rattle.micromap_core.proofs.Laws.ProbedLaws.{lookup_remove_str, lookup_remove_text}
-use Rattle.micromap_core.proofs.Laws.ProbedLaws.{remove_entry_missing, remove_entry_push}
-use Rattle.micromap_core.proofs.Laws.ProbedLaws.{set_value_missing, unique_remove_entry, unique_set_value}
+use Rattle.micromap_core.specs.Pairs.{at, fits, has, pair, put, put_key, take_out, IsUnique}
+use Rattle.micromap_core.proofs.DistinctLemmas.{IsDistinct-filter, IsDistinct-nil}
+use Rattle.micromap_core.proofs.KeyedLemmas.{distinct-built, length-built, pairs_keyed}
+use Rattle.micromap_core.proofs.Laws.Equalities.{equalities, of_lawful, of_probes, probes_key, same_test, Trigger}
+use Rattle.micromap_core.proofs.Laws.ProbedLaws.{keys_remove_entry, lookup_remove_bytes, lookup_remove_entry, lookup_remove_str, lookup_remove_text, remove_entry_missing, remove_entry_push, set_value_missing, unique_remove_entry, unique_set_value}
+use Rattle.micromap_core.proofs.MapLemmas.{by_test, entry_new, entry_push, entry_set, entry_set_key, keys_of-put_new, keys_of-put_stored, keys_removed, length-remove_entry, length-set_key, lookup-append, lookup-entry, lookup-reverse, lookup-set, no_value, none_apart, push-put, push-put_key, set_put, slice_set-put_key, IsUnique-push, IsUnique-set, IsUnique-set_key}
 
 -- by a test: the pair that is found, and its value
 module _ {K V : Type 0} (eq : K → K → Bool) (test : K → Bool) where
@@ -138,9 +129,9 @@ module _ {K V : Type 0} (eq : K → K → Bool) (test : K → Bool) where
   lookup_build items probes = grind (arith, lookup_put_all [] items probes)
 
   -- which is the only one where the items have unequal keys
-  pub lookup_put_all_unequal : (pairs items : List (K × V)) → Probes eq test → IsUnique eq items
+  pub lookup_put_all_unique : (pairs items : List (K × V)) → Probes eq test → IsUnique eq items
       → lookup test (put_all eq pairs items) ≡ option_or (lookup test items) (lookup test pairs)
-  lookup_put_all_unequal pairs items probes unequal =
+  lookup_put_all_unique pairs items probes unequal =
       lookup_put_all pairs items probes
       ∙ ap (λ o. option_or o (lookup test pairs))
       (lookup-reverse eq test (of_probes eq test probes) items unequal)
@@ -237,10 +228,10 @@ module _ {K V : Type 0} (eq : K → K → Bool) where
       → at eq (put_all eq pairs items) q ≡ option_or (at eq (reverse items) q) (at eq pairs q)
   at_put_all pairs items q laws = lookup_put_all eq (eq q) pairs items (probes_key eq q laws)
 
-  pub at_put_all_unequal : (pairs items : List (K × V)) (q : K) → Lawful eq → IsUnique eq items
+  pub at_put_all_unique : (pairs items : List (K × V)) (q : K) → Lawful eq → IsUnique eq items
       → at eq (put_all eq pairs items) q ≡ option_or (at eq items q) (at eq pairs q)
-  at_put_all_unequal pairs items q laws unequal =
-      lookup_put_all_unequal eq (eq q) pairs items (probes_key eq q laws) unequal
+  at_put_all_unique pairs items q laws unequal =
+      lookup_put_all_unique eq (eq q) pairs items (probes_key eq q laws) unequal
 
   pub has_put_all : (pairs items : List (K × V)) (q : K) → Lawful eq
       → has eq (put_all eq pairs items) q ≡ (has eq items q || has eq pairs q)
@@ -358,7 +349,7 @@ module _ {K V : Type 0} (eq : K → K → Bool) where
 
   -- a removal by a probe that matches the keys equal to a key
   pub take_out_entry : (pairs : List (K × V)) (k : K)
-      → Where (take_out eq pairs k) (take_out eq pairs k ≡ remove_entry (eq k) pairs)
+      → Trigger (take_out eq pairs k) (take_out eq pairs k ≡ remove_entry (eq k) pairs)
   unfolding take_out
   take_out_entry pairs k = (refl, refl)
 
@@ -397,12 +388,12 @@ module _ {K V : Type 0} (eq : K → K → Bool) where
 -- key of one's own equals itself
 module _ {K V : Type 0} (eq : K → K → Bool) (pairs : List (K × V)) (k : K) where
   pub each_put : (v : V) → Lawful eq
-      → Where (put eq pairs k v) ((at eq (put eq pairs k v) k ≡ Some v)
+      → Trigger (put eq pairs k v) ((at eq (put eq pairs k v) k ≡ Some v)
       × ((q : K) → at eq (put eq pairs k v) q ≡ (if eq k q then Some v else at eq pairs q)))
   each_put v laws = (refl, (at_put_same eq pairs k v laws, λ q. at_put eq pairs k v q laws))
 
   pub each_take_out : Lawful eq → IsUnique eq pairs
-      → Where (take_out eq pairs k) ((at eq (take_out eq pairs k) k ≡ None)
+      → Trigger (take_out eq pairs k) ((at eq (take_out eq pairs k) k ≡ None)
       × ((q : K) → at eq (take_out eq pairs k) q ≡ (if eq k q then None else at eq pairs q)))
   each_take_out laws unique =
       (refl, (at_take_out_same eq pairs k laws unique, λ q. at_take_out eq pairs k q laws unique))
@@ -417,7 +408,7 @@ pub ruleset map_laws = (
   has_behind,
   take_out_first,
   lookup_put_all,
-  lookup_put_all_unequal,
+  lookup_put_all_unique,
   is_some-lookup,
   pair_put,
   lookup_put,

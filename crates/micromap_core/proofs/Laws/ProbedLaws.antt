@@ -1,7 +1,6 @@
 -- For callers: what the changes of a map by probe do to each way of reading it. They are `set_value` and `remove_entry` of
 -- the standard library, which take the probe's test of keys. The ruleset `caller` of `Rules` has what a search needs.
-use Rattle.std.proofs.Common.{◌≡◌, ℕ, Bool, true, not, List, [], ◌∷◌, ◌++◌, filter, String, string_eq, None, ap, sym, subst, arith}
-use Rattle.std.proofs.Common.{Bor, bytes_eq, if◌then◌else◌}
+use Rattle.std.proofs.Common.{◌≡◌, ℕ, [], ◌∷◌, ◌++◌, ap, arith, bytes_eq, filter, if◌then◌else◌, not, string_eq, subst, sym, true, Bool, Bor, List, None, String}
 use Rattle.std.specs.List.{IsDistinct}
 use Rattle.std.specs.Map.{keys_of, lookup, remove_entry, set_value}
 use Rattle.std.proofs.lemmas.Map.{keys-set_value}

@@ -4,9 +4,10 @@ ghost use Rattle.std.specs.Prelude.{◌≡◌, ◌↔◌, ◌<◌, ◌≤◌, Li
 ghost use Rattle.std.specs.Bool.{then_some};
 ghost use Rattle.std.specs.Iterator.{Drains, IsFinite, UpTo};
 ghost use Rattle.std.specs.Map.{keys_of};
+ghost use Rattle.std.specs.Option.{unwrap_or};
 ghost use Rattle.std.specs.Set.{distinct_count};
-ghost use Rattle.micromap_core.specs.Build.{all_fit, build, count_or_refuse, most_items, put_all, put_or_refuse, put_pair_if_fits, AllItems, ItemsUpTo, MisfitIn, PutsAll, PutsBefore};
-ghost use Rattle.micromap_core.specs.Pairs.{AreContents, IsContent, IsUnique};
+ghost use Rattle.micromap_core.specs.Build.{all_fit, build, count_one, count_or_refuse, most_items, put_all, put_fitting, put_or_refuse, put_pair_if_fits, AllItems, ItemsUpTo, MisfitIn, PutsAll, PutsBefore};
+ghost use Rattle.micromap_core.specs.Pairs.{at, fits, AreContents, IsContent, IsUnique};
 
 use super::Map;
 use crate::overfull::Overfull;
@@ -75,18 +76,19 @@ impl<K: Eq + Drop, V: Drop, const N: usize> Map<K, V, N> {
     pub fn try_extend<I: Iterator<Item = (K, V)>>(&mut self, items: I) -> Result<(), Overfull>
         requires can { I.can_next items }
         requires ends { UpTo (I.remaining items) most_items }
-        ensures runs { OnOk result (AllItems I.next_gives items (PutsAll K.eq N self.old self.new)) }
-        ensures stops { IfErr result (ItemsUpTo I.next_gives items (PutsBefore K.eq N self.old self.new)) }
+        ensures whole { OnOk result (AllItems I.next_gives items (PutsAll K.eq N self.old self.new)) }
+        ensures misfit { IfErr result (ItemsUpTo I.next_gives items (PutsBefore K.eq N self.old self.new)) }
         ensures full { OnErr result (length self.new ≡ N) }
         ensures content { AreContents K.eq N self.old self.new }
     {
-        let _content = self.len();
-        let mut at = 0;
+        // What is true of the map, for the contract: `len` ensures it.
+        let _known = self.len();
+        let mut position = 0;
         for (key, value) in items {
             if !self.put(key, value) {
-                return Err(Overfull { at });
+                return Err(Overfull { at: position });
             }
-            at += 1;
+            position += 1;
         }
         Ok(())
     }
@@ -100,8 +102,8 @@ impl<K: Eq + Drop, V: Drop, const N: usize> Map<K, V, N> {
     pub fn try_from_iter<I: Iterator<Item = (K, V)>>(items: I) -> Result<Self, Overfull>
         requires can { I.can_next items }
         requires ends { UpTo (I.remaining items) most_items }
-        ensures runs { IfOk result (λ map. AllItems I.next_gives items (PutsAll K.eq N [] map)) }
-        ensures stops { IfErr result (ItemsUpTo I.next_gives items (MisfitIn K.eq N [])) }
+        ensures whole { IfOk result (λ map. AllItems I.next_gives items (PutsAll K.eq N [] map)) }
+        ensures misfit { IfErr result (ItemsUpTo I.next_gives items (MisfitIn K.eq N [])) }
         ensures few { OnOk result
             (AllItems I.next_gives items (λ taken. distinct_count K.eq (keys_of taken) ≤ N)) }
         ensures many { IfErr result
@@ -120,12 +122,12 @@ impl<K: Eq + Drop, V: Drop, const N: usize> Map<K, V, N> {
     fn put_fitting<I: Iterator<Item = (K, V)>>(&mut self, items: I) -> bool
         requires can { I.can_next items }
         requires ends { IsFinite (I.remaining items) }
-        ensures ran { (xs : List (K × V)) × (⊤ → Drains I.next_gives items xs)
+        ensures built { (xs : List (K × V)) × (⊤ → Drains I.next_gives items xs)
             × (then_some result self.new ≡ fold (put_or_refuse K.eq N) (Some self.old) xs)
             × (self.new ≡ fold (put_pair_if_fits K.eq N) self.old xs) }
         ensures content { AreContents K.eq N self.old self.new }
     {
-        let _content = self.len();
+        let _known = self.len();
         let mut all_fit = true;
         for (key, value) in items {
             all_fit &= self.put(key, value);
@@ -141,7 +143,7 @@ impl<K: Eq + Drop, V: Drop, const N: usize> Map<K, V, N> {
     pub fn from_all<I: Iterator<Item = (K, V)>>(items: I) -> Option<Self>
         requires can { I.can_next items }
         requires ends { IsFinite (I.remaining items) }
-        ensures ran { (xs : List (K × V)) × (⊤ → Drains I.next_gives items xs)
+        ensures built { (xs : List (K × V)) × (⊤ → Drains I.next_gives items xs)
             × (result ≡ fold (put_or_refuse K.eq N) (Some []) xs) }
         ensures content { IfSome result (IsContent K.eq N) }
     {
@@ -160,7 +162,7 @@ impl<K: Eq + Drop, V: Drop, const N: usize> Map<K, V, N> {
     pub fn from_fitting<I: Iterator<Item = (K, V)>>(items: I) -> Self
         requires can { I.can_next items }
         requires ends { IsFinite (I.remaining items) }
-        ensures ran { (xs : List (K × V)) × (⊤ → Drains I.next_gives items xs)
+        ensures built { (xs : List (K × V)) × (⊤ → Drains I.next_gives items xs)
             × (result ≡ fold (put_pair_if_fits K.eq N) [] xs) }
         ensures content { IsContent K.eq N result }
     {
@@ -188,15 +190,14 @@ impl<K: Eq + Copy, V: Copy, const N: usize> Map<K, V, N> {
     pub fn try_extend_from<const M: usize>(&mut self, other: &Map<K, V, M>) -> Result<(), Overfull>
         ensures pairs { OnOk result (self.new ≡ put_all K.eq self.old other.now) }
         ensures many { IsErr result ↔ (N < length (put_all K.eq self.old other.now)) }
-        ensures stops { IfErr result (λ e. MisfitIn K.eq N self.old other.now e.at) }
+        ensures misfit { IfErr result (λ e. MisfitIn K.eq N self.old other.now e.at) }
         ensures unchanged { OnErr result (self.new ≡ self.old) }
         ensures content { AreContents K.eq N self.old self.new }
     {
-        let _content = self.len();
         let mut all = self.copied();
         let mut position = 0;
         for (key, value) in other {
-            if all.checked_insert(*key, *value).is_none() {
+            if !all.put(*key, *value) {
                 return Err(Overfull { at: position });
             }
             position += 1;
@@ -222,19 +223,37 @@ impl<K: Eq + Drop, const N: usize> Map<K, usize, N> {
     pub fn counts_of<I: Iterator<Item = K>>(items: I) -> Option<Self>
         requires can { I.can_next items }
         requires ends { UpTo (I.remaining items) most_items }
-        ensures ran { (xs : List K) × (⊤ → Drains I.next_gives items xs)
+        ensures built { (xs : List K) × (⊤ → Drains I.next_gives items xs)
             × (result ≡ fold (count_or_refuse K.eq N) (Some []) xs) }
         ensures content { IfSome result (IsContent K.eq N) }
     {
         let mut counts = Map::new();
         let mut all_fit = true;
         for item in items {
-            match counts.index_of(&item) {
-                Some(index) => *counts.value_at_mut(index) += 1,
-                None if counts.has_room() => counts.push_pair(item, 1),
-                None => all_fit = false,
-            }
+            all_fit &= counts.count(item);
         }
         if all_fit { Some(counts) } else { None }
+    }
+
+    // Counts the item if it fits, and returns whether it does.
+    #[inline]
+    #[tactic(auto, using(crate::proofs::Opened::opened_map))]
+    fn count(&mut self, item: K) -> bool
+        requires { unwrap_or (at K.eq self.old item) 0 ≤ most_items }
+        ensures answer { result ≡ fits K.eq N self.old item }
+        ensures counts { self.new ≡ put_fitting (fits K.eq N) (count_one K.eq) self.old item }
+        ensures content { IsContent K.eq N self.new }
+    {
+        match self.index_of(&item) {
+            Some(index) => {
+                *self.value_at_mut(index) += 1;
+                true
+            }
+            None if self.has_room() => {
+                self.push_pair(item, 1);
+                true
+            }
+            None => false,
+        }
     }
 }

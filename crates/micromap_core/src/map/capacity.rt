@@ -19,10 +19,8 @@ impl<K: Eq + Drop, V: Drop, const N: usize> Map<K, V, N> {
             return Err(self);
         }
         let Map { pairs } = self;
-        let map = Map {
+        Ok(Map {
             pairs: pairs.into_capacity(),
-        };
-        let _content = map.len();
-        Ok(map)
+        })
     }
 }

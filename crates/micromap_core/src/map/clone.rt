@@ -2,11 +2,11 @@
 ghost use Rattle.std.specs.Prelude.{◌≡◌, ◌≤◌, All, IsFalse, IsOk, IfOk};
 ghost use Rattle.std.specs.List.{AllZip};
 ghost use Rattle.std.specs.Set.{ClonesAreEqual};
-ghost use Rattle.micromap_core.specs.Clones.{AreIdentical, IsPairClone};
+ghost use Rattle.micromap_core.specs.Clones.{AreIdentical, IsEqualClone, IsPairClone};
 ghost use Rattle.micromap_core.specs.Pairs.{IsContent};
 
 use super::Map;
-use micromap_walk::slot::hint_equal;
+use micromap_walk::hint;
 use std::alloc::AllocError;
 
 impl<K: Eq + Clone + Drop, V: Clone + Drop, const N: usize> Map<K, V, N> {
@@ -41,16 +41,12 @@ impl<K: Eq + Clone + Drop, V: Clone + Drop, const N: usize> Map<K, V, N> {
         for index in 0..clone_turns::<N>(len) {
             if index < len {
                 let (key, value) = self.pair_at(index);
-                let new_key = key.clone()?;
+                let key = clone_of_key(key, compares)?;
                 let value = value.clone()?;
-                if compares && *key != new_key {
-                    return Err(AllocError);
-                }
-                hint_equal(map.len(), index);
-                map.pairs.push(new_key, value);
+                hint::equal(map.len(), index);
+                map.pairs.push(key, value);
             }
         }
-        let _content = map.len();
         Ok(map)
     }
 }
@@ -63,11 +59,9 @@ impl<K: Eq + Copy, V: Copy, const N: usize> Map<K, V, N> {
         ensures answer { result ≡ self.now }
         ensures content { IsContent K.eq N result }
     {
-        let copy = Map {
+        Map {
             pairs: self.pairs.copied(),
-        };
-        let _content = copy.len();
-        copy
+        }
     }
 }
 
@@ -81,6 +75,20 @@ impl<K: Eq + Clone, V: Clone, const N: usize> Clone for Map<K, V, N> {
     fn clone(&self) -> Result<Self, AllocError> {
         self.cloned(true)
     }
+}
+
+// Returns the clone of a key. With `compares` a clone that isn't equal to the key is an `Err`.
+#[inline]
+fn clone_of_key<K: Eq + Clone + Drop>(key: &K, compares: bool) -> Result<K, AllocError>
+    requires { IsFalse compares → ClonesAreEqual K.eq K.is_clone }
+    ensures clone { IfOk result (IsEqualClone K.eq K.is_clone key.now) }
+    ensures succeeds { ClonesAreEqual K.eq K.is_clone → K.is_infallible key.now → IsOk result }
+{
+    let new_key = key.clone()?;
+    if compares && *key != new_key {
+        return Err(AllocError);
+    }
+    Ok(new_key)
 }
 
 // The number of turns in which `len` pairs are cloned. With at most 16 slots it is `N`, and each turn tests the length, so

@@ -23,9 +23,7 @@ impl<K: Eq + Drop, V: Drop, const N: usize> Map<K, V, N> {
         ensures shorter { length self.new ≤ length self.old }
         ensures content { AreContents K.eq N self.old self.new }
     {
-        let _before = self.len();
         self.pairs.retain(keep);
-        let _after = self.len();
     }
 }
 
@@ -33,16 +31,13 @@ impl<K: Eq, V, const N: usize> Map<K, V, N> {
     /// Calls `update` on each key and its value, from front to end.
     ///
     /// Keys, order and length stay. Compares no key.
-    pub fn update_all<F: FnMut(&K, &mut V)>(&mut self, mut update: F)
+    pub fn update_all<F: FnMut(&K, &mut V)>(&mut self, update: F)
         requires { MayUpdateAll F.FnMut update self.old }
         ensures pairs { UpdatesAll F.FnMut update self.old self.new }
         ensures same_keys { keys_of self.new ≡ keys_of self.old }
         ensures content { AreContents K.eq N self.old self.new }
     {
-        for index in 0..self.len() {
-            self.visit_at(index, &mut update);
-        }
-        let _after = self.len();
+        self.pairs.update_all(update);
     }
 
     /// Calls `update` on the value of each of `keys` that is stored, and returns which of them are stored.
@@ -69,7 +64,8 @@ impl<K: Eq, V, const N: usize> Map<K, V, N> {
         ensures same_keys { keys_of self.new ≡ keys_of self.old }
         ensures content { AreContents K.eq N self.old self.new }
     {
-        let _content = self.len();
+        // What is true of the map, for the contract: `len` ensures it.
+        let _known = self.len();
         let mut found = [false; J];
         for (position, key) in keys.iter().enumerate() {
             found[position] = match self.get_mut(key) {
@@ -80,7 +76,6 @@ impl<K: Eq, V, const N: usize> Map<K, V, N> {
                 None => false,
             };
         }
-        let _after = self.len();
         found
     }
 }

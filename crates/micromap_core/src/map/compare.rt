@@ -26,7 +26,6 @@ impl<K: Eq, V: Eq, const N: usize> Map<K, V, N> {
         ensures each { IsTrue result ↔ ((k : K) → IsTrue (same_at K.eq V.eq self.now other.now k)) }
         ensures told_apart { IsFalse result ↔ ToldApart K.eq V.eq N M self.now other.now }
         ensures outlasts { OnTrue result (SameForGood K.eq V.eq N M self.now other.now) }
-        ensures content { IsContent K.eq N self.now × IsContent K.eq M other.now }
     {
         // Both have the same number of keys, and `other` has each key of this map. So `other` has no other key.
         let lengths = (self.len(), other.len());
@@ -48,10 +47,9 @@ impl<K: Eq, V: Eq, const N: usize> Map<K, V, N> {
         ensures answer { option_copied result ≡ first_difference K.eq V.eq self.now other.now }
         ensures none { IsNone result ↔ Same K.eq V.eq self.now other.now }
         ensures differs { IfSome result (λ k. IsFalse (same_at K.eq V.eq self.now other.now k.now)) }
-        ensures content { IsContent K.eq N self.now × IsContent K.eq M other.now }
     {
-        // `len` ensures what is true of each map's content.
-        let _contents = (self.len(), other.len());
+        // What is true of the other map, for the contract: `len` ensures it.
+        let _known = other.len();
         match self.first_unequal(other) {
             Some(key) => Some(key),
             None => other.first_missing(self),
@@ -60,7 +58,8 @@ impl<K: Eq, V: Eq, const N: usize> Map<K, V, N> {
 
     // Returns a reference to the first key that `other` lacks or has with an unequal value.
     fn first_unequal<const M: usize>(&self, other: &Map<K, V, M>) -> Option<&K>
-        ensures { option_copied result ≡ first_unequal K.eq V.eq self.now other.now }
+        ensures answer { option_copied result ≡ first_unequal K.eq V.eq self.now other.now }
+        ensures content { IsContent K.eq N self.now }
     {
         for (key, value) in self {
             if other.get(key) != Some(value) {

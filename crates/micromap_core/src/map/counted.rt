@@ -4,7 +4,7 @@ ghost use Rattle.std.specs.Bool.{OnTrue};
 ghost use Rattle.std.specs.List.{list_all};
 ghost use Rattle.std.specs.Option.{option_copied};
 ghost use Rattle.micromap_core.specs.Fair.{SameForGood, ToldApart};
-ghost use Rattle.micromap_core.specs.Pairs.{IsContent, at, index_of};
+ghost use Rattle.micromap_core.specs.Pairs.{at, index_of};
 ghost use Rattle.micromap_core.specs.Same.{Same, has_value};
 ghost use Rattle.micromap_core.specs.Steps.{look_up_steps, walk_steps, comparison_steps};
 
@@ -21,9 +21,7 @@ impl<K: Eq, V, const N: usize> Map<K, V, N> {
         ensures answer { option_copied result ≡ at K.eq self.now key.now }
         ensures count { steps.new ≡ steps.old + look_up_steps K.eq self.now key.now }
         ensures bounded { steps.new ≤ steps.old + length self.now }
-        ensures content { IsContent K.eq N self.now }
     {
-        let _content = self.len();
         let index = self.index_counted(key, steps)?;
         Some(self.pair_at(index).1)
     }
@@ -34,10 +32,8 @@ impl<K: Eq, V, const N: usize> Map<K, V, N> {
         ensures index { result ≡ index_of K.eq self.now key.now }
         ensures count { steps.new ≡ steps.old + look_up_steps K.eq self.now key.now }
     {
-        let keys = self.keys();
-        let _bounded = keys.len();
         let mut index = 0;
-        for stored in keys {
+        for stored in self.keys() {
             if steps.same(key, stored) {
                 return Some(index);
             }
@@ -60,7 +56,6 @@ impl<K: Eq, V: Eq, const N: usize> Map<K, V, N> {
         ensures outlasts { OnTrue result (SameForGood K.eq V.eq N M self.now other.now) }
         ensures count { steps.new ≡ steps.old + comparison_steps K.eq V.eq self.now other.now }
         ensures bounded { steps.new ≤ steps.old + length self.now * length self.now }
-        ensures content { IsContent K.eq N self.now × IsContent K.eq M other.now }
     {
         let lengths = (self.len(), other.len());
         lengths.0 == lengths.1 && self.is_within_counted(other, steps)

@@ -6,7 +6,6 @@ ghost use Rattle.std.specs.Borrow.{sem};
 ghost use Rattle.std.specs.Map.{lookup, lookup_entry, remove_entry};
 ghost use Rattle.std.specs.Map.Iter.{deref_pair};
 ghost use Rattle.std.specs.Option.{IfSome, option_map};
-ghost use Rattle.micromap_core.specs.Closures.{AcceptsPair, VisitsAt};
 ghost use Rattle.micromap_core.specs.Found.{FoundAt, NotFound};
 ghost use Rattle.micromap_core.specs.Lends.{lends_value_at};
 ghost use Rattle.micromap_core.specs.Pairs.{AreContents, IsContent, at, first_index, has_room, index_of, pair, put, put_key, with_value_at, without_at};
@@ -25,10 +24,8 @@ impl<K: Eq, V, const N: usize> Map<K, V, N> {
         ensures missing { IfNone result (NotFound (P.matches probe.now) self.now) }
         ensures content { IsContent K.eq N self.now }
     {
-        let keys = self.keys();
-        let _content = self.len();
         let mut index = 0;
-        for key in keys {
+        for key in self.keys() {
             if probe.matches(key) {
                 return Some(index);
             }
@@ -81,22 +78,7 @@ impl<K: Eq, V, const N: usize> Map<K, V, N> {
         ensures value { option_map (λ p. p.1) (slice_get self.old index) ≡ Some result.now }
         ensures content { (v : V) → IsContent K.eq N (with_value_at self.old index v) }
     {
-        let _content = self.len();
         self.pairs.value_at_mut(index)
-    }
-
-    /// Calls `visit` on the pair at `index`.
-    #[inline]
-    pub(crate) fn visit_at<R, F: FnMut(&K, &mut V) -> R>(
-        &mut self,
-        index: usize,
-        visit: &mut F,
-    ) -> R
-        requires within { index < length self.old }
-        requires callable { IfSome (slice_get self.old index) (λ p. AcceptsPair F.FnMut visit.old p.0 p.1) }
-        ensures { VisitsAt F.FnMut visit.old self.old index result visit.new self.new }
-    {
-        self.pairs.visit_at(index, visit)
     }
 
     /// Sets the value at `index`, and returns the old value.
@@ -118,9 +100,7 @@ impl<K: Eq, V, const N: usize> Map<K, V, N> {
         ensures pairs { self.new ≡ put_key K.eq self.old key value }
         ensures content { IsContent K.eq N self.new }
     {
-        let old = self.pairs.replace_at(index, key, value);
-        let _content = self.len();
-        old
+        self.pairs.replace_at(index, key, value)
     }
 }
 
@@ -136,7 +116,6 @@ impl<K: Eq + Drop, V: Drop, const N: usize> Map<K, V, N> {
         ensures content { IsContent K.eq N self.new }
     {
         self.pairs.push(key, value);
-        let _content = self.len();
     }
 
     /// Removes and returns the first pair whose key the probe matches. Those behind it move up by one.
@@ -159,8 +138,6 @@ impl<K: Eq + Drop, V: Drop, const N: usize> Map<K, V, N> {
         ensures pairs { self.new ≡ without_at self.old index }
         ensures content { IsContent K.eq N self.new }
     {
-        let pair = self.pairs.remove(index);
-        let _content = self.len();
-        pair
+        self.pairs.remove(index)
     }
 }

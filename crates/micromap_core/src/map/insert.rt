@@ -88,9 +88,12 @@ impl<K: Eq + Drop, V: Drop, const N: usize> Map<K, V, N> {
         }
     }
 
-    // Inserts the pair if it fits, and returns whether it did.
+    /// Inserts the pair if it fits, and returns `true` if it did.
+    ///
+    /// A stored key stays, and its value is replaced, in a full map too. A new pair goes last. A pair with a new key
+    /// doesn't fit a full map: then the map is unchanged, and the key and the value are dropped. Makes one scan.
     #[inline]
-    pub(crate) fn put(&mut self, key: K, value: V) -> bool
+    pub fn put(&mut self, key: K, value: V) -> bool
         ensures answer { result ≡ fits K.eq N self.old key }
         ensures pairs { self.new ≡ put_if_fits K.eq N self.old key value }
         ensures content { AreContents K.eq N self.old self.new }

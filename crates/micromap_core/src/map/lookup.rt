@@ -5,7 +5,7 @@ ghost use Rattle.std.specs.Prelude.{◌≡◌, ◌-◌, length, Some, IsTrue, sl
 ghost use Rattle.std.specs.Borrow.{sem};
 ghost use Rattle.std.specs.Map.Iter.{deref_pair};
 ghost use Rattle.std.specs.Option.{option_copied, option_copied_mut, option_map};
-ghost use Rattle.micromap_core.specs.Pairs.{IsContent, at, pair, has, fits};
+ghost use Rattle.micromap_core.specs.Pairs.{at, pair, has, fits};
 ghost use Rattle.micromap_core.specs.Lends.{lends_at, lends_at_if};
 
 use super::Map;
@@ -19,7 +19,6 @@ impl<K: Eq, V, const N: usize> Map<K, V, N> {
     #[inline]
     pub fn get(&self, key: &K) -> Option<&V>
         ensures answer { option_copied result ≡ at K.eq self.now key.now }
-        ensures content { IsContent K.eq N self.now }
     {
         let index = self.index_of(key)?;
         Some(self.pair_at(index).1)
@@ -32,7 +31,6 @@ impl<K: Eq, V, const N: usize> Map<K, V, N> {
     pub fn get_mut(&mut self, key: &K) -> Option<&mut V>
         ensures* writes_back { sem 𝓛 (lends_at_if K.row V.row N.row K.eq self.entry key.now result) }
         ensures answer { option_copied_mut result ≡ at K.eq self.old key.now }
-        ensures content { IsContent K.eq N self.old }
     {
         match self.index_of(key) {
             Some(index) => Some(self.value_at_mut(index)),
@@ -44,7 +42,6 @@ impl<K: Eq, V, const N: usize> Map<K, V, N> {
     #[inline]
     pub fn get_key_value(&self, key: &K) -> Option<(&K, &V)>
         ensures answer { option_map deref_pair result ≡ pair K.eq self.now key.now }
-        ensures content { IsContent K.eq N self.now }
     {
         let index = self.index_of(key)?;
         Some(self.pair_at(index))
@@ -54,7 +51,6 @@ impl<K: Eq, V, const N: usize> Map<K, V, N> {
     #[inline]
     pub fn first(&self) -> Option<(&K, &V)>
         ensures answer { option_map deref_pair result ≡ slice_get self.now 0 }
-        ensures content { IsContent K.eq N self.now }
     {
         match self.len() {
             0 => None,
@@ -66,7 +62,6 @@ impl<K: Eq, V, const N: usize> Map<K, V, N> {
     #[inline]
     pub fn last(&self) -> Option<(&K, &V)>
         ensures answer { option_map deref_pair result ≡ slice_get self.now (length self.now - 1) }
-        ensures content { IsContent K.eq N self.now }
     {
         match self.len() {
             0 => None,
@@ -78,7 +73,6 @@ impl<K: Eq, V, const N: usize> Map<K, V, N> {
     #[inline]
     pub fn contains_key(&self, key: &K) -> bool
         ensures answer { result ≡ has K.eq self.now key.now }
-        ensures content { IsContent K.eq N self.now }
     {
         self.index_of(key).is_some()
     }
@@ -89,7 +83,6 @@ impl<K: Eq, V, const N: usize> Map<K, V, N> {
     #[inline]
     pub fn fits(&self, key: &K) -> bool
         ensures answer { result ≡ fits K.eq N self.now key.now }
-        ensures content { IsContent K.eq N self.now }
     {
         self.has_room() || self.contains_key(key)
     }
@@ -101,7 +94,6 @@ impl<K: Eq, V, const N: usize> Map<K, V, N> {
     pub fn index(&self, key: &K) -> &V
         requires { IsTrue (has K.eq self.now key.now) }
         ensures answer { at K.eq self.now key.now ≡ Some result.now }
-        ensures content { IsContent K.eq N self.now }
     {
         match self.index_of(key) {
             Some(index) => self.pair_at(index).1,
@@ -118,9 +110,11 @@ impl<K: Eq, V, const N: usize> Map<K, V, N> {
         requires { IsTrue (has K.eq self.old key.now) }
         ensures* writes_back { sem 𝓛 (lends_at K.row V.row N.row K.eq self.entry key.now result) }
         ensures answer { at K.eq self.old key.now ≡ Some result.now }
-        ensures content { IsContent K.eq N self.old }
     {
-        self.index_mut_by(key)
+        match self.index_of(key) {
+            Some(index) => self.value_at_mut(index),
+            None => unreachable!(),
+        }
     }
 }
 
@@ -129,7 +123,6 @@ impl<K: Eq, V: Copy, const N: usize> Map<K, V, N> {
     #[inline]
     pub fn get_or(&self, key: &K, default: V) -> V
         ensures answer { result ≡ unwrap_or (at K.eq self.now key.now) default }
-        ensures content { IsContent K.eq N self.now }
     {
         self.get(key).copied().unwrap_or(default)
     }
@@ -156,7 +149,6 @@ impl<'k, K: Eq, V, const N: usize> IndexMut<&'k K> for Map<K, V, N> {
         requires { IsTrue (has K.eq self.old key.now) }
         ensures* writes_back { sem 𝓛 (lends_at K.row V.row N.row K.eq self.entry key.now result) }
         ensures answer { at K.eq self.old key.now ≡ Some result.now }
-        ensures content { IsContent K.eq N self.old }
     {
         self.index_mut(key)
     }

@@ -6,7 +6,7 @@ ghost use Rattle.std.specs.Map.{lookup, lookup_entry, remove_entry};
 ghost use Rattle.std.specs.Map.Iter.{deref_pair};
 ghost use Rattle.std.specs.Option.{option_copied, option_copied_mut, option_map};
 ghost use Rattle.micromap_core.specs.Lends.{lends_matched, lends_matched_if};
-ghost use Rattle.micromap_core.specs.Pairs.{AreContents, IsContent, fits_by};
+ghost use Rattle.micromap_core.specs.Pairs.{AreContents, fits_by};
 
 use super::Map;
 use crate::probe::Probe;
@@ -22,7 +22,6 @@ impl<K: Eq, V, const N: usize> Map<K, V, N> {
     #[inline]
     pub fn get_by<P: Probe<K>>(&self, probe: &P) -> Option<&V>
         ensures answer { option_copied result ≡ lookup (P.matches probe.now) self.now }
-        ensures content { IsContent K.eq N self.now }
     {
         let (_, value) = self.find(probe)?;
         Some(value)
@@ -36,7 +35,6 @@ impl<K: Eq, V, const N: usize> Map<K, V, N> {
         ensures* writes_back { sem 𝓛 (lends_matched_if K.row V.row N.row K.eq self.entry
             (P.matches probe.now) result) }
         ensures answer { option_copied_mut result ≡ lookup (P.matches probe.now) self.old }
-        ensures content { IsContent K.eq N self.old }
     {
         match self.index_of(probe) {
             Some(index) => Some(self.value_at_mut(index)),
@@ -48,7 +46,6 @@ impl<K: Eq, V, const N: usize> Map<K, V, N> {
     #[inline]
     pub fn get_key_value_by<P: Probe<K>>(&self, probe: &P) -> Option<(&K, &V)>
         ensures answer { option_map deref_pair result ≡ lookup_entry (P.matches probe.now) self.now }
-        ensures content { IsContent K.eq N self.now }
     {
         self.find(probe)
     }
@@ -57,7 +54,6 @@ impl<K: Eq, V, const N: usize> Map<K, V, N> {
     #[inline]
     pub fn contains_key_by<P: Probe<K>>(&self, probe: &P) -> bool
         ensures answer { result ≡ is_some (lookup (P.matches probe.now) self.now) }
-        ensures content { IsContent K.eq N self.now }
     {
         self.find(probe).is_some()
     }
@@ -68,7 +64,6 @@ impl<K: Eq, V, const N: usize> Map<K, V, N> {
     #[inline]
     pub fn fits_by<P: Probe<K>>(&self, probe: &P) -> bool
         ensures answer { result ≡ fits_by (P.matches probe.now) N self.now }
-        ensures content { IsContent K.eq N self.now }
     {
         self.has_room() || self.contains_key_by(probe)
     }
@@ -80,7 +75,6 @@ impl<K: Eq, V, const N: usize> Map<K, V, N> {
     pub fn index_by<P: Probe<K>>(&self, probe: &P) -> &V
         requires { IsTrue (is_some (lookup (P.matches probe.now) self.now)) }
         ensures answer { lookup (P.matches probe.now) self.now ≡ Some result.now }
-        ensures content { IsContent K.eq N self.now }
     {
         match self.find(probe) {
             Some((_, value)) => value,
@@ -98,7 +92,6 @@ impl<K: Eq, V, const N: usize> Map<K, V, N> {
         ensures* writes_back { sem 𝓛 (lends_matched K.row V.row N.row K.eq self.entry
             (P.matches probe.now) result) }
         ensures answer { lookup (P.matches probe.now) self.old ≡ Some result.now }
-        ensures content { IsContent K.eq N self.old }
     {
         match self.index_of(probe) {
             Some(index) => self.value_at_mut(index),
@@ -112,7 +105,6 @@ impl<K: Eq, V: Copy, const N: usize> Map<K, V, N> {
     #[inline]
     pub fn get_or_by<P: Probe<K>>(&self, probe: &P, default: V) -> V
         ensures answer { result ≡ unwrap_or (lookup (P.matches probe.now) self.now) default }
-        ensures content { IsContent K.eq N self.now }
     {
         self.get_by(probe).copied().unwrap_or(default)
     }

@@ -16,7 +16,6 @@ impl<K: Eq, V, const N: usize> Map<K, V, N> {
         ensures faultless { OnOk result (Faultless S.faults S.last_fault sink.old sink.new) }
         ensures beginning { OnErr result (TakesBeginning (S.taken sink.old) self.now (S.taken sink.new)) }
         ensures fault { IfErr result (Faults S.faults S.last_fault sink.old sink.new) }
-        ensures content { IsContent K.eq N self.now }
     {
         for (key, value) in self {
             sink.entry(key, value)?;
@@ -47,10 +46,7 @@ impl<K: Eq + Drop, V: Drop, const N: usize> Map<K, V, N> {
                         return Err(ReadFault::TooMany);
                     }
                 }
-                Ok(None) => {
-                    let _content = map.len();
-                    return Ok(map);
-                }
+                Ok(None) => return Ok(map),
                 Err(fault) => return Err(ReadFault::Source(fault)),
             }
         }

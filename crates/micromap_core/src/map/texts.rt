@@ -16,13 +16,10 @@ impl<V: Drop, const N: usize> Map<String, V, N> {
         ensures answer { result ≡ key_texts self }
         ensures content { IsContent bytes_eq N result }
     {
-        let _content = self.len();
-        let Map { pairs } = self;
-        let texts = Map {
-            pairs: pairs.converted_keys(),
-        };
-        let _content = texts.len();
-        texts
+        let Map { pairs: strings } = self;
+        Map {
+            pairs: strings.converted_keys(),
+        }
     }
 }
 
@@ -34,12 +31,9 @@ impl<V: Drop, const N: usize> Map<TextBuf, V, N> {
         ensures answer { key_texts result ≡ self }
         ensures content { IsContent string_eq N result }
     {
-        let _content = self.len();
-        let Map { pairs } = self;
-        let strings = Map {
-            pairs: pairs.converted_keys(),
-        };
-        let _content = strings.len();
-        strings
+        let Map { pairs: texts } = self;
+        Map {
+            pairs: texts.converted_keys(),
+        }
     }
 }

@@ -21,7 +21,6 @@ impl<K: Eq, V, const N: usize> Map<K, V, N> {
         ensures runs { ShowsInOrder (deref_pair {K = K} {X = V}) }
         ensures content { IsContent K.eq N self.now }
     {
-        let _content = self.len();
         let (keys, values) = self.pairs.as_slices();
         Iter::over(keys, values)
     }
@@ -33,7 +32,6 @@ impl<K: Eq, V, const N: usize> Map<K, V, N> {
         ensures runs { ShowsInOrder (deref {X = K}) }
         ensures content { IsContent K.eq N self.now }
     {
-        let _content = self.len();
         Keys::over(self.pairs.keys())
     }
 
@@ -44,11 +42,10 @@ impl<K: Eq, V, const N: usize> Map<K, V, N> {
         ensures runs { ShowsInOrder (deref {X = V}) }
         ensures content { IsContent K.eq N self.now }
     {
-        let _content = self.len();
         Values::over(self.pairs.values())
     }
 
-    /// Returns an iterator over the keys by value, from the front. Pairs that aren't taken are dropped with it.
+    /// Returns an iterator over the keys by value, from the front.
     ///
     /// A caller that is generic in `K` and `V` requires `IntoKeysFits K.row V.row N.row`.
     #[inline]
@@ -57,13 +54,12 @@ impl<K: Eq, V, const N: usize> Map<K, V, N> {
         ensures runs { GivesInOrder K }
         ensures content { IsContent K.eq N self }
     {
-        let _content = self.len();
         let Map { pairs } = self;
         let (keys, values) = pairs.into_array_vecs();
         IntoKeys::over(keys, values)
     }
 
-    /// Returns an iterator over the values by value, from the front. Pairs that aren't taken are dropped with it.
+    /// Returns an iterator over the values by value, from the front.
     ///
     /// A caller that is generic in `K` and `V` requires `IntoValuesFits K.row V.row N.row`.
     #[inline]
@@ -72,7 +68,6 @@ impl<K: Eq, V, const N: usize> Map<K, V, N> {
         ensures runs { GivesInOrder V }
         ensures content { IsContent K.eq N self }
     {
-        let _content = self.len();
         let Map { pairs } = self;
         let (keys, values) = pairs.into_array_vecs();
         IntoValues::over(keys, values)
@@ -91,15 +86,12 @@ impl<K: Eq + Drop, V: Drop, const N: usize> Map<K, V, N> {
         ensures runs { GivesInOrder (K × V) }
         ensures content { AreContents K.eq N self.old self.new }
     {
-        let _content = self.len();
-        let taken = mem::take(self);
-        let _after = self.len();
-        taken.into_iter()
+        mem::take(self).into_iter()
     }
 }
 
-/// A loop over a map yields its pairs by value, from the front. Pairs that aren't taken are dropped with the iterator. A
-/// caller that is generic in `K` and `V` requires `IntoIterFits K.row V.row N.row`.
+/// A loop over a map yields its pairs by value, from the front. A caller that is generic in `K` and `V` requires
+/// `IntoIterFits K.row V.row N.row`.
 impl<K: Eq + Drop, V: Drop, const N: usize> IntoIterator for Map<K, V, N> {
     type Item = (K, V);
 
@@ -108,7 +100,6 @@ impl<K: Eq + Drop, V: Drop, const N: usize> IntoIterator for Map<K, V, N> {
     ghost into_iter_gives = { λ m walk. (walk ≡ m) × GivesInOrder (K × V) × IsContent K.eq N m };
 
     fn into_iter(self) -> IntoIter<K, V, N> {
-        let _content = self.len();
         let Map { pairs } = self;
         let (keys, values) = pairs.into_array_vecs();
         IntoIter::over(keys, values)

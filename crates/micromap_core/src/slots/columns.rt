@@ -8,12 +8,12 @@ ghost use Rattle.std.specs.Map.{keys_of, values_of};
 ghost use Rattle.std.specs.Map.Calls.{CallableOnEachPair, RetainsPairs};
 ghost use Rattle.std.specs.Option.{IfSome, option_map};
 ghost use Rattle.micromap_walk.specs.Filled.{items_of, AreFilled};
-ghost use Rattle.micromap_core.specs.Closures.{AcceptsPair, CalledOnPair, VisitsAt};
+ghost use Rattle.micromap_core.specs.Closures.{AcceptsPair, CalledOnPair, MayUpdateAll, UpdatesAll, VisitsAt};
 ghost use Rattle.micromap_core.specs.Lends.{lends_value_in};
 
 use super::Slots;
 use arrayvec::ArrayVec;
-use micromap_walk::slot::{hint_at_most, hint_below, hint_equal};
+use micromap_walk::hint;
 use std::marker::Model;
 use std::mem;
 
@@ -66,7 +66,7 @@ impl<K, V, const N: usize> Columns<K, V, N> {
         ensures items { items_of result.now ≡ keys_of self.now }
     {
         if mem::size_of_val(&self.keys) <= MOST_UNROLLED {
-            hint_at_most(self.keys.len(), N);
+            hint::at_most(self.keys.len(), N);
         }
         self.keys.as_slice()
     }
@@ -89,8 +89,8 @@ impl<K, V, const N: usize> Columns<K, V, N> {
         ensures pairs { zip (items_of result.0.now) (items_of result.1.now) ≡ self.now }
     {
         let len = self.len();
-        hint_equal(self.values.len(), len);
-        hint_at_most(len, N);
+        hint::equal(self.values.len(), len);
+        hint::at_most(len, N);
         (self.keys.as_slice(), self.values.as_slice())
     }
 
@@ -122,23 +122,30 @@ impl<K, V, const N: usize> Columns<K, V, N> {
         ensures* writes_back { sem 𝓛 (lends_value_in K.row V.row N.row self.entry index result) }
         ensures value { option_map (λ p. p.1) (slice_get self.old index) ≡ Some result.now }
     {
-        hint_below(index, self.values.len());
+        hint::below(index, self.values.len());
         self.values.item_at_mut(index)
     }
 
-    /// Calls `visit` on the pair at `index`.
+    // Calls `visit` on the pair at `index`.
     #[inline]
-    pub(crate) fn visit_at<R, F: FnMut(&K, &mut V) -> R>(
-        &mut self,
-        index: usize,
-        visit: &mut F,
-    ) -> R
+    fn visit_at<R, F: FnMut(&K, &mut V) -> R>(&mut self, index: usize, visit: &mut F) -> R
         requires within { index < length self.old }
         requires callable { IfSome (slice_get self.old index) (λ p. AcceptsPair F.FnMut visit.old p.0 p.1) }
         ensures { VisitsAt F.FnMut visit.old self.old index result visit.new self.new }
     {
-        hint_below(index, self.values.len());
+        hint::below(index, self.values.len());
         visit(self.keys.item_at(index), self.values.item_at_mut(index))
+    }
+
+    /// Calls `update` on each key and its value, from front to end.
+    #[inline]
+    pub(crate) fn update_all<F: FnMut(&K, &mut V)>(&mut self, mut update: F)
+        requires { MayUpdateAll F.FnMut update self.old }
+        ensures { UpdatesAll F.FnMut update self.old self.new }
+    {
+        for index in 0..self.len() {
+            self.visit_at(index, &mut update);
+        }
     }
 
     /// Replaces the pair at `index`, and returns the old one.
@@ -148,7 +155,7 @@ impl<K, V, const N: usize> Columns<K, V, N> {
         ensures old { slice_get self.old index ≡ Some result }
         ensures pairs { self.new ≡ slice_set self.old index (key, value) }
     {
-        hint_below(index, self.values.len());
+        hint::below(index, self.values.len());
         (
             mem::replace(self.keys.item_at_mut(index), key),
             mem::replace(self.values.item_at_mut(index), value),
@@ -177,7 +184,7 @@ impl<K: Copy, V: Copy, const N: usize> Columns<K, V, N> {
         ensures { result ≡ self.now }
     {
         let len = self.len();
-        hint_equal(self.values.len(), len);
+        hint::equal(self.values.len(), len);
         if len == N {
             return Columns {
                 keys: self.keys.copied_full(),
@@ -187,7 +194,7 @@ impl<K: Copy, V: Copy, const N: usize> Columns<K, V, N> {
         let mut copy = Columns::new();
         for index in 0..len {
             let (key, value) = self.pair_at(index);
-            hint_equal(copy.len(), index);
+            hint::equal(copy.len(), index);
             copy.push(*key, *value);
         }
         copy
@@ -229,7 +236,7 @@ impl<K: Drop, V: Drop, const N: usize> Columns<K, V, N> {
     {
         let len = self.len();
         self.keys.push(key);
-        hint_equal(self.values.len(), len);
+        hint::equal(self.values.len(), len);
         self.values.push(value);
     }
 
@@ -242,7 +249,7 @@ impl<K: Drop, V: Drop, const N: usize> Columns<K, V, N> {
     {
         let len = self.len();
         let key = self.keys.remove(index);
-        hint_equal(self.values.len(), len);
+        hint::equal(self.values.len(), len);
         let value = self.values.remove(index);
         (key, value)
     }
@@ -253,7 +260,7 @@ impl<K: Drop, V: Drop, const N: usize> Columns<K, V, N> {
         requires { 0 < length self.old }
         ensures { self.new ≡ take (length self.old - 1) self.old }
     {
-        hint_equal(self.values.len(), self.len());
+        hint::equal(self.values.len(), self.len());
         self.keys.drop_last();
         self.values.drop_last();
     }

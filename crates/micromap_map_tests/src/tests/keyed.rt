@@ -66,6 +66,15 @@ fn insertions_answer_what_was_there(rt: HostRuntime) {
 }
 
 #[test]
+fn a_pair_is_put_if_it_fits(rt: HostRuntime) {
+    let mut map: Map<u8, u8, 1> = Map::new();
+    assert!(rt; map.put(1, 10));
+    assert!(rt; map.put(1, 11));
+    assert!(rt; !map.put(2, 20));
+    assert_eq!(rt; map.get(&1), Some(&11));
+}
+
+#[test]
 fn a_pair_with_a_stored_key_or_no_room_comes_back(rt: HostRuntime) {
     let mut map: Map<Marked, u8, 2> = Map::new();
     assert!(rt; map.try_insert(Marked::new(1, 'x'), 10).is_ok());

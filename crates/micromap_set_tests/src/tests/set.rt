@@ -102,6 +102,15 @@ fn a_stored_item_stays_but_in_replace(rt: HostRuntime) {
 }
 
 #[test]
+fn an_item_is_put_if_it_fits(rt: HostRuntime) {
+    let mut set: Set<u8, 1> = Set::new();
+    assert!(rt; set.put(1));
+    assert!(rt; set.put(1));
+    assert!(rt; !set.put(2));
+    assert_eq!(rt; set.len(), 1);
+}
+
+#[test]
 fn an_item_that_is_stored_or_has_no_room_comes_back(rt: HostRuntime) {
     let mut set: Set<Marked, 1> = Set::new();
     assert!(rt; set.try_insert(Marked::new(1, 'x')).is_ok());

@@ -5,9 +5,9 @@ ghost use Rattle.std.specs.Iterator.SizeHint.{IsWithinCount};
 ghost use Rattle.std.specs.List.{IsDistinct};
 ghost use Rattle.std.specs.Map.Iter.{deref};
 ghost use Rattle.micromap.specs.Extend.{distinct};
-ghost use Rattle.micromap.specs.Operations.{difference, difference_hint, difference_left, difference_on, GivesMembers, GivesNext};
+ghost use Rattle.micromap.specs.Operations.{difference, difference_hint, difference_remaining, difference_advanced, GivesMembers, GivesNext};
 
-use super::next_where;
+use super::{Wanted, next_where};
 use crate::Set;
 use crate::set::Iter;
 use std::alloc::AllocError;
@@ -57,17 +57,17 @@ impl<'a, 'b, T: Eq, O> Clone for DifferenceIn<'a, 'b, T, O> {
 impl<'a, 'b, T: Eq, const M: usize> Iterator for DifferenceIn<'a, 'b, T, Set<T, M>> {
     type Item = &'a T;
 
-    ghost next_gives = { GivesNext deref (difference_left T.eq) (difference_on T.eq) };
+    ghost next_gives = { GivesNext deref (difference_remaining T.eq) (difference_advanced T.eq) };
 
-    ghost remaining = { item_count (difference_left T.eq) };
+    ghost remaining = { item_count (difference_remaining T.eq) };
 
     fn next(&mut self) -> Option<&'a T> {
-        next_where(&mut self.rest, self.other, false)
+        next_where(&mut self.rest, self.other, Wanted::Missing)
     }
 
     fn size_hint(&self) -> (usize, Option<usize>)
-        ensures lower { IsWithinCount result.0 (item_count (difference_left T.eq) self.now) }
-        ensures upper { IfSome result.1 (UpTo (item_count (difference_left T.eq) self.now)) }
+        ensures lower { IsWithinCount result.0 (item_count (difference_remaining T.eq) self.now) }
+        ensures upper { IfSome result.1 (UpTo (item_count (difference_remaining T.eq) self.now)) }
         ensures exact { result ≡ difference_hint self.now }
     {
         let rest = self.rest.len();
@@ -88,17 +88,17 @@ impl<T: Eq, const N: usize> Set<T, N> {
     /// Returns an iterator over the items of this set that have no equal one in `other`, in their order.
     ///
     /// Making it compares nothing. All calls of `next` together make one scan of `other` for each item of this set.
-    #[tactic(auto, unfolding(crate::specs::Operations::difference_left))]
+    #[tactic(auto, unfolding(crate::specs::Operations::difference_remaining))]
     pub fn difference<'a, 'b, const M: usize>(
         &'a self,
         other: &'b Set<T, M>,
     ) -> Difference<'a, 'b, T, M>
         ensures walk { result ≡ record { rest = self.now; other = other.now } }
-        ensures items { difference_left T.eq result ≡ difference T.eq self.now other.now }
-        ensures bounded { length (difference_left T.eq result) ≤ N }
+        ensures items { difference_remaining T.eq result ≡ difference T.eq self.now other.now }
+        ensures bounded { length (difference_remaining T.eq result) ≤ N }
         ensures unique { IsDistinct T.eq (difference T.eq self.now other.now) }
         ensures builds { let xs = difference T.eq self.now other.now in distinct T.eq xs ≡ xs }
-        ensures runs { GivesMembers (difference_left T.eq) (difference_on T.eq) }
+        ensures runs { GivesMembers (difference_remaining T.eq) (difference_advanced T.eq) }
     {
         DifferenceIn {
             rest: self.iter(),

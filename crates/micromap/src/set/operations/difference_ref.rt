@@ -7,7 +7,7 @@ ghost use Rattle.std.specs.Iterator.SizeHint.{IsWithinCount};
 ghost use Rattle.std.specs.List.{IsDistinct};
 ghost use Rattle.std.specs.Map.Iter.{deref};
 ghost use Rattle.std.specs.Ordering.{on};
-ghost use Rattle.micromap.specs.Operations.{difference, difference_hint, difference_left, difference_on, GivesNext};
+ghost use Rattle.micromap.specs.Operations.{difference, difference_hint, difference_remaining, difference_advanced, GivesNext};
 
 use super::difference::DifferenceIn;
 use crate::Set;
@@ -53,9 +53,9 @@ impl<'s, R: Eq, O> Clone for DifferenceRefIn<'s, R, O> {
 impl<'a, 's, T: Eq, const M: usize> Iterator for DifferenceRefIn<'s, &'a T, Set<&'a T, M>> {
     type Item = &'a T;
 
-    ghost next_gives = { GivesNext (λ r. r) (difference_left (on deref T.eq)) (difference_on (on deref T.eq)) };
+    ghost next_gives = { GivesNext (λ r. r) (difference_remaining (on deref T.eq)) (difference_advanced (on deref T.eq)) };
 
-    ghost remaining = { item_count (difference_left (on deref T.eq)) };
+    ghost remaining = { item_count (difference_remaining (on deref T.eq)) };
 
     fn next(&mut self) -> Option<&'a T> {
         let item = self.items.next()?;
@@ -63,8 +63,8 @@ impl<'a, 's, T: Eq, const M: usize> Iterator for DifferenceRefIn<'s, &'a T, Set<
     }
 
     fn size_hint(&self) -> (usize, Option<usize>)
-        ensures lower { IsWithinCount result.0 (item_count (difference_left (on deref T.eq)) self.now) }
-        ensures upper { IfSome result.1 (UpTo (item_count (difference_left (on deref T.eq)) self.now)) }
+        ensures lower { IsWithinCount result.0 (item_count (difference_remaining (on deref T.eq)) self.now) }
+        ensures upper { IfSome result.1 (UpTo (item_count (difference_remaining (on deref T.eq)) self.now)) }
         ensures exact { result ≡ difference_hint self.now }
     {
         self.items.size_hint()
@@ -92,12 +92,12 @@ impl<'a, T: Eq, const N: usize> Set<&'a T, N> {
         other: &'s Set<&'a T, M>,
     ) -> DifferenceRef<'a, 's, T, M>
         ensures walk { result ≡ record { rest = self.now; other = other.now } }
-        ensures items { difference_left (on deref T.eq) result
+        ensures items { difference_remaining (on deref T.eq) result
             ≡ difference (on deref T.eq) self.now other.now }
-        ensures bounded { length (difference_left (on deref T.eq) result) ≤ N }
+        ensures bounded { length (difference_remaining (on deref T.eq) result) ≤ N }
         ensures unique { IsDistinct (on deref T.eq) (difference (on deref T.eq) self.now other.now) }
-        ensures runs { let left = difference_left (on deref T.eq) in
-            YieldsInOrder (GivesNext (λ (r : Bor T). r) left (difference_on (on deref T.eq))) left }
+        ensures runs { let left = difference_remaining (on deref T.eq) in
+            YieldsInOrder (GivesNext (λ (r : Bor T). r) left (difference_advanced (on deref T.eq))) left }
     {
         DifferenceRefIn {
             items: self.difference(other),

@@ -5,9 +5,9 @@ ghost use Rattle.std.specs.Iterator.SizeHint.{IsWithinCount};
 ghost use Rattle.std.specs.List.{IsDistinct};
 ghost use Rattle.std.specs.Map.Iter.{deref};
 ghost use Rattle.micromap.specs.Extend.{distinct};
-ghost use Rattle.micromap.specs.Operations.{intersection, intersection_hint, intersection_left, intersection_on, Commutes, GivesMembers, GivesNext};
+ghost use Rattle.micromap.specs.Operations.{intersection, intersection_hint, intersection_remaining, intersection_advanced, Commutes, GivesMembers, GivesNext};
 
-use super::next_where;
+use super::{Wanted, next_where};
 use crate::Set;
 use crate::set::Iter;
 use std::alloc::AllocError;
@@ -57,17 +57,17 @@ impl<'a, T: Eq, O> Clone for IntersectionIn<'a, T, O> {
 impl<'a, T: Eq, const M: usize> Iterator for IntersectionIn<'a, T, Set<T, M>> {
     type Item = &'a T;
 
-    ghost next_gives = { GivesNext deref (intersection_left T.eq) (intersection_on T.eq) };
+    ghost next_gives = { GivesNext deref (intersection_remaining T.eq) (intersection_advanced T.eq) };
 
-    ghost remaining = { item_count (intersection_left T.eq) };
+    ghost remaining = { item_count (intersection_remaining T.eq) };
 
     fn next(&mut self) -> Option<&'a T> {
-        next_where(&mut self.rest, self.other, true)
+        next_where(&mut self.rest, self.other, Wanted::Common)
     }
 
     fn size_hint(&self) -> (usize, Option<usize>)
-        ensures lower { IsWithinCount result.0 (item_count (intersection_left T.eq) self.now) }
-        ensures upper { IfSome result.1 (UpTo (item_count (intersection_left T.eq) self.now)) }
+        ensures lower { IsWithinCount result.0 (item_count (intersection_remaining T.eq) self.now) }
+        ensures upper { IfSome result.1 (UpTo (item_count (intersection_remaining T.eq) self.now)) }
         ensures exact { result ≡ intersection_hint self.now }
     {
         (0, Some(self.rest.len().min(self.other.len())))
@@ -87,18 +87,18 @@ impl<T: Eq, const N: usize> Set<T, N> {
     /// Returns an iterator over the items of this set that have an equal one in `other`, in their order.
     ///
     /// Making it compares nothing. All calls of `next` together make one scan of `other` for each item of this set.
-    #[tactic(auto, unfolding(crate::specs::Operations::intersection_left))]
+    #[tactic(auto, unfolding(crate::specs::Operations::intersection_remaining))]
     pub fn intersection<'a, const M: usize>(
         &'a self,
         other: &'a Set<T, M>,
     ) -> Intersection<'a, T, M>
         ensures walk { result ≡ record { rest = self.now; other = other.now } }
-        ensures items { intersection_left T.eq result ≡ intersection T.eq self.now other.now }
-        ensures bounded { length (intersection_left T.eq result) ≤ N }
+        ensures items { intersection_remaining T.eq result ≡ intersection T.eq self.now other.now }
+        ensures bounded { length (intersection_remaining T.eq result) ≤ N }
         ensures unique { IsDistinct T.eq (intersection T.eq self.now other.now) }
         ensures builds { let xs = intersection T.eq self.now other.now in distinct T.eq xs ≡ xs }
-        ensures turned { Commutes T.eq (intersection T.eq) self.now other.now }
-        ensures runs { GivesMembers (intersection_left T.eq) (intersection_on T.eq) }
+        ensures swapped { Commutes T.eq (intersection T.eq) self.now other.now }
+        ensures runs { GivesMembers (intersection_remaining T.eq) (intersection_advanced T.eq) }
     {
         IntersectionIn {
             rest: self.iter(),

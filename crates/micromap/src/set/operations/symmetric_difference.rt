@@ -5,7 +5,7 @@ ghost use Rattle.std.specs.Iterator.SizeHint.{IsWithinCount};
 ghost use Rattle.std.specs.List.{IsDistinct};
 ghost use Rattle.std.specs.Map.Iter.{deref};
 ghost use Rattle.micromap.specs.Extend.{distinct};
-ghost use Rattle.micromap.specs.Operations.{symmetric_difference, symmetric_hint, symmetric_left, symmetric_on, Commutes, GivesMembers, GivesNext};
+ghost use Rattle.micromap.specs.Operations.{symmetric_difference, symmetric_hint, symmetric_remaining, symmetric_advanced, Commutes, GivesMembers, GivesNext};
 
 use super::difference::DifferenceIn;
 use super::hint_of_both;
@@ -60,11 +60,11 @@ impl<'a, T: Eq, const N: usize, const M: usize> Iterator
     for SymmetricDifferenceIn<'a, T, Set<T, M>, Set<T, N>> {
     type Item = &'a T;
 
-    ghost next_gives = { GivesNext deref (symmetric_left T.eq) (symmetric_on T.eq) };
+    ghost next_gives = { GivesNext deref (symmetric_remaining T.eq) (symmetric_advanced T.eq) };
 
-    ghost remaining = { item_count (symmetric_left T.eq) };
+    ghost remaining = { item_count (symmetric_remaining T.eq) };
 
-    #[tactic(auto, unfolding(crate::specs::Operations::symmetric_left, crate::specs::Operations::symmetric_on))]
+    #[tactic(auto, unfolding(crate::specs::Operations::symmetric_remaining, crate::specs::Operations::symmetric_advanced))]
     fn next(&mut self) -> Option<&'a T> {
         match self.first.next() {
             Some(x) => Some(x),
@@ -72,10 +72,10 @@ impl<'a, T: Eq, const N: usize, const M: usize> Iterator
         }
     }
 
-    #[tactic(auto, unfolding(crate::specs::Operations::symmetric_left))]
+    #[tactic(auto, unfolding(crate::specs::Operations::symmetric_remaining))]
     fn size_hint(&self) -> (usize, Option<usize>)
-        ensures lower { IsWithinCount result.0 (item_count (symmetric_left T.eq) self.now) }
-        ensures upper { IfSome result.1 (UpTo (item_count (symmetric_left T.eq) self.now)) }
+        ensures lower { IsWithinCount result.0 (item_count (symmetric_remaining T.eq) self.now) }
+        ensures upper { IfSome result.1 (UpTo (item_count (symmetric_remaining T.eq) self.now)) }
         ensures exact { result ≡ symmetric_hint self.now }
     {
         hint_of_both(self.first.size_hint(), self.second.size_hint())
@@ -98,7 +98,7 @@ impl<T: Eq, const N: usize> Set<T, N> {
     /// that have none in this set, each in their order.
     ///
     /// Making it compares nothing. All calls of `next` together make one scan of each set for each item of the other.
-    #[tactic(auto, unfolding(crate::specs::Operations::symmetric_difference, crate::specs::Operations::symmetric_left))]
+    #[tactic(auto, unfolding(crate::specs::Operations::symmetric_difference, crate::specs::Operations::symmetric_remaining))]
     pub fn symmetric_difference<'a, const M: usize>(
         &'a self,
         other: &'a Set<T, M>,
@@ -107,12 +107,12 @@ impl<T: Eq, const N: usize> Set<T, N> {
           first = record { rest = self.now; other = other.now };
           second = record { rest = other.now; other = self.now };
         } }
-        ensures items { symmetric_left T.eq result ≡ symmetric_difference T.eq self.now other.now }
-        ensures bounded { length (symmetric_left T.eq result) ≤ N + M }
+        ensures items { symmetric_remaining T.eq result ≡ symmetric_difference T.eq self.now other.now }
+        ensures bounded { length (symmetric_remaining T.eq result) ≤ N + M }
         ensures unique { IsDistinct T.eq (symmetric_difference T.eq self.now other.now) }
         ensures builds { let xs = symmetric_difference T.eq self.now other.now in distinct T.eq xs ≡ xs }
-        ensures turned { Commutes T.eq (symmetric_difference T.eq) self.now other.now }
-        ensures runs { GivesMembers (symmetric_left T.eq) (symmetric_on T.eq) }
+        ensures swapped { Commutes T.eq (symmetric_difference T.eq) self.now other.now }
+        ensures runs { GivesMembers (symmetric_remaining T.eq) (symmetric_advanced T.eq) }
     {
         SymmetricDifferenceIn {
             first: self.difference(other),

@@ -5,7 +5,7 @@ ghost use Rattle.std.specs.Iterator.SizeHint.{IsWithinCount};
 ghost use Rattle.std.specs.List.{IsDistinct};
 ghost use Rattle.std.specs.Map.Iter.{deref};
 ghost use Rattle.micromap.specs.Extend.{distinct};
-ghost use Rattle.micromap.specs.Operations.{intersection, union, union_hint, union_left, union_on, Commutes, GivesMembers, GivesNext};
+ghost use Rattle.micromap.specs.Operations.{intersection, union, union_hint, union_remaining, union_advanced, Commutes, GivesMembers, GivesNext};
 
 use super::difference::DifferenceIn;
 use super::hint_of_both;
@@ -55,11 +55,11 @@ impl<'a, T: Eq, O> Clone for UnionIn<'a, T, O> {
 impl<'a, T: Eq, const M: usize> Iterator for UnionIn<'a, T, Set<T, M>> {
     type Item = &'a T;
 
-    ghost next_gives = { GivesNext deref (union_left T.eq) (union_on T.eq) };
+    ghost next_gives = { GivesNext deref (union_remaining T.eq) (union_advanced T.eq) };
 
-    ghost remaining = { item_count (union_left T.eq) };
+    ghost remaining = { item_count (union_remaining T.eq) };
 
-    #[tactic(auto, unfolding(crate::specs::Operations::union_left, crate::specs::Operations::union_on))]
+    #[tactic(auto, unfolding(crate::specs::Operations::union_remaining, crate::specs::Operations::union_advanced))]
     fn next(&mut self) -> Option<&'a T> {
         match self.others.next() {
             Some(x) => Some(x),
@@ -67,10 +67,10 @@ impl<'a, T: Eq, const M: usize> Iterator for UnionIn<'a, T, Set<T, M>> {
         }
     }
 
-    #[tactic(auto, unfolding(crate::specs::Operations::union_left))]
+    #[tactic(auto, unfolding(crate::specs::Operations::union_remaining))]
     fn size_hint(&self) -> (usize, Option<usize>)
-        ensures lower { IsWithinCount result.0 (item_count (union_left T.eq) self.now) }
-        ensures upper { IfSome result.1 (UpTo (item_count (union_left T.eq) self.now)) }
+        ensures lower { IsWithinCount result.0 (item_count (union_remaining T.eq) self.now) }
+        ensures upper { IfSome result.1 (UpTo (item_count (union_remaining T.eq) self.now)) }
         ensures exact { result ≡ union_hint self.now }
     {
         hint_of_both(self.others.size_hint(), self.beyond.size_hint())
@@ -97,22 +97,21 @@ impl<T: Eq, const N: usize> Set<T, N> {
     /// let second = Set::from([2, 3]);
     /// assert!(rt; first.union(&second).copied().eq([2, 3, 1]));
     /// ```
-    #[tactic(auto, unfolding(crate::specs::Operations::union, crate::specs::Operations::union_left))]
+    #[tactic(auto, unfolding(crate::specs::Operations::union, crate::specs::Operations::union_remaining))]
     pub fn union<'a, const M: usize>(&'a self, other: &'a Set<T, M>) -> Union<'a, T, M>
         ensures walk { result ≡ record {
           others = other.now;
           beyond = record { rest = self.now; other = other.now };
         } }
-        ensures items { union_left T.eq result ≡ union T.eq self.now other.now }
-        ensures bounded { length (union_left T.eq result) ≤ N + M }
+        ensures items { union_remaining T.eq result ≡ union T.eq self.now other.now }
+        ensures bounded { length (union_remaining T.eq result) ≤ N + M }
         ensures unique { IsDistinct T.eq (union T.eq self.now other.now) }
         ensures builds { let xs = union T.eq self.now other.now in distinct T.eq xs ≡ xs }
-        ensures turned { Commutes T.eq (union T.eq) self.now other.now }
+        ensures swapped { Commutes T.eq (union T.eq) self.now other.now }
         ensures lengths { length (union T.eq self.now other.now)
             + length (intersection T.eq self.now other.now) ≡ length self.now + length other.now }
-        ensures runs { GivesMembers (union_left T.eq) (union_on T.eq) }
+        ensures runs { GivesMembers (union_remaining T.eq) (union_advanced T.eq) }
     {
-        let _content = other.len();
         UnionIn {
             others: other.iter(),
             beyond: self.difference(other),

@@ -1,5 +1,4 @@
-use Rattle.std.proofs.Common.{◌≡◌, ℕ, zero, suc, ◌-◌, ◌<◌, ◌≤◌, List, [], ◌∷◌, ◌++◌, length, take, drop, slice_index_or}
-use Rattle.std.proofs.Common.{slice_set, refl, ap, sym, ◌∙◌, length-append, take-append-drop, arith, length-take}
+use Rattle.std.proofs.Common.{◌≡◌, ℕ, ◌-◌, ◌<◌, ◌≤◌, [], ◌∷◌, ◌++◌, ◌∙◌, ap, arith, drop, length, length-append, length-take, refl, slice_index_or, slice_set, suc, sym, take, take-append-drop, zero, List}
 use Rattle.std.specs.List.{insert, refill, remove}
 use Rattle.std.proofs.lemmas.List.Edits.{get_or-insert_at, insert_end}
 use Rattle.micromap_core.proofs.Lists.{refill-same, remove_seam}

@@ -4,7 +4,6 @@ ghost use Rattle.std.specs.Prelude.{◌≡◌, Some, None, IsTrue, unwrap_or};
 ghost use Rattle.std.specs.Borrow.{sem, Bor, MutBor};
 ghost use Rattle.std.specs.Map.Calls.{ModifiesValue};
 ghost use Rattle.std.specs.Option.{UnwrapsOrElse};
-ghost use Rattle.micromap_core.specs.Pairs.{IsContent};
 ghost use Rattle.micromap_core.specs.Entry.{Occupied, AnswersOfKey, entry_key, entry_pairs, entry_put, entry_value, entry_has_room, is_occupied, IsSound, IsEntryOf, IsWritten, IsModified, entry_lends};
 
 use super::{Entry, EntryIn, OccupiedEntry, OccupiedIn, VacantIn};
@@ -29,7 +28,6 @@ impl<K: Eq, V, const N: usize> Map<K, V, N> {
     where
         K: Drop,
         ensures entry { IsEntryOf K.eq self.entry key result }
-        ensures content { IsContent K.eq N self.old }
     {
         match self.index_of(&key) {
             Some(index) => Entry::Occupied(OccupiedIn { map: self, index }),
@@ -65,7 +63,6 @@ impl<'a, K: Eq, V, const N: usize> EntryIn<'a, K, Map<K, V, N>> {
         requires sound { IsSound K.eq self }
         requires callable { (p : MutBor V) → entry_value self ≡ Some p.now → F.pre f p }
         ensures modified { IsModified K.eq (ModifiesValue F.FnOnce f) self.entry result }
-        ensures content { IsTrue (is_occupied self.entry) → IsContent K.eq N (entry_pairs result) }
     {
         match self {
             EntryIn::Occupied(mut entry) => {
@@ -86,7 +83,6 @@ impl<'a, K: Eq + Drop, V: Drop, const N: usize> EntryIn<'a, K, Map<K, V, N>> {
         requires room { IsTrue (entry_has_room N self) }
         ensures* writes_back { sem 𝓛 (entry_lends K.row V.row N.row K.eq self.entry result) }
         ensures answer { result.now ≡ unwrap_or (entry_value self.entry) default }
-        ensures content { (v : V) → IsContent K.eq N (entry_put self.entry v) }
     {
         self.or_insert_with(|| default)
     }
@@ -101,7 +97,6 @@ impl<'a, K: Eq + Drop, V: Drop, const N: usize> EntryIn<'a, K, Map<K, V, N>> {
         requires callable { entry_value self ≡ None → F.pre default }
         ensures* writes_back { sem 𝓛 (entry_lends K.row V.row N.row K.eq self.entry result) }
         ensures answer { UnwrapsOrElse (entry_value self.entry) (F.post default) result.now }
-        ensures content { (v : V) → IsContent K.eq N (entry_put self.entry v) }
     {
         self.or_insert_with_key(|_| default())
     }
@@ -119,7 +114,6 @@ impl<'a, K: Eq + Drop, V: Drop, const N: usize> EntryIn<'a, K, Map<K, V, N>> {
         ensures* writes_back { sem 𝓛 (entry_lends K.row V.row N.row K.eq self.entry result) }
         ensures answer { UnwrapsOrElse (entry_value self.entry)
             (AnswersOfKey F.FnOnce default (entry_key self.entry)) result.now }
-        ensures content { (v : V) → IsContent K.eq N (entry_put self.entry v) }
     {
         match self {
             EntryIn::Occupied(entry) => entry.into_mut(),
@@ -140,7 +134,6 @@ impl<'a, K: Eq + Drop, V: Drop, const N: usize> EntryIn<'a, K, Map<K, V, N>> {
         requires room { IsTrue (entry_has_room N self) }
         ensures* writes_back { sem 𝓛 (entry_lends K.row V.row N.row K.eq self.entry result) }
         ensures answer { UnwrapsOrElse (entry_value self.entry) V.is_default result.now }
-        ensures content { (v : V) → IsContent K.eq N (entry_put self.entry v) }
     {
         self.or_insert_with(|| V::default())
     }
@@ -153,7 +146,6 @@ impl<'a, K: Eq + Drop, V: Drop, const N: usize> EntryIn<'a, K, Map<K, V, N>> {
         requires sound { IsSound K.eq self }
         requires room { IsTrue (entry_has_room N self) }
         ensures written { IsWritten K.eq self.entry value (Occupied result) }
-        ensures content { IsContent K.eq N (entry_pairs (Occupied result)) }
     {
         match self {
             EntryIn::Occupied(mut entry) => {

@@ -1,7 +1,6 @@
 //! The calls of `OccupiedEntry`.
 ghost use Rattle.std.specs.Prelude.{◌≡◌, Some};
 ghost use Rattle.std.specs.Borrow.{sem};
-ghost use Rattle.micromap_core.specs.Pairs.{IsContent};
 ghost use Rattle.micromap_core.specs.Entry.{Occupied, entry_key, entry_pairs, entry_put, entry_value, entry_taken, IsSound, IsWritten, entry_lends, occupied_lends};
 
 use super::OccupiedIn;
@@ -30,7 +29,6 @@ impl<'a, K: Eq, V, const N: usize> OccupiedIn<'a, Map<K, V, N>> {
         requires { IsSound K.eq (Occupied self.old) }
         ensures* writes_back { sem 𝓛 (occupied_lends K.row V.row N.row K.eq self.entry result) }
         ensures answer { entry_value (Occupied self.old) ≡ Some result.now }
-        ensures content { (v : V) → IsContent K.eq N (entry_put (Occupied self.old) v) }
     {
         let index = self.index;
         self.map.value_at_mut(index)
@@ -42,7 +40,6 @@ impl<'a, K: Eq, V, const N: usize> OccupiedIn<'a, Map<K, V, N>> {
         requires { IsSound K.eq (Occupied self) }
         ensures* writes_back { sem 𝓛 (entry_lends K.row V.row N.row K.eq (Occupied self.entry) result) }
         ensures answer { entry_value (Occupied self.entry) ≡ Some result.now }
-        ensures content { (v : V) → IsContent K.eq N (entry_put (Occupied self.entry) v) }
     {
         let OccupiedIn { map, index } = self;
         map.value_at_mut(index)
@@ -53,7 +50,6 @@ impl<'a, K: Eq, V, const N: usize> OccupiedIn<'a, Map<K, V, N>> {
         requires { IsSound K.eq (Occupied self.old) }
         ensures old { entry_value (Occupied self.old) ≡ Some result }
         ensures written { IsWritten K.eq (Occupied self.old) value (Occupied self.new) }
-        ensures content { IsContent K.eq N (entry_pairs (Occupied self.new)) }
     {
         let index = self.index;
         self.map.replace_value_at(index, value)
@@ -66,7 +62,6 @@ impl<'a, K: Eq + Drop, V: Drop, const N: usize> OccupiedIn<'a, Map<K, V, N>> {
         requires { IsSound K.eq (Occupied self) }
         ensures answer { entry_value (Occupied self.entry) ≡ Some result }
         ensures pairs { self.exit.0.now ≡ entry_taken (Occupied self.entry) }
-        ensures content { IsContent K.eq N self.exit.0.now }
     {
         let OccupiedIn { map, index } = self;
         let (_key, value) = map.take_at(index);
@@ -79,7 +74,6 @@ impl<'a, K: Eq + Drop, V: Drop, const N: usize> OccupiedIn<'a, Map<K, V, N>> {
         ensures key { entry_key (Occupied self.entry) ≡ Some result.0 }
         ensures value { entry_value (Occupied self.entry) ≡ Some result.1 }
         ensures pairs { self.exit.0.now ≡ entry_taken (Occupied self.entry) }
-        ensures content { IsContent K.eq N self.exit.0.now }
     {
         let OccupiedIn { map, index } = self;
         map.take_at(index)

@@ -1,7 +1,6 @@
 //! The calls of `VacantEntry`.
 ghost use Rattle.std.specs.Prelude.{◌≡◌, Some, IsTrue};
 ghost use Rattle.std.specs.Borrow.{sem};
-ghost use Rattle.micromap_core.specs.Pairs.{IsContent};
 ghost use Rattle.micromap_core.specs.Entry.{Occupied, Vacant, entry_key, entry_pairs, entry_put, entry_has_room, IsSound, IsWritten, entry_lends};
 
 use super::{OccupiedEntry, OccupiedIn, VacantIn};
@@ -41,7 +40,6 @@ impl<'a, K: Eq + Drop, V: Drop, const N: usize> VacantIn<'a, K, Map<K, V, N>> {
         requires room { IsTrue (entry_has_room N (Vacant self)) }
         ensures* writes_back { sem 𝓛 (entry_lends K.row V.row N.row K.eq (Vacant self.entry) result) }
         ensures answer { result.now ≡ value }
-        ensures content { (v : V) → IsContent K.eq N (entry_put (Vacant self.entry) v) }
     {
         let VacantIn { map, key } = self;
         let index = map.len();
@@ -56,7 +54,6 @@ impl<'a, K: Eq + Drop, V: Drop, const N: usize> VacantIn<'a, K, Map<K, V, N>> {
         requires sound { IsSound K.eq (Vacant self) }
         requires room { IsTrue (entry_has_room N (Vacant self)) }
         ensures written { IsWritten K.eq (Vacant self.entry) value (Occupied result) }
-        ensures content { IsContent K.eq N (entry_pairs (Occupied result)) }
     {
         let VacantIn { map, key } = self;
         let index = map.len();

@@ -1,18 +1,20 @@
-use Rattle.std.proofs.Common.{sym, ◌∙◌, rules}
-use Rattle.micromap.proofs.JsonPairs.{map_read, object_read}
+use Rattle.std.proofs.Common.{◌≡◌, sym, refl, ◌∙◌, rules}
+use Rattle.serde_json.specs.View.{members_view}
+use Rattle.serde_json.proofs.Views.{view-Object}
+use Rattle.micromap.specs.Json.{pairs_for, pairs_in}
+use Rattle.micromap.proofs.JsonReading.{map_read}
 use Rattle.micromap.proofs.json.read.map_from_json.Goals as goal
 
 pub returns-in-Object : goal.returns-in-Object
 returns-in-Object g c =
-    let read = map_read _ _ _
-    (object_read g.row.N c.args.text.now c.in_ok-members.field-0 c.in-Object.members
-    c.in_ok-members.ensures.value c.in-Object.is ∙ sym c.map_of_members.ensures.answer) in
+    let object : pairs_for g.row.N c.args.text.now ≡ pairs_in g.row.N (members_view c.in-Object.members.entries) =
+    rw (c.in_ok-members.ensures.value, c.in-Object.is, view-Object c.in-Object.members) refl in
+    let read = map_read _ _ _ (object ∙ sym c.map_of_members.ensures.answer) in
     record {
       pairs = read.0;
       order = read.1;
       fault = read.2;
       memory = search rules;
-      again =
-          read.3;
+      again = read.3;
       content = c.map_of_members.ensures.content;
     }

@@ -1,8 +1,10 @@
-use Rattle.std.proofs.Common.{sym, ap, string_bytes, arith, rules}
+use Rattle.std.proofs.Common.{refl, sym, ap, string_bytes, string_eq, bytes_eq, arith, rules, ltb-false, length}
 use Rattle.serde_json.specs.View.{members_view}
-use Rattle.micromap_core.proofs.Laws.TextLaws.{length_texts, texts_empty}
+use Rattle.micromap_core.specs.Pairs.{put}
+use Rattle.micromap_core.proofs.Laws.MapLaws.{length_put}
+use Rattle.micromap_core.proofs.Laws.TextLaws.{length_texts, texts_empty, texts_put}
 use Rattle.micromap.specs.Json.{whole_members}
-use Rattle.micromap.proofs.JsonReading.{member_past, member_put, members_built, not_read, read_beyond, read_whole}
+use Rattle.micromap.proofs.JsonReading.{members_built, not_read, read_beyond, read_one, read_past, read_whole}
 use Rattle.micromap.proofs.json.read.map_of_members.Goals as goal
 
 pub loop-name-init : goal.loop-name-init
@@ -16,25 +18,38 @@ returns-in_default-clause-answer g c =
     sym (not_read c.loop-name.invariant (λ i. (string_bytes c.in-Some.name, i)) _ _
     (ap (λ es. whole_members (members_view es)) c.in-Some.ensures.steps) (search rules))
 
+-- a pair is put or doesn't fit where its texts are or don't
 pub loop-name-preserved-then-all_fit : goal.loop-name-preserved-then-all_fit
 loop-name-preserved-then-all_fit g c =
-    member_put _ c.loop-name.invariant c.in-Some.ensures.steps c.in-Some-whole_of.whole
-    (search rules) c.if-all_fit.true c.put-all_fit.ensures.answer (search rules)
+    let pairs = c.loop-name.map in
+    let name = c.in-Some.name in
+    let whole = c.in-Some-whole_of.whole in
+    let put_is = texts_put string_bytes (λ v. v) name string_eq pairs whole (λ x y. refl) in
+    read_one c.loop-name.invariant (λ i. (string_bytes name, i)) _ _
+    (ap (λ es. whole_members (members_view es)) c.in-Some.ensures.steps) whole (search rules)
+    (λ ps p. grind (arith, length_put bytes_eq ps p.0 p.1)) c.if-all_fit.true
+    (λ fits. grind (arith, c.put-all_fit.ensures.answer, c.put-all_fit.ensures.pairs, fits, put_is))
+    (λ misfit. grind (
+      arith,
+      put_is,
+      c.put-all_fit.ensures.answer,
+      misfit,
+      ltb-false (length pairs) g.row.N,
+      length_put string_eq pairs name whole,
+      length_texts string_bytes (λ v. v) (put string_eq pairs name whole),
+    ))
 
 pub loop-name-preserved : goal.loop-name-preserved
 loop-name-preserved g c =
-    member_past _ c.loop-name.invariant c.in-Some.ensures.steps c.in-Some-whole_of.whole
-    (search rules) c.if-all_fit.false
+    read_past c.loop-name.invariant (λ i. (string_bytes c.in-Some.name, i)) _ _
+    (ap (λ es. whole_members (members_view es)) c.in-Some.ensures.steps) c.in-Some-whole_of.whole (search rules)
+    c.if-all_fit.false
 
 pub returns-then-all_fit-2-clause-answer : goal.returns-then-all_fit-2-clause-answer
 returns-then-all_fit-2-clause-answer g c =
     sym (read_whole c.loop-name.invariant
     (ap (λ es. whole_members (members_view es)) c.in-None.ensures.steps.0) c.if-all_fit-2.true
-    (omega (
-      arith,
-      c.len-content.ensures.content.bounded,
-      length_texts string_bytes (λ v. v) c.loop-name.map,
-    )))
+    (omega (arith, c.len-known.ensures.content.bounded, length_texts string_bytes (λ v. v) c.loop-name.map)))
 
 pub returns-else-all_fit-2-clause-answer : goal.returns-else-all_fit-2-clause-answer
 returns-else-all_fit-2-clause-answer g c =

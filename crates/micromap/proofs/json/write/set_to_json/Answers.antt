@@ -4,7 +4,7 @@ use Rattle.serde_json.specs.Read.{max_depth, read}
 use Rattle.serde_json.specs.View.{view}
 use Rattle.serde_json.specs.Written.{compact_text, has_float}
 use Rattle.serde_json.proofs.Views.{view-Array}
-use Rattle.micromap.proofs.JsonWriting.{as_data, elements_again, elements_read, elements_text, pushes_one}
+use Rattle.micromap.proofs.JsonWriting.{as_data, elements_written, pushes_one}
 use Rattle.micromap.proofs.json.write.set_to_json.Goals as goal
 
 pub loop-text-init : goal.loop-text-init
@@ -19,19 +19,13 @@ loop-text-preserved g c =
 
 pub returns : goal.returns
 returns g c =
-    let items = c.loop-text.elements.items in
     let text = string_bytes c.in_ok-to_string.field-0 in
-    let all = subst (λ rest. map view items ++ as_data rest ≡ as_data c.args.set.now)
+    let all = subst (λ rest. map view c.loop-text.elements.items ++ as_data rest ≡ as_data c.args.set.now)
     c.in-None.ensures.steps.0 c.loop-text.invariant in
     let reads_back = subst (λ d. depth d ≤ max_depth → read text ≡ Some d)
     (view-Array c.loop-text.elements) c.in_ok-to_string.ensures.reads_back in
-    record {
-      array = elements_read items c.args.set.now text all reads_back;
-      again = elements_again items c.args.set.now text all reads_back
-          c.len-content.ensures.content.unique;
-      text = elements_text items c.args.set.now text all (subst (λ d. has_float d ≡ false
-          → text ≡ compact_text d) (view-Array c.loop-text.elements)
-          c.in_ok-to_string.ensures.text);
-      fault = tt;
-      content = c.len-content.ensures.content;
-    }
+    let writes = subst (λ d. has_float d ≡ false → text ≡ compact_text d)
+    (view-Array c.loop-text.elements) c.in_ok-to_string.ensures.text in
+    let content = c.into_iter-text-iterator.ensures.into_iter_gives.2 in
+    let written = elements_written _ c.args.set.now text all reads_back writes content.unique in
+    record { array = written.0; again = written.2; text = written.1; fault = tt }

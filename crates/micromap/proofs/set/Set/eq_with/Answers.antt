@@ -6,14 +6,11 @@ use Rattle.micromap.proofs.set.Set.eq_with.Goals as goal
 pub returns-then-len : goal.returns-then-len
 returns-then-len g c =
     let long : length c.args.self.now ≡ length c.args.other.now = search rules in
-    let sides = both_sides g.met.T.Eq.laws c.args.self.now c.args.other.now
-    c.len.ensures.content.unique c.len-2.ensures.content.unique long in
-    assumption (members_answered g.met.T.Eq.laws _ _ _ (c.is_subset.ensures.answer ∙ sides))
+    assumption (members_answered g.met.T.Eq.laws _ _ _ (c.all_are.ensures
+    ∙ both_sides g.met.T.Eq.laws _ _ c.len.ensures.content.unique c.len-2.ensures.content.unique long))
 
 pub returns-else-len : goal.returns-else-len
 returns-else-len g c =
     let apart : length c.args.self.now ≢ length c.args.other.now = search rules in
-    let sides = not_both_sides g.met.T.Eq.laws c.args.self.now c.args.other.now
-    c.len.ensures.content.unique c.len-2.ensures.content.unique apart in
-    assumption (members_answered g.met.T.Eq.laws _ _ _
-    (ne_eqb c.len.result c.len-2.result c.if-len.false ∙ sym sides))
+    assumption (members_answered g.met.T.Eq.laws _ _ _ (ne_eqb c.len.result c.len-2.result c.if-len.false
+    ∙ sym (not_both_sides g.met.T.Eq.laws _ _ c.len.ensures.content.unique c.len-2.ensures.content.unique apart)))

@@ -1,8 +1,7 @@
-use Rattle.std.proofs.Common.{arith, rules, refl}
+use Rattle.std.proofs.Common.{arith, rules}
 use Rattle.std.specs.Fn.{CalledAt, TakesAt}
 use Rattle.micromap_core.proofs.ClosureLemmas.{retained_keys}
 use Rattle.micromap_core.proofs.DistinctLemmas.{length-sublist}
-use Rattle.micromap.proofs.ItemLemmas.{content_items}
 use Rattle.micromap.proofs.RetainItems.{callable_inner}
 use Rattle.micromap.proofs.set.Set.retain.Goals as goal
 
@@ -17,15 +16,12 @@ retain-requires g c = (
       },
 )
 
-pub returns : goal.returns
-returns g c = record {
-  items = rw (← c.self.view_is)
-      (retained_keys (CalledAt g.F.FnMut) (λ f. f.0.now) (λ f x v b w t said. search rules) _ _ _
-      c.retain.ensures.pairs);
-  order = rw (← c.self.view_is) c.retain.ensures.order;
-  shorter = rw (← c.self.view_is) (length-sublist _ _ c.retain.ensures.order);
-  content = (
-    content_items c.self.view_is c.retain.ensures.content.0,
-    content_items refl c.retain.ensures.content.1,
-  );
-}
+pub returns-clause-items : goal.returns-clause-items
+returns-clause-items g c = rw (← c.self.view_is)
+    (retained_keys (CalledAt g.F.FnMut) (λ f. f.0.now) (λ f x v b w t said. search rules) _ _ _ c.retain.ensures.pairs)
+
+pub returns-clause-order : goal.returns-clause-order
+returns-clause-order g c = rw (← c.self.view_is) c.retain.ensures.order
+
+pub returns-clause-shorter : goal.returns-clause-shorter
+returns-clause-shorter g c = length-sublist _ _ (returns-clause-order g c)

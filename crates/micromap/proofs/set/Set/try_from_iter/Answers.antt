@@ -1,49 +1,28 @@
 use Rattle.std.proofs.Common.{arith}
 use Rattle.std.proofs.lemmas.Result.{err_from_is_err_and}
-use Rattle.micromap_core.proofs.BuildLemmas.{few_distinct, full_at, many_taken}
+use Rattle.micromap_core.proofs.KeyedLemmas.{few_distinct, full_at, many_taken}
 use Rattle.micromap.proofs.ExtendLemmas.{items_keyed}
 use Rattle.micromap.proofs.set.Set.try_from_iter.Goals as goal
 
-pub returns : goal.returns
-returns g c =
-    let runs = rw c.new-set.ensures.answer at c.in_ok-try_extend.ensures.runs in
-    record {
-      runs = runs;
-      few = (
-        runs.0,
-        runs.1,
-        runs.2,
-        few_distinct g.met.T.Eq.laws (items_keyed g.T.PartialEq.eq g.row.N) runs.0.items
-            runs.3.0,
-      );
-      stops = tt;
-      many = tt;
-      full = tt;
-      content =
-          c.in_ok-try_extend.ensures.content.1;
-    }
+pub returns-clause-whole : goal.returns-clause-whole
+returns-clause-whole g c = rw c.new-set.ensures.answer at c.in_ok-try_extend.ensures.whole
+
+pub returns-clause-few : goal.returns-clause-few
+returns-clause-few g c =
+    let runs = rw c.new-set.ensures.answer at c.in_ok-try_extend.ensures.whole in
+    (runs.0, runs.1, runs.2, few_distinct g.met.T.Eq.laws (items_keyed g.T.PartialEq.eq g.row.N) runs.0.items runs.3.0)
 
 pub returns-in_err-try_extend : goal.returns-in_err-try_extend
 returns-in_err-try_extend g c =
     let same = err_from_is_err_and c.from_residual.result c.from_residual.ensures.1 in
-    let stops = rw c.new-set.ensures.answer at c.in_err-try_extend.ensures.stops in
+    let stops = rw c.new-set.ensures.answer at c.in_err-try_extend.ensures.misfit in
+    let keyed = items_keyed g.T.PartialEq.eq g.row.N in
     rw (same.1, same.2) (record {
-      runs = tt;
+      whole = tt;
       few = tt;
-      stops =
-          (stops.0, stops.1, (stops.2.0, stops.2.1.0));
-      many = (
-        stops.0,
-        stops.1,
-        (
-          stops.2.0,
-          many_taken g.met.T.Eq.laws (items_keyed g.T.PartialEq.eq g.row.N) stops.0.items _
-              stops.2.1.0.1,
-        ),
-      );
-      full =
-          full_at g.met.T.Eq.laws (items_keyed g.T.PartialEq.eq g.row.N) stops.0.items _
-          stops.2.1.0.1;
+      misfit = (stops.0, stops.1, (stops.2.0, stops.2.1.0));
+      many = (stops.0, stops.1, (stops.2.0, many_taken g.met.T.Eq.laws keyed stops.0.items _ stops.2.1.0.1));
+      full = full_at g.met.T.Eq.laws keyed stops.0.items _ stops.2.1.0.1;
       content = tt;
     })
 

@@ -1,30 +1,32 @@
-use Rattle.std.proofs.Common.{◌++◌, length, ap, arith, length-append}
-use Rattle.std.specs.Map.Iter.{deref}
-use Rattle.micromap.specs.Operations.{difference_left, union, union_left, union_on}
+use Rattle.std.proofs.Common.{length, ap, arith, length-append}
+use Rattle.micromap.specs.Operations.{difference_remaining, union_remaining}
 use Rattle.micromap.proofs.AddedItems.{added_all}
 use Rattle.micromap.proofs.OperationLaws.{IsDistinct-union, length-union, union_turned}
 use Rattle.micromap.proofs.OperationSteps.{left_in_order}
 use Rattle.micromap.proofs.set.Set.union.Goals as goal
 
-pub returns : goal.returns
-unfolding union union_left
-returns g c =
-    let eq = g.T.PartialEq.eq in
-    let unique = IsDistinct-union g.met.T.Eq.laws c.args.self.now c.args.other.now
-    c.len-content.ensures.content.unique c.difference.ensures.unique in
-    record {
-      walk = λ i. record { others = c.iter.ensures.answer i; beyond = c.difference.ensures.walk i };
-      items = λ i. c.iter.ensures.answer i ++ c.difference.ensures.items i;
-      bounded = omega (
-        arith,
-        c.len-content.ensures.content.bounded,
-        ap length c.iter.ensures.answer,
-        c.difference.ensures.bounded,
-        length-append c.iter.result (difference_left eq c.difference.result),
-      );
-      unique = unique;
-      builds = added_all g.met.T.Eq.laws _ unique;
-      turned = union_turned g.met.T.Eq.laws _ _;
-      lengths = length-union eq _ _;
-      runs = left_in_order deref (union_left eq) (union_on eq);
-    }
+pub returns-clause-bounded : goal.returns-clause-bounded
+unfolding union_remaining
+returns-clause-bounded g c = omega (
+  arith,
+  c.iter.ensures.content.bounded,
+  ap length c.iter.ensures.answer,
+  c.difference.ensures.bounded,
+  length-append c.iter.result (difference_remaining g.T.PartialEq.eq c.difference.result),
+)
+
+pub returns-clause-unique : goal.returns-clause-unique
+returns-clause-unique g c =
+    IsDistinct-union g.met.T.Eq.laws _ _ c.iter.ensures.content.unique c.difference.ensures.unique
+
+pub returns-clause-builds : goal.returns-clause-builds
+returns-clause-builds g c = added_all g.met.T.Eq.laws _ (returns-clause-unique g c)
+
+pub returns-clause-swapped : goal.returns-clause-swapped
+returns-clause-swapped g c = union_turned g.met.T.Eq.laws _ _
+
+pub returns-clause-lengths : goal.returns-clause-lengths
+returns-clause-lengths g c = length-union g.T.PartialEq.eq _ _
+
+pub returns-clause-runs : goal.returns-clause-runs
+returns-clause-runs g c = left_in_order _ _ _

@@ -5,7 +5,7 @@ use Rattle.micromap.proofs.set.operations.next_where.Given as goal
 
 -- no member is met yet
 abbrev pub invariant-loop-x : goal.invariant-loop-x
-invariant-loop-x g l = MeetsNone (passes g.T.PartialEq.eq l.common l.other) l.initial.rest l.rest
+invariant-loop-x g l = MeetsNone (passes g.T.PartialEq.eq l.wanted l.other) l.initial.rest l.rest
 
 abbrev pub decreases-loop-x : goal.decreases-loop-x
 decreases-loop-x g l = length l.rest

@@ -1,7 +1,6 @@
-use Rattle.std.specs.Prelude.{take}
 use Rattle.std.specs.List.{AllZip}
-use Rattle.micromap_core.specs.Clones.{IsPairClone}
-use Rattle.micromap_core.proofs.CloneLemmas.{IsEqualClone}
+use Rattle.std.specs.Prelude.{take}
+use Rattle.micromap_core.specs.Clones.{IsEqualClone, IsPairClone}
 use Rattle.micromap_core.proofs.map.Map.cloned.Given as goal
 
 -- the map's pairs are the clones of the first ones, with keys equal to theirs

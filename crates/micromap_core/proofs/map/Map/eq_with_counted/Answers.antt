@@ -21,7 +21,6 @@ returns-then-lengths g c =
       outlasts = all.2;
       count = rw (← steps) at c.is_within_counted.ensures.count;
       bounded = bounded;
-      content = (c.len.ensures.content, c.len-2.ensures.content);
     }
 
 pub returns-else-lengths : goal.returns-else-lengths
@@ -39,7 +38,6 @@ returns-else-lengths g c =
       count =
           omega (arith, steps);
       bounded = omega arith;
-      content = (c.len.ensures.content, c.len-2.ensures.content);
     }
 
 pub is_within_counted-requires : goal.is_within_counted-requires

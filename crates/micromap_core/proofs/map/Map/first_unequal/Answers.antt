@@ -8,8 +8,8 @@ loop-key-preserved g c =
     c.args.other.now c.in-Some.ensures.steps c.get.result c.get.ensures.answer c.if-ne.ensures)
     ∙ c.loop-key.invariant
 
-pub returns-then-ne : goal.returns-then-ne
-returns-then-ne g c =
+pub returns-then-ne-clause-answer : goal.returns-then-ne-clause-answer
+returns-then-ne-clause-answer g c =
     sym (unequal_step g.K.PartialEq.eq g.V.PartialEq.eq c.in-Some.key.now c.in-Some.value
     c.args.other.now c.in-Some.ensures.steps c.get.result c.get.ensures.answer c.if-ne.ensures)
     ∙ c.loop-key.invariant

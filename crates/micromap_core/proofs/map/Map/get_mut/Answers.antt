@@ -13,7 +13,5 @@ returns-in-Some g c =
         writes_back = tt;
         answer = sym c.value_at_mut.ensures.value
             ∙ ap (option_map (λ p. p.1)) found.here ∙ sym found.value;
-        content =
-            c.in-Some.ensures.content;
       },
     )

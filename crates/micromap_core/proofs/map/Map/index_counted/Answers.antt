@@ -6,7 +6,7 @@ use Rattle.micromap_core.proofs.map.Map.index_counted.Goals as goal
 
 pub loop-stored-init : goal.loop-stored-init
 loop-stored-init g c = record {
-  scan = rw (c.into_iter-stored-iterator.ensures.into_iter_gives, c.keys-keys.ensures.answer)
+  scan = rw (c.into_iter-stored-iterator.ensures.into_iter_gives, c.keys-stored-items.ensures.answer)
       (not_yet-start _ _);
   count = omega arith;
 }
@@ -30,9 +30,8 @@ overflow_add-index g c =
       c.loop-stored.invariant.scan.counted,
       ap length c.in-Some.ensures.steps,
       length-keys_of c.args.self.now,
-      ap length c.keys-keys.ensures.answer,
-      c.len-bounded.ensures,
-      c.len-bounded.type_inv,
+      ap length c.keys-stored-items.ensures.answer,
+      c.keys-stored-items.ensures.content.bounded,
     )
 
 pub returns-then-same : goal.returns-then-same

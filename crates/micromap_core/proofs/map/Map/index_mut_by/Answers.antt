@@ -11,6 +11,5 @@ returns g c =
         writes_back = tt;
         answer = found.value ∙ sym (ap (option_map (λ p. p.1)) found.here)
             ∙ c.value_at_mut.ensures.value;
-        content = c.in-Some.ensures.content;
       },
     )

@@ -6,7 +6,7 @@ use Rattle.micromap_core.proofs.map.Map.index_of.Goals as goal
 pub loop-key-init : goal.loop-key-init
 loop-key-init g c = rw (
   c.into_iter-key-iterator.ensures.into_iter_gives,
-  c.keys-keys.ensures.answer,
+  c.keys-key-items.ensures.answer,
 ) (not_yet-start _ _)
 
 pub returns-then-matches : goal.returns-then-matches
@@ -18,7 +18,7 @@ returns-then-matches g c =
       found =
           found_at (g.P.Probe.matches c.args.probe.now) c.args.self.now c.loop-key.index at;
       missing = tt;
-      content = c.len-content.ensures.content;
+      content = c.keys-key-items.ensures.content;
     }
 
 -- the key that is looked at was not counted yet
@@ -29,9 +29,8 @@ overflow_add-index g c =
       c.loop-key.invariant.counted,
       ap length c.in-Some.ensures.steps,
       length-keys_of c.args.self.now,
-      ap length c.keys-keys.ensures.answer,
-      c.len-content.ensures.answer,
-      c.len-content.type_inv,
+      ap length c.keys-key-items.ensures.answer,
+      c.keys-key-items.ensures.content.bounded,
     )
 
 pub loop-key-preserved : goal.loop-key-preserved
@@ -47,5 +46,5 @@ returns g c =
       missing =
           not_found (g.P.Probe.matches c.args.probe.now) c.args.self.now none;
       content =
-          c.len-content.ensures.content;
+          c.keys-key-items.ensures.content;
     }

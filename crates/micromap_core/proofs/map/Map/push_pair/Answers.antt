@@ -1,6 +1,6 @@
 use Rattle.micromap_core.proofs.Sizes.{columns_fit}
 use Rattle.std.proofs.Common.{refl}
-use Rattle.micromap_core.proofs.MapLemmas.{not_found, IsUnique-push, push-put, push-put_key}
+use Rattle.micromap_core.proofs.MapLemmas.{not_found, push-put, push-put_key, IsContent-push}
 use Rattle.micromap_core.proofs.map.Map.push_pair.Goals as goal
 
 pub push-requires : goal.push-requires
@@ -11,10 +11,9 @@ push-requires g c = (
 
 pub invariant_of-self : goal.invariant_of-self
 invariant_of-self g c =
-    rw c.push.ensures (IsUnique-push g.K.PartialEq.eq g.met.K.Eq.laws c.self.inside.pairs
-    c.self.invariant c.args.key c.args.value
-    (not_found (g.K.PartialEq.eq c.args.key) c.self.inside.pairs
-    (rw c.self.view_is c.requires.new)))
+    rw c.push.ensures (IsContent-push c.self.invariant c.args.key c.args.value
+    (not_found (g.K.PartialEq.eq c.args.key) c.self.inside.pairs (rw c.self.view_is c.requires.new))
+    (rw c.self.view_is c.requires.room))
 
 pub returns : goal.returns
 returns g c =
@@ -25,5 +24,5 @@ returns g c =
           (push-put g.K.PartialEq.eq c.args.key c.args.self.now new c.args.value);
       put_key = rw (c.push.ensures, c.self.view_is)
           (push-put_key g.K.PartialEq.eq c.args.key c.args.self.now new c.args.value);
-      content = c.len-content.ensures.content;
+      content = invariant_of-self g c;
     }

@@ -1,17 +1,15 @@
 use Rattle.micromap_core.proofs.ClosureLemmas.{keys_in_order, shorter_retained}
-use Rattle.micromap_core.proofs.DistinctLemmas.{IsDistinct-sublist}
+use Rattle.micromap_core.proofs.MapLemmas.{IsContent-sublist}
 use Rattle.micromap_core.proofs.map.Map.retain.Goals as goal
+
+-- the keys that are kept are some of those before
+pub invariant_of-self : goal.invariant_of-self
+invariant_of-self g c = IsContent-sublist c.self.invariant _ (keys_in_order _ _ _ _ c.retain.ensures)
 
 pub returns : goal.returns
 returns g c = record {
   pairs = rw (← c.self.view_is) c.retain.ensures;
   order = rw (← c.self.view_is) (keys_in_order _ _ _ _ c.retain.ensures);
   shorter = rw (← c.self.view_is) (shorter_retained _ _ _ _ c.retain.ensures);
-  content = (c.len-before.ensures.content, c.len-after.ensures.content);
+  content = (rw (← c.self.view_is) c.self.invariant, invariant_of-self g c);
 }
-
--- the keys that are kept are some of those before
-pub invariant_of-self : goal.invariant_of-self
-invariant_of-self g c =
-    IsDistinct-sublist g.K.PartialEq.eq _ _ (keys_in_order _ _ _ _ c.retain.ensures)
-    c.self.invariant

@@ -1,11 +1,15 @@
+use Rattle.std.specs.Prelude.{◌≡◌, ◌+◌, length, true}
 use Rattle.micromap_core.specs.Build.{pair_fits, put_pair}
 use Rattle.micromap_core.specs.Pairs.{IsContent}
-use Rattle.micromap_core.proofs.PutLemmas.{PutSoFar}
+use Rattle.micromap_core.proofs.PuttingLemmas.{Putting}
+use Rattle.micromap_core.proofs.Walked.{Walked}
 use Rattle.micromap_core.proofs.map.Map.try_extend_from.Given as goal
 
 abbrev pub invariant-loop-key : goal.invariant-loop-key
 invariant-loop-key g l = record {
-  put : PutSoFar (pair_fits g.K.PartialEq.eq g.row.N)
-      (put_pair g.K.PartialEq.eq) l.self l.other l.key-iterator l.position l.all;
+  put : Walked l.other l.key-iterator
+      (λ before. Putting (pair_fits g.K.PartialEq.eq g.row.N)
+      (put_pair g.K.PartialEq.eq) l.self before true l.all);
+  counted : l.position + length l.key-iterator ≡ length l.other;
   content : IsContent g.K.PartialEq.eq g.row.N l.all;
 }

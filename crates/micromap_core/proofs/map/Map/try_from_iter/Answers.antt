@@ -1,12 +1,12 @@
 use Rattle.std.proofs.lemmas.Result.{err_from_is_err_and}
-use Rattle.micromap_core.proofs.BuildLemmas.{few_distinct, full_at, many_taken, pairs_keyed}
+use Rattle.micromap_core.proofs.KeyedLemmas.{few_distinct, full_at, many_taken, pairs_keyed}
 use Rattle.micromap_core.proofs.map.Map.try_from_iter.Goals as goal
 
 pub returns : goal.returns
 returns g c =
-    let runs = rw c.new-map.ensures.answer at c.in_ok-try_extend.ensures.runs in
+    let runs = rw c.new-map.ensures.answer at c.in_ok-try_extend.ensures.whole in
     record {
-      runs = runs;
+      whole = runs;
       few = (
         runs.0,
         runs.1,
@@ -14,7 +14,7 @@ returns g c =
         few_distinct g.met.K.Eq.laws (pairs_keyed g.K.PartialEq.eq g.row.N) runs.0.items
             runs.3.0,
       );
-      stops = tt;
+      misfit = tt;
       many = tt;
       full = tt;
       content =
@@ -24,11 +24,11 @@ returns g c =
 pub returns-in_err-try_extend : goal.returns-in_err-try_extend
 returns-in_err-try_extend g c =
     let same = err_from_is_err_and c.from_residual.result c.from_residual.ensures.1 in
-    let stops = rw c.new-map.ensures.answer at c.in_err-try_extend.ensures.stops in
+    let stops = rw c.new-map.ensures.answer at c.in_err-try_extend.ensures.misfit in
     rw (same.1, same.2) (record {
-      runs = tt;
+      whole = tt;
       few = tt;
-      stops =
+      misfit =
           (stops.0, stops.1, (stops.2.0, stops.2.1.0));
       many = (
         stops.0,

@@ -1,29 +1,20 @@
-use Rattle.std.proofs.Common.{arith}
-use Rattle.micromap_core.proofs.ClosureLemmas.{asks_next, keys_updated, updates_next, update_ends}
+use Rattle.micromap_core.proofs.ClosureLemmas.{keys_updated}
+use Rattle.micromap_core.proofs.MapLemmas.{IsContent-same_keys}
+use Rattle.micromap_core.proofs.Sizes.{columns_fit}
 use Rattle.micromap_core.proofs.map.Map.update_all.Goals as goal
 
-pub visit_at-requires : goal.visit_at-requires
-visit_at-requires g c = (
-  assumption,
-  (
-    omega arith,
-    asks_next g.F.FnMut c.args.update c.args.self.now _ _ _ c.loop-index.invariant
-        c.requires,
-  ),
+pub update_all-requires : goal.update_all-requires
+update_all-requires g c = (
+  columns_fit g.row.K g.row.V g.row.N g.K.PartialEq.eq assumption,
+  rw c.self.view_is c.requires,
 )
 
-pub loop-index-preserved : goal.loop-index-preserved
-loop-index-preserved g c =
-    updates_next g.F.FnMut c.args.update c.args.self.now _ _ _ c.loop-index.invariant _ _ _
-    c.visit_at.ensures
+pub invariant_of-self : goal.invariant_of-self
+invariant_of-self g c = IsContent-same_keys c.self.invariant _ (keys_updated c.update_all.ensures)
 
 pub returns : goal.returns
-returns g c =
-    let at = c.loop-index.invariant in
-    let pairs = update_ends g.F.FnMut c.args.update c.args.self.now _ _ _ at (omega arith) in
-    record {
-      pairs = pairs;
-      same_keys = keys_updated pairs;
-      content =
-          (c.len-index-end.ensures.content, c.len-after.ensures.content);
-    }
+returns g c = record {
+  pairs = rw (← c.self.view_is) c.update_all.ensures;
+  same_keys = rw (← c.self.view_is) (keys_updated c.update_all.ensures);
+  content = (rw (← c.self.view_is) c.self.invariant, invariant_of-self g c);
+}

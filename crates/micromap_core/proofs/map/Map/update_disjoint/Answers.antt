@@ -1,5 +1,6 @@
 use Rattle.std.proofs.Common.{◌<◌, length, refl, rules, sym}
-use Rattle.micromap_core.proofs.ClosureLemmas.{asks_value, updates_stored, updates_missing, update_keys_end}
+use Rattle.micromap_core.proofs.ClosureLemmas.{asks_value, update_keys_end, updates_missing, updates_stored}
+use Rattle.micromap_core.proofs.MapLemmas.{IsContent-same_keys}
 use Rattle.micromap_core.proofs.map.Map.update_disjoint.Goals as goal
 
 pub update-requires : goal.update-requires
@@ -48,5 +49,5 @@ returns g c =
       same_keys =
           c.loop-position.invariant.same_keys;
       content =
-          (c.len-content.ensures.content, c.len-after.ensures.content);
+          (c.len-known.ensures.content, IsContent-same_keys c.len-known.ensures.content _ c.loop-position.invariant.same_keys);
     }

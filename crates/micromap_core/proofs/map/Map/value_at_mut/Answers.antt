@@ -1,12 +1,10 @@
 use Rattle.micromap_core.proofs.Sizes.{columns_fit}
 use Rattle.std.proofs.Common.{refl}
-use Rattle.micromap_core.proofs.MapLemmas.{IsContent-with_value_at, IsUnique-with_value_at}
+use Rattle.micromap_core.proofs.MapLemmas.{IsContent-with_value_at}
 use Rattle.micromap_core.proofs.map.Map.value_at_mut.Goals as goal
 
 pub invariant_of-self-lent : goal.invariant_of-self-lent
-invariant_of-self-lent g c w =
-    IsUnique-with_value_at g.K.PartialEq.eq g.met.K.Eq.laws c.self.inside.pairs c.self.invariant
-    c.args.index w
+invariant_of-self-lent g c w = IsContent-with_value_at c.self.invariant c.args.index w
 
 pub value_at_mut-requires : goal.value_at_mut-requires
 value_at_mut-requires g c = (
@@ -20,9 +18,6 @@ returns g c = (
   record {
     writes_back = tt;
     value = rw (← c.self.view_is) c.value_at_mut.ensures.value;
-    content =
-        λ v. rw (← c.self.view_is)
-        (IsContent-with_value_at c.self.inside.pairs c.args.index v g.K.PartialEq.eq g.row.N
-        c.len-content.ensures.content);
+    content = λ v. rw (← c.self.view_is) (IsContent-with_value_at c.self.invariant c.args.index v);
   },
 )

@@ -1,8 +1,11 @@
-use Rattle.std.proofs.Common.{◌≡◌, false, ◌||◌, take, ap, sym, ◌∙◌}
+use Rattle.std.proofs.Common.{◌≡◌, ◌||◌, ◌∙◌, ap, false, sym, take}
 use Rattle.std.specs.List.{list_any}
+use Rattle.std.specs.Map.{keys_of}
 use Rattle.std.proofs.lemmas.List.{nil_from_length, take_all}
 use Rattle.std.proofs.lemmas.List.Folds.{list_any_more}
-use Rattle.micromap_core.proofs.BuildLemmas.{IsDistinct-nil, unique_before}
+use Rattle.std.proofs.lemmas.Map.Keys.{IsDistinct-cons}
+use Rattle.micromap_core.proofs.DistinctLemmas.{fails_everywhere, IsDistinct-nil}
+use Rattle.micromap_core.proofs.Views.{any-map}
 use Rattle.micromap_core.proofs.map.build.are_distinct.Goals as goal
 
 pub loop-item-preserved : goal.loop-item-preserved
@@ -10,14 +13,16 @@ loop-item-preserved g c =
     let eq = g.K.PartialEq.eq in
     let item = c.in-Some.item.now in
     let later = c.as_slice-later-items.result.now in
+    let rest = c.next.new.self.rest.now in
     let none : list_any (λ q. eq item.0 q.0) later ≡ false =
     ap (list_any (λ q. eq item.0 q.0))
     (sym (take_all c.loop-later.later-index later c.loop-later-test.false))
     ∙ sym c.loop-later.invariant ∙ c.if-repeated.false in
     λ unique. c.loop-item.invariant
     (rw c.in-Some.ensures.steps
-    (unique_before eq item c.next.new.self.rest.now
-    (rw c.as_slice-later-items.ensures.value at none) unique))
+    (IsDistinct-cons eq item.0 (keys_of rest)
+    (fails_everywhere (eq item.0) (keys_of rest) (any-map (λ p. p.0) (eq item.0) rest
+    ∙ (rw c.as_slice-later-items.ensures.value at none))) unique))
 
 pub loop-later-preserved : goal.loop-later-preserved
 loop-later-preserved g c =

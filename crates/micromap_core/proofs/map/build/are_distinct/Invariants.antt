@@ -1,5 +1,5 @@
-use Rattle.std.specs.Prelude.{◌≡◌, take}
 use Rattle.std.specs.List.{list_any}
+use Rattle.std.specs.Prelude.{◌≡◌, take}
 use Rattle.micromap_core.specs.Pairs.{IsUnique}
 use Rattle.micromap_core.proofs.map.build.are_distinct.Given as goal
 

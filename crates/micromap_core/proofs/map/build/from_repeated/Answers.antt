@@ -1,7 +1,8 @@
-use Rattle.std.proofs.Common.{◌≡◌, true, [], get_or, ap, subst, sym, ◌∙◌, rules, take_all}
+use Rattle.std.proofs.Common.{◌≡◌, ◌∙◌, [], ap, get_or, rules, subst, sym, take_all, true}
+use Rattle.std.proofs.lemmas.List.Sums.{fold_more}
 use Rattle.micromap_core.specs.Build.{build, pair_fits, put_pair}
 use Rattle.micromap_core.specs.Pairs.{IsContent}
-use Rattle.micromap_core.proofs.BuildLemmas.{put_at, pairs_keyed, array_fits, array_fits_at, IsContent-build}
+use Rattle.micromap_core.proofs.KeyedLemmas.{array_fits, array_fits_at, pairs_keyed, IsContent-build}
 use Rattle.micromap_core.proofs.map.build.from_repeated.Goals as goal
 
 pub insert-requires : goal.insert-requires
@@ -10,17 +11,17 @@ insert-requires g c =
     let eq = g.K.PartialEq.eq in
     let item = c.index-items-index.result in
     let fit : pair_fits eq g.row.N l.map (get_or c.args.items l.index item) ≡ true =
-    array_fits_at g.met.K.Eq.laws (pairs_keyed eq g.row.N) c.args.items (search rules) l.index
-    item l.map c.loop-index-test.true l.invariant in
+    rw l.invariant (array_fits_at g.met.K.Eq.laws (pairs_keyed eq g.row.N) c.args.items (search rules) l.index
+    (get_or c.args.items l.index item) c.loop-index-test.true) in
     search rules
 
 pub loop-index-preserved : goal.loop-index-preserved
 loop-index-preserved g c =
     let l = c.loop-index in
-    let eq = g.K.PartialEq.eq in
-    put_at (pair_fits eq g.row.N)
-    (put_pair eq) [] c.args.items l.index c.index-items-index.result l.map (search rules)
-    l.invariant _ c.insert.ensures.pairs
+    let put = put_pair g.K.PartialEq.eq in
+    let item = c.index-items-index.result in
+    c.insert.ensures.pairs ∙ ap (λ m. put m (get_or c.args.items l.index item)) l.invariant
+    ∙ sym (fold_more put [] c.args.items l.index item (search rules))
 
 pub returns : goal.returns
 returns g c =
@@ -35,6 +36,3 @@ returns g c =
           subst (IsContent eq g.row.N) (sym made)
           (IsContent-build eq g.row.N g.met.K.Eq.laws c.args.items fit);
     }
-
-pub loop-index-init : goal.loop-index-init
-loop-index-init g c = c.new-map.ensures.answer

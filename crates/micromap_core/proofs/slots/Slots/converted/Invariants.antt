@@ -1,11 +1,14 @@
+use Rattle.std.specs.List.{AllZip}
 use Rattle.arrayvec.specs.Iter.{drain_items}
-use Rattle.micromap_core.proofs.SlotsLemmas.{Converted}
+use Rattle.micromap_walk.specs.Filled.{items_of, AreFilled}
+use Rattle.micromap_core.proofs.Walked.{Walked}
 use Rattle.micromap_core.proofs.slots.Slots.converted.Given as goal
 
 abbrev pub invariant-loop-slot : goal.invariant-loop-slot
 invariant-loop-slot g l = record {
   can : (goal.iterator-loop-slot g).can_next l.slot-iterator;
   finite : (goal.iterator-loop-slot g).is_finite l.slot-iterator;
-  converted : Converted g.U.From.from_gives l.slots.items (drain_items l.slot-iterator)
-      (drain_items l.initial.slot-iterator);
+  filled : AreFilled (drain_items l.slot-iterator);
+  converted : Walked l.fn.self (items_of (drain_items l.slot-iterator))
+      (λ done. AreFilled l.slots.items × AllZip g.U.From.from_gives done (items_of l.slots.items));
 }

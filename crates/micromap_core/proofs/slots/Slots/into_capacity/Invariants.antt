@@ -1,4 +1,4 @@
-use Rattle.std.specs.Prelude.{◌≡◌, ◌++◌}
+use Rattle.std.specs.Prelude.{◌≡◌, ◌++◌, map, Some}
 use Rattle.arrayvec.specs.Iter.{drain_items}
 use Rattle.micromap_core.proofs.slots.Slots.into_capacity.Given as goal
 
@@ -6,5 +6,5 @@ abbrev pub invariant-loop-slot : goal.invariant-loop-slot
 invariant-loop-slot g l = record {
   can : (goal.iterator-loop-slot g).can_next l.slot-iterator;
   finite : (goal.iterator-loop-slot g).is_finite l.slot-iterator;
-  moved : l.slots.items ++ drain_items l.slot-iterator ≡ drain_items l.initial.slot-iterator;
+  moved : l.slots.items ++ drain_items l.slot-iterator ≡ map Some l.fn.self;
 }

@@ -1,5 +1,5 @@
-use Rattle.std.proofs.Common.{◌≡◌, get_or, is_some, ap, ◌∙◌}
-use Rattle.micromap_core.proofs.SlotsLemmas.{length_filled, item_at, some_at}
+use Rattle.std.proofs.Common.{◌≡◌, ◌∙◌, ap, get_or, is_some}
+use Rattle.micromap_core.proofs.SlotsLemmas.{item_at, length_filled, some_at}
 use Rattle.micromap_core.proofs.slots.Slots.item_at.Goals as goal
 
 pub bounds-as_slice-index : goal.bounds-as_slice-index

@@ -1,5 +1,5 @@
-use Rattle.std.proofs.Common.{refl, ◌∙◌}
-use Rattle.micromap_core.proofs.SlotsLemmas.{items_of-map, length_filled, item_at, set_filled}
+use Rattle.std.proofs.Common.{◌∙◌, refl}
+use Rattle.micromap_core.proofs.SlotsLemmas.{item_at, items_of-map, length_filled, set_filled}
 use Rattle.micromap_core.proofs.slots.Slots.item_at_mut.Goals as goal
 
 -- the slot has the item at the index, and a write there writes that item

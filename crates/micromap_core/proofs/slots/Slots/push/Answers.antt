@@ -1,5 +1,5 @@
-use Rattle.std.proofs.Common.{refl, ◌∙◌, rules}
-use Rattle.micromap_core.proofs.SlotsLemmas.{AreFilled-from, items_of-map, length_filled, push_filled}
+use Rattle.std.proofs.Common.{◌∙◌, refl, rules}
+use Rattle.micromap_core.proofs.SlotsLemmas.{items_of-map, length_filled, push_filled, AreFilled-from}
 use Rattle.micromap_core.proofs.slots.Slots.push.Goals as goal
 
 pub invariant_of-self : goal.invariant_of-self

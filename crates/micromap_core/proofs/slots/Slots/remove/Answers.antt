@@ -1,5 +1,5 @@
-use Rattle.std.proofs.Common.{is_some, refl, rules, ap, ◌∙◌}
-use Rattle.micromap_core.proofs.SlotsLemmas.{AreFilled-from, items_of-map, length_filled, item_at, remove_filled, some_at}
+use Rattle.std.proofs.Common.{◌∙◌, ap, is_some, refl, rules}
+use Rattle.micromap_core.proofs.SlotsLemmas.{item_at, items_of-map, length_filled, remove_filled, some_at, AreFilled-from}
 use Rattle.micromap_core.proofs.slots.Slots.remove.Goals as goal
 
 pub remove_slot-requires : goal.remove_slot-requires

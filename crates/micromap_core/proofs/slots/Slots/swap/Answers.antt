@@ -1,7 +1,7 @@
-use Rattle.std.proofs.Common.{◌≡◌, ℕ, List, length, refl, ◌∙◌}
+use Rattle.std.proofs.Common.{◌≡◌, ℕ, ◌∙◌, length, refl, List}
 use Rattle.std.specs.List.{refill, swap}
 use Rattle.micromap_core.proofs.Lists.{refill-same}
-use Rattle.micromap_core.proofs.SlotsLemmas.{AreFilled-from, items_of-map, swap_filled}
+use Rattle.micromap_core.proofs.SlotsLemmas.{items_of-map, swap_filled, AreFilled-from}
 use Rattle.micromap_core.proofs.slots.Slots.swap.Goals as goal
 
 -- the slots once the slice is written back

@@ -6,6 +6,6 @@ use Rattle.micromap_walk.proofs.owning.IntoIterExactSizeIterator.len.Goals as go
 pub returns-clause-value : goal.returns-clause-value
 returns-clause-value g c =
     let left = c.self.invariant in
-    ap (λ n. n - c.self.inside.given) c.len.ensures.value ∙ sym (length-drop _ _)
+    ap (λ n. n - c.self.inside.front) c.len.ensures.value ∙ sym (length-drop _ _)
     ∙ sym (length_filled _ left.keys) ∙ sym (length_zip _ _ (left_equal _ _ _ left))
     ∙ ap length c.self.view_is

@@ -7,19 +7,13 @@ use Rattle.micromap.proofs.set.print.SetDisplay.fmt.Goals as goal
 pub loop-item-init : goal.loop-item-init
 loop-item-init g c =
     let took = g.W.Write.write_str_gives in
-    let spec = formatter_spec c.args.f.now in
-    let opens = c.in_ok-write_str.ensures in
-    let plain = printing_begins (DisplaysOnOk took) g.T.Display.output (plain_append took)
-    c.args.f.now c.write_str.new.self c.args.self.now opens.writes in
-    let styled = printing_begins (WritesAs took c.args.f.now)
-    (λ x. g.T.Display.styled_output x spec)
-    (styled_append took c.args.f.now) c.args.f.now c.write_str.new.self c.args.self.now
-    (λ same. opens.styled) in
-    record {
-      utf8 = search rules;
-      plain = rw c.into_iter-item-iterator.ensures.into_iter_gives.0 plain;
-      styled = rw c.into_iter-item-iterator.ensures.into_iter_gives.0 styled;
-    }
+    let f = c.args.f.now in
+    let plain = printing_begins (DisplaysOnOk took) g.T.Display.output (plain_append took) f c.write_str.new.self
+    c.args.self.now c.in_ok-write_str.ensures.writes in
+    let styled = printing_begins (WritesAs took f) (λ x. g.T.Display.styled_output x (formatter_spec f)) (styled_append took f)
+    f c.write_str.new.self c.args.self.now (λ same. c.in_ok-write_str.ensures.styled) in
+    let walk = c.into_iter-item-iterator.ensures.into_iter_gives.0 in
+    record { utf8 = search rules; plain = rw walk plain; styled = rw walk styled }
 
 pub loop-item-preserved : goal.loop-item-preserved
 loop-item-preserved g c =
@@ -59,25 +53,19 @@ returns-clause-styled g c =
 
 -- a failed call says nothing of a text
 pub returns-in_err-write_str : goal.returns-in_err-write_str
-returns-in_err-write_str g c =
-    let failed = c.from_residual.ensures.0 in
-    let took = g.W.Write.write_str_gives in record {
-      writes = failed_plain took c.args.f.now _ _ _ failed;
-      styled = failed_styled took c.args.f.now _ _ _ failed;
-    }
+returns-in_err-write_str g c = record {
+  writes = failed_plain g.W.Write.write_str_gives c.args.f.now _ _ _ c.from_residual.ensures.0;
+  styled = failed_styled g.W.Write.write_str_gives c.args.f.now _ _ _ c.from_residual.ensures.0;
+}
 
 pub returns-in_err-fmt : goal.returns-in_err-fmt
-returns-in_err-fmt g c =
-    let failed = c.from_residual-in_err-fmt.ensures.0 in
-    let took = g.W.Write.write_str_gives in record {
-      writes = failed_plain took c.args.f.now _ _ _ failed;
-      styled = failed_styled took c.args.f.now _ _ _ failed;
-    }
+returns-in_err-fmt g c = record {
+  writes = failed_plain g.W.Write.write_str_gives c.args.f.now _ _ _ c.from_residual-in_err-fmt.ensures.0;
+  styled = failed_styled g.W.Write.write_str_gives c.args.f.now _ _ _ c.from_residual-in_err-fmt.ensures.0;
+}
 
 pub returns-in_err-write_str-2 : goal.returns-in_err-write_str-2
-returns-in_err-write_str-2 g c =
-    let failed = c.from_residual-in_err-write_str-2.ensures.0 in
-    let took = g.W.Write.write_str_gives in record {
-      writes = failed_plain took c.args.f.now _ _ _ failed;
-      styled = failed_styled took c.args.f.now _ _ _ failed;
-    }
+returns-in_err-write_str-2 g c = record {
+  writes = failed_plain g.W.Write.write_str_gives c.args.f.now _ _ _ c.from_residual-in_err-write_str-2.ensures.0;
+  styled = failed_styled g.W.Write.write_str_gives c.args.f.now _ _ _ c.from_residual-in_err-write_str-2.ensures.0;
+}

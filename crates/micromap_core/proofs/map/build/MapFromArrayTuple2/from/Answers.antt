@@ -1,9 +1,8 @@
-use Rattle.std.proofs.Common.{◌≡◌, [], ◌∷◌, ◌++◌, ◌+◌, get_or, take, refl, ap, subst, sym, ◌∙◌, rules}
+use Rattle.std.proofs.Common.{◌≡◌, [], ◌∷◌, ◌++◌, ◌+◌, ◌∙◌, ap, get_or, refl, rules, subst, sym, take}
 use Rattle.std.proofs.lemmas.List.{take_all, take_more}
 use Rattle.micromap_core.specs.Pairs.{IsContent}
-use Rattle.micromap_core.proofs.BuildLemmas.{array_fits, pairs_keyed, IsContent-build}
+use Rattle.micromap_core.proofs.KeyedLemmas.{array_fits, built_in_turn, pairs_keyed, IsContent-build}
 use Rattle.micromap_core.proofs.Sizes.{columns_fit}
-use Rattle.micromap_core.proofs.StreamLemmas.{built_in_turn}
 use Rattle.micromap_core.proofs.map.build.MapFromArrayTuple2.from.Goals as goal
 
 pub push-requires : goal.push-requires
@@ -22,11 +21,6 @@ loop-index-preserved g c =
     c.push.ensures ∙ ap (λ l. l ++ get_or c.args.items index item ∷ []) c.loop-index.invariant
     ∙ sym more
 
-pub invariant_of-result : goal.invariant_of-result
-invariant_of-result g c =
-    rw (c.loop-index.invariant, take_all c.loop-index.index c.args.items (search rules))
-    (c.if-not-are_distinct.ensures refl)
-
 pub returns : goal.returns
 returns g c =
     let laws = g.met.K.Eq.laws in
@@ -40,3 +34,6 @@ returns g c =
       subst (IsContent g.K.PartialEq.eq g.row.N) (sym built)
           (IsContent-build g.K.PartialEq.eq g.row.N laws c.args.items fit),
     )
+
+pub invariant_of-result : goal.invariant_of-result
+invariant_of-result g c = (returns g c).2

@@ -1,9 +1,8 @@
-use Rattle.std.proofs.Common.{Some, Ok, rules}
+use Rattle.std.proofs.Common.{rules, Ok, Some}
 use Rattle.std.specs.Fmt.{◌++?◌}
 use Rattle.std.proofs.Padding.{displays_at_plain}
-use Rattle.micromap_core.specs.Print.{pair_text, map_text}
-use Rattle.micromap_core.proofs.PrintLemmas.{WritesAs, styled_append, with_options, styled_from, unstyled_writes}
-use Rattle.micromap_core.proofs.PrintLemmas.{failed_styled, printing_begins, printing_more, printing_ends}
+use Rattle.micromap_core.specs.Print.{map_text, pair_text}
+use Rattle.micromap_core.proofs.PrintLemmas.{failed_plain, failed_styled, printing_begins, printing_ends, printing_more, styled_append, styled_from, unstyled_writes, with_options, WritesAs}
 use Rattle.micromap_core.proofs.map.print.MapDisplay.fmt.Goals as goal
 
 pub loop-key-init : goal.loop-key-init
@@ -53,22 +52,16 @@ returns g c =
 -- a failed call says nothing of a text
 pub returns-in_err-write : goal.returns-in_err-write
 returns-in_err-write g c =
-    let failed = failed_styled g.W.Write.write_str_gives c.args.f.now _ _ _
-    c.from_residual-in_err-write.ensures.0 in
+    let failed = c.from_residual-in_err-write.ensures.0 in
     record {
-      styled = failed;
-      writes =
-          displays_at_plain g.W.Write.write_str_gives _ _ _
-          (map_text g.K.Display.output g.V.Display.output c.args.self.now) failed;
+      styled = failed_styled g.W.Write.write_str_gives c.args.f.now _ _ _ failed;
+      writes = failed_plain g.W.Write.write_str_gives c.args.f.now _ _ _ failed;
     }
 
 pub returns-in_err-write_str : goal.returns-in_err-write_str
 returns-in_err-write_str g c =
-    let failed = failed_styled g.W.Write.write_str_gives c.args.f.now _ _ _
-    c.from_residual.ensures.0 in
+    let failed = c.from_residual.ensures.0 in
     record {
-      styled = failed;
-      writes =
-          displays_at_plain g.W.Write.write_str_gives _ _ _
-          (map_text g.K.Display.output g.V.Display.output c.args.self.now) failed;
+      styled = failed_styled g.W.Write.write_str_gives c.args.f.now _ _ _ failed;
+      writes = failed_plain g.W.Write.write_str_gives c.args.f.now _ _ _ failed;
     }

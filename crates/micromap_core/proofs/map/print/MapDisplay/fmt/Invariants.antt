@@ -1,5 +1,5 @@
-use denote.Text.{Utf8}
 use denote.Shadow.{shadow}
+use denote.Text.{Utf8}
 use Rattle.micromap_core.specs.Print.{pair_text}
 use Rattle.micromap_core.proofs.PrintLemmas.{Printing, WritesAs}
 use Rattle.micromap_core.proofs.map.print.MapDisplay.fmt.Given as goal

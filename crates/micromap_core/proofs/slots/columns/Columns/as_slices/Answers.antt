@@ -1,13 +1,12 @@
-use Rattle.std.proofs.Common.{sym, ◌∙◌}
-use Rattle.micromap_core.proofs.SlotsLemmas.{as_long, equal_slots}
+use Rattle.std.proofs.Common.{◌∙◌, sym}
+use Rattle.micromap_core.proofs.SlotsLemmas.{as_many_values, equal_slots}
 use Rattle.micromap_core.proofs.slots.columns.Columns.as_slices.Goals as goal
 
-pub hint_equal-requires : goal.hint_equal-requires
-hint_equal-requires g c = c.len.ensures.answer ∙ sym c.self.invariant
-    ∙ sym (as_long _ _ _ c.self.invariant c.self.view_is) ∙ sym c.len-len.ensures.answer
+pub equal-requires : goal.equal-requires
+equal-requires g c = c.len.ensures.answer ∙ sym (as_many_values _ _ _ c.self.invariant c.self.view_is) ∙ sym c.len-len.ensures.answer
 
-pub hint_at_most-requires : goal.hint_at_most-requires
-hint_at_most-requires g c = rw c.len-len.ensures.answer c.len-len.ensures.bounded
+pub at_most-requires : goal.at_most-requires
+at_most-requires g c = rw c.len-len.ensures.answer c.len-len.ensures.bounded
 
 pub returns : goal.returns
 returns g c = record {

@@ -1,26 +1,24 @@
-use Rattle.std.proofs.Common.{length, [], ◌∷◌, ◌++◌, take, ap, sym, ◌∙◌, arith, length-take, take_all}
+use Rattle.std.proofs.Common.{[], ◌∷◌, ◌++◌, ◌∙◌, ap, arith, length, length-take, sym, take, take_all}
 use Rattle.std.proofs.lemmas.List.{take_more}
 use Rattle.std.proofs.lemmas.Option.{get_or_from_slice_get}
 use Rattle.micromap_core.proofs.Sizes.{keys_fit, values_fit}
-use Rattle.micromap_core.proofs.SlotsLemmas.{as_long}
+use Rattle.micromap_core.proofs.SlotsLemmas.{as_many_keys, as_many_values}
 use Rattle.micromap_core.proofs.slots.columns.Columns.copied.Goals as goal
 
-pub hint_equal-requires : goal.hint_equal-requires
-hint_equal-requires g c = c.len.ensures.answer ∙ sym c.self.invariant
-    ∙ sym (as_long _ _ _ c.self.invariant c.self.view_is) ∙ sym c.len-len.ensures.answer
+pub equal-requires : goal.equal-requires
+equal-requires g c = c.len.ensures.answer ∙ sym (as_many_values _ _ _ c.self.invariant c.self.view_is) ∙ sym c.len-len.ensures.answer
 
 pub copied_full-requires : goal.copied_full-requires
 copied_full-requires g c = (
   keys_fit g.row.K g.row.V g.row.N assumption,
-  sym (as_long _ _ _ c.self.invariant c.self.view_is)
+  sym (as_many_keys _ _ _ c.self.invariant c.self.view_is)
       ∙ sym c.len-len.ensures.answer ∙ c.if-len.true,
 )
 
 pub copied_full-requires-then-len : goal.copied_full-requires-then-len
 copied_full-requires-then-len g c = (
   values_fit g.row.K g.row.V g.row.N assumption,
-  sym c.self.invariant
-      ∙ sym (as_long _ _ _ c.self.invariant c.self.view_is)
+  sym (as_many_values _ _ _ c.self.invariant c.self.view_is)
       ∙ sym c.len-len.ensures.answer ∙ c.if-len.true,
 )
 
@@ -33,8 +31,8 @@ returns-then-len g c = rw (c.copied_full.ensures, c.copied_full-then-len.ensures
 pub pair_at-requires : goal.pair_at-requires
 pair_at-requires g c = (assumption, rw (← c.len-len.ensures.answer) c.loop-index-test.true)
 
-pub hint_equal-requires-in-loop-index : goal.hint_equal-requires-in-loop-index
-hint_equal-requires-in-loop-index g c = omega (
+pub equal-requires-in-loop-index : goal.equal-requires-in-loop-index
+equal-requires-in-loop-index g c = omega (
   arith,
   c.len-in-loop-index.ensures.answer,
   ap length c.loop-index.invariant,

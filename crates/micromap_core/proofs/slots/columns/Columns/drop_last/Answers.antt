@@ -1,22 +1,21 @@
-use Rattle.std.proofs.Common.{◌-◌, length, arith, length-take, sym, ◌∙◌}
+use Rattle.std.proofs.Common.{◌-◌, ◌∙◌, arith, length, length-take, sym}
 use Rattle.micromap_core.proofs.Sizes.{keys_fit, values_fit}
-use Rattle.micromap_core.proofs.SlotsLemmas.{as_long, zip_take}
+use Rattle.micromap_core.proofs.SlotsLemmas.{as_many_keys, as_many_values, zip_take}
 use Rattle.micromap_core.proofs.slots.columns.Columns.drop_last.Goals as goal
 
-pub hint_equal-requires : goal.hint_equal-requires
-hint_equal-requires g c = c.len.ensures.answer ∙ sym c.self.invariant
-    ∙ sym (as_long _ _ _ c.self.invariant c.self.view_is) ∙ sym c.len-2.ensures.answer
+pub equal-requires : goal.equal-requires
+equal-requires g c = c.len.ensures.answer ∙ sym (as_many_values _ _ _ c.self.invariant c.self.view_is) ∙ sym c.len-2.ensures.answer
 
 pub drop_last-requires : goal.drop_last-requires
 drop_last-requires g c = (
   keys_fit g.row.K g.row.V g.row.N assumption,
-  rw (as_long _ _ _ c.self.invariant c.self.view_is) at c.requires,
+  rw (as_many_keys _ _ _ c.self.invariant c.self.view_is) at c.requires,
 )
 
 pub drop_last-requires-2 : goal.drop_last-requires-2
 drop_last-requires-2 g c = (
   values_fit g.row.K g.row.V g.row.N assumption,
-  rw (as_long _ _ _ c.self.invariant c.self.view_is ∙ c.self.invariant) at c.requires,
+  rw (as_many_values _ _ _ c.self.invariant c.self.view_is) at c.requires,
 )
 
 pub invariant_of-self : goal.invariant_of-self
@@ -32,6 +31,6 @@ returns g c =
       c.drop_last.ensures,
       c.drop_last-2.ensures,
       ← c.self.invariant,
-      ← as_long _ _ _ c.self.invariant c.self.view_is,
+      ← as_many_keys _ _ _ c.self.invariant c.self.view_is,
       ← c.self.view_is,
     ) (zip_take _ _ _)

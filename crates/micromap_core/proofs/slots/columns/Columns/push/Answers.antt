@@ -1,21 +1,20 @@
-use Rattle.std.proofs.Common.{sym, ◌∙◌}
-use Rattle.micromap_core.proofs.Sizes.{keys_fit, values_fit}
-use Rattle.micromap_core.proofs.SlotsLemmas.{as_long, equal_push}
+use Rattle.std.proofs.Common.{◌∙◌, sym}
 use Rattle.micromap_walk.proofs.ZipLemmas.{zip_append}
+use Rattle.micromap_core.proofs.Sizes.{keys_fit, values_fit}
+use Rattle.micromap_core.proofs.SlotsLemmas.{as_many_keys, as_many_values, equal_push}
 use Rattle.micromap_core.proofs.slots.columns.Columns.push.Goals as goal
 
 pub push-requires : goal.push-requires
 push-requires g c =
-    (keys_fit g.row.K g.row.V g.row.N assumption, rw (as_long _ _ _ c.self.invariant c.self.view_is) at c.requires)
+    (keys_fit g.row.K g.row.V g.row.N assumption, rw (as_many_keys _ _ _ c.self.invariant c.self.view_is) at c.requires)
 
-pub hint_equal-requires : goal.hint_equal-requires
-hint_equal-requires g c = c.len.ensures.answer ∙ sym c.self.invariant
-    ∙ sym (as_long _ _ _ c.self.invariant c.self.view_is) ∙ sym c.len-len.ensures.answer
+pub equal-requires : goal.equal-requires
+equal-requires g c = c.len.ensures.answer ∙ sym (as_many_values _ _ _ c.self.invariant c.self.view_is) ∙ sym c.len-len.ensures.answer
 
 pub push-requires-2 : goal.push-requires-2
 push-requires-2 g c = (
   values_fit g.row.K g.row.V g.row.N assumption,
-  rw (as_long _ _ _ c.self.invariant c.self.view_is ∙ c.self.invariant) at c.requires,
+  rw (as_many_values _ _ _ c.self.invariant c.self.view_is) at c.requires,
 )
 
 pub invariant_of-self : goal.invariant_of-self

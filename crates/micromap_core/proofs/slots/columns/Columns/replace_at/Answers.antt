@@ -1,20 +1,20 @@
-use Rattle.std.proofs.Common.{Some, ap, length-set, sym, ◌∙◌}
+use Rattle.std.proofs.Common.{◌∙◌, ap, length-set, sym, Some}
 use Rattle.micromap_core.proofs.Sizes.{keys_fit, values_fit}
-use Rattle.micromap_core.proofs.SlotsLemmas.{as_long, get_zip, set_zip}
+use Rattle.micromap_core.proofs.SlotsLemmas.{as_many_keys, as_many_values, get_zip, set_zip}
 use Rattle.micromap_core.proofs.slots.columns.Columns.replace_at.Goals as goal
 
-pub hint_below-requires : goal.hint_below-requires
-hint_below-requires g c = rw c.len.ensures.answer
-    (rw (as_long _ _ _ c.self.invariant c.self.view_is ∙ c.self.invariant) at c.requires)
+pub below-requires : goal.below-requires
+below-requires g c = rw c.len.ensures.answer
+    (rw (as_many_values _ _ _ c.self.invariant c.self.view_is) at c.requires)
 
 pub item_at_mut-requires : goal.item_at_mut-requires
 item_at_mut-requires g c =
-    (keys_fit g.row.K g.row.V g.row.N assumption, rw (as_long _ _ _ c.self.invariant c.self.view_is) at c.requires)
+    (keys_fit g.row.K g.row.V g.row.N assumption, rw (as_many_keys _ _ _ c.self.invariant c.self.view_is) at c.requires)
 
 pub item_at_mut-requires-2 : goal.item_at_mut-requires-2
 item_at_mut-requires-2 g c = (
   values_fit g.row.K g.row.V g.row.N assumption,
-  rw (as_long _ _ _ c.self.invariant c.self.view_is ∙ c.self.invariant) at c.requires,
+  rw (as_many_values _ _ _ c.self.invariant c.self.view_is) at c.requires,
 )
 
 pub invariant_of-self : goal.invariant_of-self

@@ -1,5 +1,5 @@
-use Rattle.std.proofs.Common.{ℕ, ◌<◌, ◌≤◌, length, length-set, ◌∙◌, arith}
-use Rattle.micromap_core.proofs.ClosureLemmas.{retain_asks, keeps_next, drops_next, retain_ends}
+use Rattle.std.proofs.Common.{ℕ, ◌<◌, ◌≤◌, ◌∙◌, arith, length, length-set}
+use Rattle.micromap_core.proofs.ClosureLemmas.{drops_next, keeps_next, retain_asks, retain_ends}
 use Rattle.micromap_core.proofs.slots.columns.Columns.retain.Goals as goal
 
 below : {k i n : ℕ} → k ≤ i → i < n → k < n

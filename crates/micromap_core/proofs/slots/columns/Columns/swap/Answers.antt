@@ -1,16 +1,16 @@
-use Rattle.std.proofs.Common.{rules, ◌∙◌}
+use Rattle.std.proofs.Common.{rules}
 use Rattle.std.proofs.lemmas.List.Edits.{length-swap}
-use Rattle.micromap_core.proofs.SlotsLemmas.{as_long, zip_swap}
+use Rattle.micromap_core.proofs.SlotsLemmas.{as_many_keys, as_many_values, zip_swap}
 use Rattle.micromap_core.proofs.slots.columns.Columns.swap.Goals as goal
 
 pub swap-requires : goal.swap-requires
 swap-requires g c =
-    let long = as_long _ _ _ c.self.invariant c.self.view_is in
+    let long = as_many_keys _ _ _ c.self.invariant c.self.view_is in
     (search rules, (rw long at c.requires.a_in_bounds, rw long at c.requires.b_in_bounds))
 
 pub swap-requires-2 : goal.swap-requires-2
 swap-requires-2 g c =
-    let long = as_long _ _ _ c.self.invariant c.self.view_is ∙ c.self.invariant in
+    let long = as_many_values _ _ _ c.self.invariant c.self.view_is in
     (search rules, (rw long at c.requires.a_in_bounds, rw long at c.requires.b_in_bounds))
 
 pub invariant_of-self : goal.invariant_of-self

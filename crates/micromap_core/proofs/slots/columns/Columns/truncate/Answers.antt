@@ -1,4 +1,4 @@
-use Rattle.std.proofs.Common.{sym, ◌∙◌, arith, take-take, take_all}
+use Rattle.std.proofs.Common.{◌∙◌, arith, sym, take-take, take_all}
 use Rattle.micromap_core.proofs.slots.columns.Columns.truncate.Goals as goal
 
 pub loop-self-preserved : goal.loop-self-preserved

@@ -1,16 +1,16 @@
-use Rattle.std.proofs.Common.{refl, ◌∙◌}
+use Rattle.std.proofs.Common.{◌∙◌, refl}
 use Rattle.micromap_core.proofs.Sizes.{values_fit}
-use Rattle.micromap_core.proofs.SlotsLemmas.{as_long, set_value_zip, value_zip}
+use Rattle.micromap_core.proofs.SlotsLemmas.{as_many_values, set_value_zip, value_zip}
 use Rattle.micromap_core.proofs.slots.columns.Columns.value_at_mut.Goals as goal
 
-pub hint_below-requires : goal.hint_below-requires
-hint_below-requires g c = rw c.len.ensures.answer
-    (rw (as_long _ _ _ c.self.invariant c.self.view_is ∙ c.self.invariant) at c.requires)
+pub below-requires : goal.below-requires
+below-requires g c = rw c.len.ensures.answer
+    (rw (as_many_values _ _ _ c.self.invariant c.self.view_is) at c.requires)
 
 pub item_at_mut-requires : goal.item_at_mut-requires
 item_at_mut-requires g c = (
   values_fit g.row.K g.row.V g.row.N assumption,
-  rw (as_long _ _ _ c.self.invariant c.self.view_is ∙ c.self.invariant) at c.requires,
+  rw (as_many_values _ _ _ c.self.invariant c.self.view_is) at c.requires,
 )
 
 pub returns : goal.returns

@@ -1,21 +1,21 @@
-use Rattle.std.proofs.Common.{◌≡◌, Some, slice_get, refl, subst, ◌∙◌, IfSome}
+use Rattle.std.proofs.Common.{◌≡◌, ◌∙◌, refl, slice_get, subst, IfSome, Some}
 use Rattle.micromap_core.specs.Closures.{AcceptsPair}
 use Rattle.micromap_core.proofs.Sizes.{keys_fit, values_fit}
-use Rattle.micromap_core.proofs.SlotsLemmas.{as_long, get_zip, set_value_zip}
+use Rattle.micromap_core.proofs.SlotsLemmas.{as_many_keys, as_many_values, get_zip, set_value_zip}
 use Rattle.micromap_core.proofs.slots.columns.Columns.visit_at.Goals as goal
 
-pub hint_below-requires : goal.hint_below-requires
-hint_below-requires g c = rw c.len.ensures.answer
-    (rw (as_long _ _ _ c.self.invariant c.self.view_is ∙ c.self.invariant) at c.requires.within)
+pub below-requires : goal.below-requires
+below-requires g c = rw c.len.ensures.answer
+    (rw (as_many_values _ _ _ c.self.invariant c.self.view_is) at c.requires.within)
 
 pub item_at-requires : goal.item_at-requires
 item_at-requires g c =
-    (keys_fit g.row.K g.row.V g.row.N assumption, rw (as_long _ _ _ c.self.invariant c.self.view_is) at c.requires.within)
+    (keys_fit g.row.K g.row.V g.row.N assumption, rw (as_many_keys _ _ _ c.self.invariant c.self.view_is) at c.requires.within)
 
 pub item_at_mut-requires : goal.item_at_mut-requires
 item_at_mut-requires g c = (
   values_fit g.row.K g.row.V g.row.N assumption,
-  rw (as_long _ _ _ c.self.invariant c.self.view_is ∙ c.self.invariant) at c.requires.within,
+  rw (as_many_values _ _ _ c.self.invariant c.self.view_is) at c.requires.within,
 )
 
 pub visit-requires : goal.visit-requires

@@ -1,21 +1,17 @@
-use Rattle.std.specs.Map.Iter.{deref}
-use Rattle.micromap.specs.Operations.{difference_left, difference_on}
+use Rattle.micromap.specs.Operations.{difference_remaining, difference_advanced}
 use Rattle.micromap.proofs.OperationSteps.{distinct_after, progress}
 use Rattle.micromap.proofs.set.operations.difference.DifferenceInSetIterator.next.Goals as goal
 
 pub invariant_of-self : goal.invariant_of-self
-invariant_of-self g c = distinct_after g.T.PartialEq.eq _ _ _ c.self.invariant c.next_where.ensures.led
+invariant_of-self g c = distinct_after g.T.PartialEq.eq _ _ _ c.self.invariant c.next_where.ensures.state
 
 pub returns-clause-steps : goal.returns-clause-steps
-unfolding difference_left difference_on
+unfolding difference_remaining difference_advanced
 returns-clause-steps g c =
-    let next = c.next_where.ensures in
     rw (← c.self.view_is) (record {
-      member = next.member;
-      led = λ i. record { rest = next.led i; other = c.self.inside.other.now };
+      member = c.next_where.ensures.member;
+      state = λ i. record { rest = c.next_where.ensures.state i; other = c.self.inside.other.now };
     })
 
 pub returns-clause-goes : goal.returns-clause-goes
-returns-clause-goes g c =
-    progress deref (difference_left g.T.PartialEq.eq)
-    (difference_on g.T.PartialEq.eq) _ _ _ (returns-clause-steps g c)
+returns-clause-goes g c = progress _ _ _ _ _ _ (returns-clause-steps g c)

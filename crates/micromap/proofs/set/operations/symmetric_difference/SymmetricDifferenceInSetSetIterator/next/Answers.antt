@@ -1,5 +1,3 @@
-use Rattle.std.specs.Map.Iter.{deref}
-use Rattle.micromap.specs.Operations.{symmetric_left, symmetric_on}
 use Rattle.micromap.proofs.OperationSteps.{progress, second_gives}
 use Rattle.micromap.proofs.set.operations.symmetric_difference.SymmetricDifferenceInSetSetIterator.next.Goals as goal
 
@@ -9,6 +7,4 @@ returns-in-None-clause-steps g c =
     c.next-in-None.ensures.steps)
 
 pub returns-in-None-clause-goes : goal.returns-in-None-clause-goes
-returns-in-None-clause-goes g c =
-    progress deref (symmetric_left g.T.PartialEq.eq)
-    (symmetric_on g.T.PartialEq.eq) _ _ _ (returns-in-None-clause-steps g c)
+returns-in-None-clause-goes g c = progress _ _ _ _ _ _ (returns-in-None-clause-steps g c)

@@ -35,7 +35,6 @@ returns-in-Occupied g c =
         taken = written.taken;
         sound = written.sound;
       };
-      content = λ _. c.get_mut.ensures.content v;
     })
 
 pub get_mut-requires : goal.get_mut-requires

@@ -13,8 +13,6 @@ returns-in-Vacant g c =
       record {
         writes_back = tt;
         answer = rw c.in-Vacant.is of-held;
-        content =
-            λ w. rw c.in-Vacant.is (c.insert.ensures.content w);
       },
     )
 
@@ -26,7 +24,5 @@ returns-in-Occupied g c = (
     writes_back = tt;
     answer =
         rw (c.in-Occupied.is, c.into_mut.ensures.answer) refl;
-    content =
-        λ w. rw c.in-Occupied.is (c.into_mut.ensures.content w);
   },
 )

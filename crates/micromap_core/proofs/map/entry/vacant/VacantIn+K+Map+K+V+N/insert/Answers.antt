@@ -1,8 +1,7 @@
-use Rattle.std.proofs.Common.{[], ◌∷◌, length, refl, ap, sym, subst, ◌∙◌, length-append, arith, rules}
+use Rattle.std.proofs.Common.{[], ◌∷◌, length, refl, ap, sym, ◌∙◌, length-append, arith, rules}
 use Rattle.std.proofs.lemmas.Bool.Decides.{nat_tests}
 use Rattle.std.proofs.lemmas.Option.{same_Some}
 use Rattle.micromap_core.specs.Entry.{entry_put}
-use Rattle.micromap_core.specs.Pairs.{IsContent}
 use Rattle.micromap_core.proofs.EntryLemmas.{vacant_written}
 use Rattle.micromap_core.proofs.map.entry.vacant.VacantIn+K+Map+K+V+N.insert.Goals as goal
 
@@ -19,9 +18,6 @@ returns g c =
         writes_back = tt;
         answer =
             same_Some _ _ (sym c.value_at_mut.ensures.value ∙ written.value);
-        content =
-            λ w. subst (IsContent g.K.PartialEq.eq g.row.N) (written.puts w)
-            (c.value_at_mut.ensures.content w);
       },
     )
 
