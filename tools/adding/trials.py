@@ -1,4 +1,4 @@
-"""Tries `tools/add` in a folder of its own: new and older copies, refusals, and the documents of a copy."""
+"""Tries `tools/add` in a folder of its own: new and older copies, refusals, the documents of a copy, and each example."""
 import os
 import re
 import subprocess
@@ -7,6 +7,7 @@ import tempfile
 
 from adding.copies import IGNORED, LIBRARY, LICENSE, LIST, ORIGIN, PROGRAM, TOP
 from adding.copies import library, origin_of, program_as, read, rows_for, text_of, write
+from adding.gallery import GALLERY, examples, with_example
 from pages.examples import HOME
 from pages.links import dead_links
 
@@ -33,7 +34,9 @@ class Trial:
             write(f"{self.room}/{name}/{path}", content)
 
     def run(self, name, *words):
-        ran = subprocess.run([sys.executable, f"{TOP}/tools/add", f"{self.room}/{name}", *words], capture_output=True, text=True)
+        options = [it for it in words if it.startswith("--")]
+        where = [*words, f"{self.room}/{name}"] if options else [f"{self.room}/{name}", *words]
+        ran = subprocess.run([sys.executable, f"{TOP}/tools/add", *where], capture_output=True, text=True)
         return ran.returncode, ran.stderr
 
     def adds(self, name, *words):
@@ -96,6 +99,42 @@ def try_refusals(trial):
         trial.refuses(path, "new")
 
 
+def amiss_in(name, crate, made):
+    """What isn't as it must be in the files that a crate, and the list of crates, get with an example."""
+    text, at = "\n".join(made.values()), f"crates/{crate}"
+    if GALLERY in text:
+        yield f"names {GALLERY}"
+    for folder, its in re.findall(rf"Rattle\.{crate}\.(specs|proofs)\.([A-Z]\w*)\.", text):
+        if f"{at}/{folder}/{its}.antt" not in made or f"pub mod {its}\n" not in made[f"{at}/{folder}/Lib.antt"]:
+            yield f"names {folder}/{its}.antt, which isn't there or isn't listed"
+    if f"\nmod {name.lower()};\n" not in made[f"{at}/src/main.rt"] or f"fn {name}" not in text and f"struct {name} " not in text:
+        yield "isn't in the crate"
+    if not re.search(rf"^{crate}: .*\bmicromap micromap_core$", made[LIST], re.M):
+        yield "is in a crate whose line lacks the library"
+
+
+def try_examples(trial):
+    """Makes each example for the program `first` of the folder `new`, and writes some there."""
+    dest = f"{trial.room}/new"
+    for name in examples():
+        made = with_example(name, dest, "first")
+        trial.wrong += [f"tools/add: the example {name} {it}" for it in amiss_in(name, "first", made)]
+    before = state(dest)
+    for name in ("user_with", "place", "place"):
+        made = with_example(name, dest, "first")
+        status, said = trial.run("new/crates/first", "--example", name)
+        trial.expect(status == 0 and not said, f"the example {name} isn't written: {said}")
+        before |= {it: text.encode() for it, text in made.items()}
+    trial.expect(state(dest) == before, "an example changes other files than its own")
+    trial.refuses("the nearest are map_of_list", "new/crates/first", "--example", "map_of_lists")
+    trial.refuses("the nearest are counts_or_none", "new/crates/first", "--example", "histogram")
+    trial.refuses("crates/first/specs/Permissions.antt", "new/crates/first", "--example", "is_held")
+    trial.make("new", {"crates/first/src/swap.rt": b"// mine\n"})
+    trial.refuses("crates/first/src/swap.rt", "new/crates/first", "--example", "swap")
+    trial.refuses("has no crate nobody", "new/crates/nobody", "--example", "swap")
+    trial.refuses("is this library's own", os.path.relpath(f"{TOP}/crates/micromap_first", trial.room), "--example", "swap")
+
+
 def try_documents(trial):
     """Follows each link of the documents in a copy, which have to say where files are that weren't copied."""
     top = f"{trial.room}/new"
@@ -112,6 +151,7 @@ def check():
         trial = Trial(os.path.realpath(room))
         try_copies(trial)
         try_documents(trial)
+        try_examples(trial)
         try_refusals(trial)
     program = text_of(f"{TOP}/crates/{PROGRAM}/src/main.rt")
     has_program = f"```rust\n{program}```\n" in text_of(f"{TOP}/README.md")

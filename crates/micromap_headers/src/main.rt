@@ -1,11 +1,11 @@
 //! Reads the head of a request from its standard input, and writes its method and its target to its standard output, and
 //! then its headers in the order in which their names came, but for those that its arguments name.
 //!
-//! `micromap_uses::request` says what a head is. What is none ends the program with a message and status 1.
+//! `micromap_examples::request` says what a head is. What is none ends the program with a message and status 1.
 #![tactic(auto)]
 
 use anyhow::Result;
-use micromap_uses::request::run;
+use micromap_examples::request::run;
 use std::env;
 use std::io::{self, BufWriter, Write};
 

@@ -1,5 +1,1 @@
-pub mod AffectedLemmas
-mod HeadLemmas
-pub mod OrderLemmas
-pub mod ReachLemmas
-pub mod ScopeLemmas
+pub mod PermissionLaws

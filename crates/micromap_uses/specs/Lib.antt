@@ -1,6 +1,3 @@
-pub mod Frame
-pub mod Graph
-pub mod Headers
-pub mod Heads
-pub mod Order
-pub mod Scopes
+pub mod Graphs
+pub mod Permissions
+pub mod Signed

@@ -1,15 +1,16 @@
-//! Small libraries over the map and the set, as their users would write them. Each is proved from the public contracts
-//! and the exported laws alone, and may be copied.
-#![tactic(auto, using(micromap::proofs::Rules::caller))]
+//! Callers of `micromap`, by task.
+#![tactic(auto)]
 
-pub mod attributes;
-pub mod board;
-pub mod frame;
-pub mod graph;
-pub mod headers;
-pub mod order;
-pub mod permissions;
-pub mod request;
+pub mod any_capacity;
+pub mod balances;
+pub mod change;
+pub mod count;
+pub mod find;
+pub mod groups;
+pub mod make;
+pub mod merge;
+pub mod own_types;
+pub mod passing;
+pub mod registers;
 pub mod scopes;
-pub mod stock;
-pub mod votes;
+pub mod texts;

@@ -1,56 +1,43 @@
-//! Nested scopes: a stack of frames, outermost first. A variable is that of the innermost scope which has it.
-ghost use Rattle.std.specs.Prelude.{◌≡◌, ◌↔◌, ◌∷◌, ◌++◌, [], IfErr, IfOk, IsNone, is_some};
-ghost use Rattle.std.specs.Option.{option_to_list};
-ghost use Rattle.std.specs.Vec.{vec_items};
-ghost use Rattle.micromap_uses.specs.Scopes.{assigned, visible};
+//! Scopes of variables: a slice of maps, the innermost first.
+#![tactic(auto, using(micromap::proofs::Rules::caller))]
 
-use crate::frame::{Frame, update};
+ghost use Rattle.std.specs.Prelude.{◌≡◌, [], IsFalse, List, None, Option, Some, fold, get_or, nat_eq, slice_set, ℕ};
+ghost use Rattle.std.specs.List.{list_any, position};
+ghost use Rattle.std.specs.Option.{option_or};
+ghost use Rattle.micromap.specs.Pairs.{at, has, put};
+
 use micromap::Map;
-use std::alloc::AllocError;
 
-/// The most variables of a scope.
-pub const VARIABLES: usize = 16;
-
-/// The variables of one scope.
-pub type Scope = Frame<VARIABLES>;
-
-/// Enters a scope without variables. Without memory nothing changes.
-pub fn enter(scopes: &mut Vec<Scope>) -> Result<(), AllocError>
-    ensures entered { IfOk result (λ _. vec_items scopes.new ≡ vec_items scopes.old ++ [] ∷ []) }
-    ensures unchanged { IfErr result (λ _. vec_items scopes.new ≡ vec_items scopes.old) }
+/// Finds the innermost scope that has a name.
+pub fn scope_of(scopes: &[Map<u8, u32, 8>], name: u8) -> Option<usize>
+    ensures { result ≡ position (λ m. has nat_eq m name) scopes.now }
 {
-    scopes.push(Map::new())?;
-    Ok(())
+    scopes.iter().position(|m| m.contains_key(&name))
 }
 
-/// Leaves the innermost scope, and returns it, or `None` if there is none.
-pub fn leave(scopes: &mut Vec<Scope>) -> Option<Scope>
-    ensures none { IsNone result ↔ (vec_items scopes.old ≡ []) }
-    ensures left { vec_items scopes.old ≡ vec_items scopes.new ++ option_to_list result }
+/// Reads a name in the innermost scope that has it.
+pub fn read(scopes: &[Map<u8, u32, 8>], name: u8) -> Option<u32>
+    ensures { result ≡ fold (λ (found : Option ℕ) (m : List (ℕ × ℕ)). option_or found (at nat_eq m name))
+        None scopes.now }
 {
-    scopes.pop()
+    scopes.iter().fold(
+        None,
+        |found: Option<u32>, m| found.or(m.get(&name).copied()),
+    )
 }
 
-/// Returns the value of a variable, from the innermost scope that has it.
-#[tactic(auto, using(crate::proofs::ScopeLemmas::visible_last))]
-pub fn value_of(scopes: &[Scope], name: u32) -> Option<i64>
-    ensures { result ≡ visible scopes.now name }
+/// Assigns to a name in the innermost scope that has it.
+pub fn assign(scopes: &mut [Map<u8, u32, 8>], name: u8, value: u32) -> bool
+    ensures answer { result ≡ list_any (λ m. has nat_eq m name) scopes.old }
+    ensures assigned { (i : ℕ) → position (λ m. has nat_eq m name) scopes.old ≡ Some i
+        → scopes.new ≡ slice_set scopes.old i (put nat_eq (get_or scopes.old i []) name value) }
+    ensures unknown { IsFalse result → scopes.new ≡ scopes.old }
 {
-    let (inner, outer) = scopes.split_last()?;
-    match inner.get(&name) {
-        Some(value) => Some(*value),
-        None => value_of(outer, name),
+    match scope_of(scopes, name) {
+        Some(i) => {
+            scopes[i].insert(name, value);
+            true
+        }
+        None => false,
     }
-}
-
-/// Gives a variable another value, in the innermost scope that has it, and returns whether there is one.
-#[tactic(auto, using(crate::proofs::ScopeLemmas::visible_last, crate::proofs::ScopeLemmas::assigned_last))]
-pub fn assign(scopes: &mut [Scope], name: u32, value: i64) -> bool
-    ensures answer { result ≡ is_some (visible scopes.old name) }
-    ensures scopes { scopes.new ≡ assigned scopes.old name value }
-{
-    let Some((inner, outer)) = scopes.split_last_mut() else {
-        return false;
-    };
-    update(inner, name, value) || assign(outer, name, value)
 }

@@ -14,7 +14,7 @@ fn looked_up<const N: usize>(map: &Map<u8, u8, N>, key: u8) -> (Option<&u8>, u12
     ensures steps { result.1 ≡ look_up_steps nat_eq map.now key }
 {
     // `len` ensures that the length fits.
-    let _content = map.len();
+    let _known = map.len();
     let mut steps = Steps::new();
     let value = map.get_counted(&key, &mut steps);
     (value, steps.count())
@@ -29,7 +29,7 @@ fn compared<const N: usize, const M: usize>(
     ensures steps { result.1 ≡ comparison_steps nat_eq nat_eq first.now second.now }
 {
     // `len` ensures that the length fits.
-    let _content = first.len();
+    let _known = first.len();
     let mut steps = Steps::new();
     let same = first.eq_with_counted(second, &mut steps);
     (same, steps.count())

@@ -1,4 +1,4 @@
-//! Tests of the small libraries of `micromap_uses`. Each of them has a module.
+//! Tests of the small libraries of `micromap_examples`. Each of them has a module.
 
 mod attributes;
 mod frame;

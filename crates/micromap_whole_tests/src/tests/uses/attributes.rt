@@ -2,7 +2,7 @@
 #![tactic(auto)]
 
 use micromap::Map;
-use micromap_uses::attributes::{Attributes, remove, rename, set, text, value_or};
+use micromap_examples::attributes::{Attributes, remove, rename, set, text, value_or};
 use std::alloc::Global;
 
 // Whether there was room for an attribute, or `None` where memory was lacking.

@@ -2,7 +2,7 @@
 #![tactic(auto)]
 
 use micromap::Map;
-use micromap_uses::frame::{Expression, Frame, assign, update};
+use micromap_examples::frame::{Expression, Frame, assign, update};
 use std::alloc::{AllocError, Global};
 
 fn number(alloc: Global, n: i64) -> Result<Box<Expression>, AllocError> {

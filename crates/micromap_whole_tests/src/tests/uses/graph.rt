@@ -2,7 +2,7 @@
 #![tactic(auto)]
 
 use micromap::Set;
-use micromap_uses::graph::Graph;
+use micromap_examples::graph::Graph;
 
 #[test]
 fn an_edge_goes_both_ways_or_is_refused(rt: HostRuntime) {

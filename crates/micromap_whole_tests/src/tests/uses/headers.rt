@@ -2,9 +2,11 @@
 #![tactic(auto)]
 
 use httparse::Header;
+use micromap_examples::headers::HeaderFault::{
+    self, Memory, NoHost, TooMany, TwoHosts, TwoLengths,
+};
+use micromap_examples::headers::{Headers, Name, collect, value_of};
 use micromap_testing::displays;
-use micromap_uses::headers::HeaderFault::{self, Memory, NoHost, TooMany, TwoHosts, TwoLengths};
-use micromap_uses::headers::{Headers, Name, collect, value_of};
 use std::alloc::Global;
 
 const FIELDS: [(&str, &str); 5] = [

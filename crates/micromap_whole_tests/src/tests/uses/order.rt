@@ -2,7 +2,7 @@
 #![tactic(auto)]
 
 use micromap::{Map, Set};
-use micromap_uses::order::{Plan, build_order};
+use micromap_examples::order::{Plan, build_order};
 
 // Puts a target into a plan of at most eight, with one or two that it needs.
 fn add(plan: &mut Plan<2, 8>, target: u8, needs: [u8; 2]) {

@@ -2,9 +2,9 @@
 #![tactic(auto)]
 
 use micromap::{Map, Set};
-use micromap_uses::board::{Board, Square, move_piece, put_piece};
-use micromap_uses::permissions::Permission::{Delete, Read, Share, Write};
-use micromap_uses::permissions::{Role, beyond, grant, limited, may_the_same, merged, revoke};
+use micromap_examples::board::{Board, Square, move_piece, put_piece};
+use micromap_examples::permissions::Permission::{Delete, Read, Share, Write};
+use micromap_examples::permissions::{Role, beyond, grant, limited, may_the_same, merged, revoke};
 
 #[test]
 fn a_permission_is_granted_and_revoked(rt: HostRuntime) {

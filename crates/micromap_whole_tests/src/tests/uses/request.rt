@@ -1,7 +1,7 @@
 //! What is written of a head, and the message of each fault.
 use anyhow::Result;
+use micromap_examples::request::{RunFault, run};
 use micromap_testing::{Refusing, displays};
-use micromap_uses::request::{RunFault, run};
 use std::alloc::Global;
 use std::io::{self, Read, Write};
 

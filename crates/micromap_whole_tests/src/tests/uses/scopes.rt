@@ -1,8 +1,8 @@
 //! Three scopes, one in the other.
 #![tactic(auto)]
 
-use micromap_uses::frame;
-use micromap_uses::scopes::{Scope, assign, enter, leave, value_of};
+use micromap_examples::frame;
+use micromap_examples::scopes::{Scope, assign, enter, leave, value_of};
 use std::alloc::AllocError;
 
 // Gives a variable a value in the innermost scope.

@@ -1,7 +1,7 @@
 //! A stock with room for two articles.
 #![tactic(auto)]
 
-use micromap_uses::stock::Stock;
+use micromap_examples::stock::Stock;
 
 // Delivers a few pieces of an article, unless there are many.
 fn deliver(stock: &mut Stock<2>, article: u32, pieces: u8) -> u32 {

@@ -1,7 +1,7 @@
 //! Votes, counted by entry.
 #![tactic(auto)]
 
-use micromap_uses::votes::{Name, tally, winner};
+use micromap_examples::votes::{Name, tally, winner};
 
 // The winner of these votes, or `None` if there are more than two names.
 fn elected(votes: &[Name]) -> Option<Option<(Name, usize)>> {

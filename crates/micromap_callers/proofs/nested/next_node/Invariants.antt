@@ -1,8 +1,0 @@
-use Rattle.std.specs.Prelude.{◌≡◌, ℕ, List, true}
-use Rattle.micromap_callers.specs.Graphs.{is_closed}
-use Rattle.micromap_callers.proofs.nested.next_node.Given as goal
-
--- the pairs so far are closed, and those left are closed in each list in which all are
-abbrev pub invariant-loop-node : goal.invariant-loop-node
-invariant-loop-node g l = (is_closed l.node-iterator l.met ≡ is_closed l.graph l.met)
-    × ((s : List ℕ) → is_closed l.graph s ≡ true → is_closed l.node-iterator s ≡ true)

@@ -1,8 +1,0 @@
-use Rattle.std.specs.Prelude.{◌≡◌, ◌≤◌, length, nat_eq, take}
-use Rattle.micromap.specs.Build.{merged}
-use Rattle.micromap_callers.specs.Signed.{balance_with}
-use Rattle.micromap_callers.proofs.signed.add_signed_list.Given as goal
-
-abbrev pub invariant-loop-account : goal.invariant-loop-account
-invariant-loop-account g l = (l.sums ≡ merged nat_eq balance_with l.initial.sums (take l.account-index l.amounts))
-    × (length l.sums ≤ g.row.N)

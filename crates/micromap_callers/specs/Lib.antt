@@ -1,4 +1,0 @@
-pub mod Graphs
-pub mod Permissions
-pub mod Signed
-pub mod Totals

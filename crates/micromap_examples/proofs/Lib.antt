@@ -1,0 +1,5 @@
+pub mod AffectedLemmas
+mod HeadLemmas
+pub mod OrderLemmas
+pub mod ReachLemmas
+pub mod ScopeLemmas

@@ -1,0 +1,6 @@
+pub mod Frame
+pub mod Graph
+pub mod Headers
+pub mod Heads
+pub mod Order
+pub mod Scopes

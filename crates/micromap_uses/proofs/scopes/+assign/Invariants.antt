@@ -1,5 +1,0 @@
-use Rattle.std.specs.Prelude.{length}
-use Rattle.micromap_uses.proofs.scopes.+assign.Given as goal
-
-abbrev pub decreases-assign : goal.decreases-assign
-decreases-assign l = length l.scopes.now

@@ -1,0 +1,93 @@
+//! Functions that serve maps of any capacity.
+//!
+//! Write one only if it has to: a check at a generic capacity takes up to six times as long.
+#![tactic(auto, using(micromap::proofs::Rules::caller))]
+
+ghost use Rattle.std.specs.Prelude.{◌≡◌, ◌↔◌, ◌<◌, ◌≤◌, [], IfSome, IsFalse, filter, length, nat_eq, not, slice_get, Some};
+ghost use Rattle.std.specs.Bool.{OnTrue};
+ghost use Rattle.micromap.specs.Build.{put_all};
+ghost use Rattle.micromap.specs.Memory.{IntoIterFits, MapFits};
+ghost use Rattle.micromap.specs.Pairs.{has};
+
+use micromap::Map;
+
+/// Puts pairs into a map in a loop, until one doesn't fit.
+/// If it returns `false`, the map and the list have more than `N` different keys together. Of the map the contract says
+/// nothing then.
+pub fn put_each<K: Eq + Copy + Drop, const N: usize>(
+    map: &mut Map<K, u8, N>,
+    items: &[(K, u8)],
+) -> bool
+    ensures put { OnTrue result (map.new ≡ put_all K.eq map.old items.now) }
+    ensures refused { IsFalse result → N < length (put_all K.eq map.old items.now) }
+{
+    for item in items {
+        if !map.fits(&item.0) {
+            return false;
+        }
+        map.insert(item.0, item.1);
+    }
+    true
+}
+
+/// Puts a map over another, all or nothing.
+/// It returns `false`, and nothing changes, exactly if they don't all fit. By `is_ok()` the search finds no proof of keys
+/// of any type.
+pub fn put_over<K: Eq + Copy, V: Copy, const N: usize, const M: usize>(
+    map: &mut Map<K, V, N>,
+    other: &Map<K, V, M>,
+) -> bool
+    ensures all { OnTrue result (map.new ≡ put_all K.eq map.old other.now) }
+    ensures none { IsFalse result → map.new ≡ map.old }
+    ensures refused { IsFalse result ↔ (N < length (put_all K.eq map.old other.now)) }
+{
+    match map.try_extend_from(other) {
+        Ok(()) => true,
+        Err(_) => false,
+    }
+}
+
+/// Counts the different keys of a list, in a local map, which has to fit in memory.
+/// The contract says only that they are at most `N`. For numbers `requires { N ≤ 1000 }` serves, and for a set `SetFits`.
+pub fn count_keys<K: Eq + Copy, V: Copy, const N: usize>(pairs: &[(K, V)]) -> Option<usize>
+    requires { MapFits K.row V.row N.row K.eq }
+    ensures { IfSome result (λ count. count ≤ N) }
+{
+    let mut seen: Map<K, V, N> = Map::new();
+    for (key, value) in pairs {
+        seen.checked_insert(*key, *value)?;
+    }
+    Some(seen.len())
+}
+
+/// Takes all pairs out by an iterator by value, which has to fit in memory, and returns the first.
+/// `into_iter` goes the same way, `into_keys` under `IntoKeysFits`, `into_values` under `IntoValuesFits`, and a set's
+/// `into_iter` under `SetIntoIterFits`.
+pub fn first_drained<K: Eq + Drop, V: Drop, const N: usize>(
+    map: &mut Map<K, V, N>,
+) -> Option<(K, V)>
+    requires { IntoIterFits K.row V.row N.row }
+    ensures first { IfSome result (λ p. slice_get map.old 0 ≡ Some p) }
+    ensures emptied { map.new ≡ [] }
+{
+    let first = map.drain().next()?;
+    Some(first)
+}
+
+/// Copies the pairs whose keys another map lacks, by a closure that says what it returns.
+/// In its clauses `other.entry.now` is the map behind a captured reference.
+pub fn lacking_any<const N: usize, const M: usize>(
+    pairs: &Map<u8, u32, N>,
+    other: &Map<u8, u32, M>,
+) -> Map<u8, u32, N>
+    ensures { result ≡ filter (λ p. not (has nat_eq other.now p.0)) pairs.now }
+{
+    let mut some = pairs.copied();
+    some.retain(
+        |key: &u8, value: &mut u32| -> bool
+            ensures answer { result ≡ not (has nat_eq other.entry.now key.now) }
+            ensures same { value.new ≡ value.old }
+        { !other.contains_key(key) },
+    );
+    some
+}
