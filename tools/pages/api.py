@@ -15,7 +15,7 @@ OF_EACH = {
     "len is_empty capacity",
     "look up by probe": "get_by get_or_by get_key_value_by get_mut_by contains_key_by contains_by fits_by index_by index_mut_by "
     "remove_by remove_entry_by take_by",
-    "insert": "checked_insert insert try_insert replace insert_key_value insert_unchecked try_extend try_extend_from",
+    "insert": "checked_insert put insert try_insert replace insert_key_value insert_unchecked try_extend try_extend_from",
     "remove": "remove remove_entry take pop_first pop_last retain clear",
     "update": "update_all update_disjoint",
     "iterate": "iter keys values into_keys into_values drain IntoIterator",
@@ -92,7 +92,7 @@ class Api:
         self.sources, self.wrong, self.paths, self.views, self.lent = sources, wrong, Paths("micromap").found, {}, []
         self.entries, self.traits = collections.defaultdict(list), collections.defaultdict(list)
         for it in sources.items:
-            if not it.path.endswith("/slot.rt") and (it.kind != "impl" or self.subject(it) in sources.types):
+            if not it.path.endswith(("/slot.rt", "/hint.rt")) and (it.kind != "impl" or self.subject(it) in sources.types):
                 self.take(it)
         self.groups = self.grouped()
 

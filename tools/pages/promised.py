@@ -4,7 +4,6 @@ import os
 import re
 
 from pages.laws import PROVING, parts_of
-from pages.names import unbroken
 from pages.sources import anchor, read
 from pages.vocabulary import groups_of
 
@@ -36,6 +35,11 @@ aren't in `caller`. Name such a law in `using(..)`, or cite it in an [answer](PR
 - `Where x P` is `P`, marked so that a search finds it where it sees `x`. A proof by hand takes `.1` of it. A law `each_..` says several things at once, or one thing of every key or item. Most of these serve a search alone, and stand here by name: `rt lemma NAME` prints one.
 - [API](API.md) explains the words of the calls, and `rt lemma WORD` prints the definition of any other. A proof file imports `option_filter` from `Rattle.std.proofs.lemmas.Map.Entries`.
 """
+
+
+def unbroken(says):
+    """A statement in one line, as it is before `rt fmt` breaks it."""
+    return re.sub(r",? \)", ")", re.sub(r"\( ", "(", " ".join(says.split())))
 
 
 def title_of(path):

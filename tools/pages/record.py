@@ -1,75 +1,161 @@
-"""The record of tools/claims: the goal at which the prover refused each edit, with a sum of what it was tried on; and whether
-the right body is proved where the proof is changed as an edit changes it."""
+"""The record of tools/claims: the goals at which the prover refused each edit, and what a refusal there shows."""
+import collections
+import functools
+import glob
 import hashlib
+import itertools
 import os
 import re
 
-from pages.edits import Dead, changed, crate_of, edits
+from pages.edits import Dead, changed, changes_of, crate_of, edits, module_of, pairs_of, text_with
 from pages.sources import read
 
-# It has the path of each edit, the sum, and the goal; and of an edit that changes the proof PROVED or OPEN, of the right body.
+# Behind each folder a row for each edit: the sum of what it was tried on, the goals, and PROVED or OPEN of the right body, if that
+# was tried.
 RECORD, PROVED, OPEN = "tools/pages/goals.tsv", "proved", "open"
-# What a refusal shows, by the goal: the strongest first.
-CONTRACT, INVARIANT, CONDITION, PROOF = KINDS = (
-    "a goal of the contract",
-    "an invariant",
-    "the condition of a call",
-    "a written proof alone",
-)
+WRITTEN, DIGITS = "written:", 10  # what stands before a goal of a written proof, and of a sum
+# What a refusal shows, by the goal: one of the contract, of a loop's invariant or of what a call requires, or of a written proof.
+CONTRACT, SERVING, PROOF = range(3)
+ANSWER = re.compile(r"^(returns\S*) (?:\S+ )+=((?:.*\n)(?:^(?: .*)?\n)*)", re.M)
+# What the names of goals are made of: these, or the whole text where it has a call before a `?` or an operand.
+BRANCH, OPERAND = r"\b(?:if|match|while|for)\b[^{]*|\belse\b|\breturn\b|\S+ =>", r"&&|\|\||\?"
+Row = collections.namedtuple("Row", "goals right")
 
 
-def sum_of(path):
-    """A sum of what an edit changes, without what it says of that, and of the contracts and the bodies of the functions
-    that it changes, without their comments and attributes."""
-    crate, texts = crate_of(path), [re.sub(r"^#.*\n", "", read(path), flags=re.M)]
+def sum_of(texts):
+    return hashlib.sha256("\n".join(texts).encode()).hexdigest()[:DIGITS]
+
+
+def code_of(file, function):
+    """A function without its comments and attributes."""
+    lines = read(file).split("\n")[function.first : function.last + 1]
+    return [it for it in lines if not re.match(r" *(//|#\[)", it)]
+
+
+def tried_on(path):
+    """What an edit changes, without what it says of that, and the contracts and the bodies of the functions that it changes."""
+    texts = [re.sub(r"^#(?! right: ).*\n", "", read(path), flags=re.M)]
     try:
         for it in sorted(changed(path)):
-            lines = read(f"{crate}/{it.file}").split("\n")[it.first : it.last + 1]
-            texts += [line for line in lines if not re.match(r" *(//|#\[)", line)]
+            texts += code_of(f"{crate_of(path)}/{it.file}", it)
     except Dead:  # which tools/documents says by itself
         pass
-    return hashlib.sha256("\n".join(texts).encode()).hexdigest()[:16]
+    return texts
+
+
+def lines_of(record):
+    return [it.split("\t") for it in read(record).splitlines()] if os.path.exists(record) else []
 
 
 def rows():
-    """The rows of the record about edits as they stand."""
-    found = (line.split("\t") for line in read(RECORD).splitlines()) if os.path.exists(RECORD) else ()
-    return [(path, goal, *right) for path, sum, goal, *right in found if os.path.exists(path) and sum == sum_of(path)]
+    """The path, the sum and the row of each edit in the record. A row of the older form has the whole path, and a goal with its
+    place."""
+    folder = ""
+    for name, *cells in lines_of(RECORD):
+        folder = folder if cells else name
+        path = name if name.endswith(".edit") else f"crates/{folder}/{name}.edit"
+        if cells and os.path.exists(path):
+            sum, said, *right = cells
+            older = re.match(r"`(.+)` in (the proof of )?`", said)
+            yield path, sum[:DIGITS], Row([WRITTEN * bool(older[2]) + older[1]] if older else said.split(), *(right or [""]))
 
 
 def recorded():
-    """The goals at which edits were refused as they stand, by their paths."""
-    return {path: goal for path, goal, *_ in rows()}
+    """The rows of edits as they stand, by their paths."""
+    return {path: row for path, sum, row in rows() if sum == sum_of(tried_on(path))}
 
 
-def of_right_bodies():
-    """PROVED or OPEN of the right body, by the paths of edits that change the proof."""
-    return {path: right[0] for path, _, *right in rows() if right}
-
-
-def keep(goals, right):
-    """Writes the record anew."""
+def keep(known):
+    """Writes the record of edits anew."""
     with open(RECORD, "w", encoding="utf-8") as file:
-        for it in (it for it in edits() if it in goals):
-            file.write("\t".join([it, sum_of(it), goals[it], *([right[it]] if it in right else [])]) + "\n")
+        for folder, paths in itertools.groupby(filter(known.get, edits()), os.path.dirname):
+            file.write(folder.removeprefix("crates/") + "\n")
+            for path in paths:
+                cells = [os.path.basename(path).removesuffix(".edit"), sum_of(tried_on(path)), " ".join(known[path].goals), known[path].right]
+                file.write("\t".join(filter(None, cells)) + "\n")
 
 
 def changes_proof(path):
     """Whether an edit changes the source and the proof."""
-    return {"proofs", "src"} <= {it.split("/")[0] for it in re.findall(r"^file: (.*)", read(path), re.M)}
+    return {"proofs", "src"} <= {file.split("/")[0] for file, *_ in pairs_of(read(path))}
 
 
-def kind_of(goal):
-    """What a refusal at a goal shows."""
-    if " in the proof of " in goal:
+def has_right(path):
+    """Whether an edit has a right body of its own, which has all of it but the mistake."""
+    return any(right != old for file, old, _, right in pairs_of(read(path)) if file.startswith("src/"))
+
+
+def wants_right(path):
+    """Whether a right body of an edit is tried too."""
+    return changes_proof(path) or has_right(path)
+
+
+def is_tried(path, row):
+    """Whether a row has all that is to be tried of an edit."""
+    return bool(row and row.goals and (row.right or not wants_right(path)))
+
+
+@functools.cache
+def files_of_answers(crate):
+    return [it.removeprefix(f"{crate}/") for it in glob.glob(f"{crate}/proofs/**/Answers.antt", recursive=True)]
+
+
+def is_of(file, function):
+    """Whether a proof file is of a function."""
+    folder, name = os.path.split(os.path.dirname(file))
+    owner = os.path.basename(folder)
+    if function.trait:
+        is_there = re.match(rf"(?:Ref)*{function.owner}\w*?{function.trait}", owner)
+    else:
+        is_there = owner.split("+")[0] == function.owner if function.owner else folder == f"proofs/{module_of(function.file)}".rstrip("/")
+    return bool(is_there) and name == function.name
+
+
+@functools.cache
+def answers_of(path):
+    """The written proofs of returns of the functions that an edit changes, as it leaves them, by their goals."""
+    changes, found = changes_of(path), {}
+    for file in files_of_answers(crate_of(path)):
+        if any(is_of(file, it) for it in changed(path)):
+            bare = re.sub(r"\{-.*?-\}|^ *--.*?$", "", text_with(changes, path, file), flags=re.M | re.S)
+            found |= ANSWER.findall(bare + "\n")
+    return found
+
+
+def is_neutral(answer):
+    """Whether a written proof rests on nothing that the body does: it cites no more than what the call was given."""
+    return not re.search(r"(?<![\w.])c\b(?!\.(?:args|self|requires)\b)", answer)
+
+
+def kind_of(path, goal):
+    """What a refusal of an edit at a goal shows."""
+    name = goal.removeprefix(WRITTEN)
+    if name != goal and not is_neutral(answers_of(path).get(name, "c")):
         return PROOF
-    name = goal.split("`")[1] if "`" in goal else ""
     is_of_contract = name.startswith("returns") or name.endswith("-value")  # a law that an impl owes its trait has such a name
-    return CONTRACT if is_of_contract else INVARIANT if re.match("loop-|invariant_of", name) else CONDITION
+    return CONTRACT if is_of_contract else SERVING
+
+
+def clause_in(goal):
+    """The clause that a goal names, or nothing."""
+    named = re.search(r"-clause-(\w+)", goal)
+    return named[1] if named else ""
+
+
+def branches(text):
+    return text if re.search(OPERAND, text) else re.findall(BRANCH, text)
+
+
+def is_fair(path, row, goal, clause):
+    """Whether a right body of the form of an edit is proved at a goal: the edit's own is, or the right one has the goal too, or
+    no written proof serves the clause."""
+    if has_right(path):
+        return row.right == PROVED
+    is_same = all(branches(old) == branches(new) for file, old, new, _ in pairs_of(read(path)) if file.startswith("src/"))
+    return goal.startswith(WRITTEN) or is_same or not any(clause_in(it) in ("", clause) for it in answers_of(path))
 
 
 def stale_claims():
     """Each edit that wasn't tried as it and its function stand."""
-    known, right = recorded(), of_right_bodies()
-    stale = (it for it in edits() if it not in known or changes_proof(it) and it not in right)
-    return [f"{it}: it wasn't tried as it and its function stand: run tools/claims" for it in stale]
+    known = recorded()
+    return [f"{it}: it wasn't tried as it and its function stand: run tools/claims" for it in edits() if not is_tried(it, known.get(it))]

@@ -31,11 +31,9 @@ def copied(crate, room):
     """Copies a crate and those below it to a folder, with what `rt check` kept of them, and returns the crate's folder."""
     lines = libraries(os.path.basename(crate))
     for name in lines:
-        for part in ("src", "specs", "proofs"):
-            if os.path.isdir(f"crates/{name}/{part}"):
-                shutil.copytree(f"crates/{name}/{part}", f"{room}/crates/{name}/{part}")
-        if os.path.isdir(f"crates/{name}/out"):
-            shutil.copytree(f"crates/{name}/out", f"{room}/crates/{name}/out", copy_function=link, symlinks=True)
+        for part in filter(os.path.isdir, (f"crates/{name}/{it}" for it in ("src", "specs", "proofs", "out"))):
+            how = link if part.endswith("/out") else shutil.copy2
+            shutil.copytree(part, f"{room}/{part}", copy_function=how, symlinks=True)
     shutil.copy("HANDLES", room)
     with open(f"{room}/crates.txt", "w", encoding="utf-8") as file:
         file.write("\n".join(lines.values()) + "\n")

@@ -110,22 +110,20 @@ all_items_fit eq N items |
 build eq items |
 code fault |
 difference_hint w | a lower and an upper bound of how many members a difference has left at `w`
-difference_left eq w | the members that a difference has left at `w`
-difference_on eq w | where a call of `next` leads a difference from `w`: past the next member, or to the end if there is none
+difference_remaining eq w | the members that a difference has left at `w`
+difference_advanced eq w | where a call of `next` leads a difference from `w`: past the next member, or to the end if there is none
 distinct eq items |
 entry_key e |
-entry_put e v |
 entry_taken e |
 entry_value e |
 insert_error_text error |
 intersection_hint w | a lower and an upper bound of how many members an intersection has left at `w`
-intersection_left eq w | the members that an intersection has left at `w`
-intersection_on eq w | where a call of `next` leads an intersection from `w`: past the next member, or to the end if there is none
+intersection_remaining eq w | the members that an intersection has left at `w`
+intersection_advanced eq w | where a call of `next` leads an intersection from `w`: past the next member, or to the end if there is none
 Faults faults last_fault old new fault | one fault came between `old` and `new`, and it is `fault`
 IntoIterFits K.row V.row N.row | an `IntoIter<K, V, N>`, which `drain` and a loop by value make, has fewer than 2^63 bytes
 IntoKeysFits K.row V.row N.row | an `IntoKeys<K, V, N>` has fewer than 2^63 bytes
 IntoValuesFits K.row V.row N.row | an `IntoValues<K, V, N>` has fewer than 2^63 bytes
-is_occupied e |
 is_same eq same first second |
 item_strs items | a set's `&str` items, by their bytes
 item_texts items | a set's `String` items, by their bytes
@@ -157,12 +155,12 @@ SetIntoIterFits T.row N.row | an `IntoIter<T, N>` of a set, which `drain` and a 
 str_eq s t | `==` of `&str`: the texts have the same bytes
 strs pairs | the pairs with each `&str` key and value as its bytes
 symmetric_hint w | a lower and an upper bound of how many members a symmetric difference has left at `w`
-symmetric_left eq w | the members that a symmetric difference has left at `w`
-symmetric_on eq w | where a call of `next` leads a symmetric difference from `w`: past the next member, or to the end if there is none
+symmetric_remaining eq w | the members that a symmetric difference has left at `w`
+symmetric_advanced eq w | where a call of `next` leads a symmetric difference from `w`: past the next member, or to the end if there is none
 texts pairs | the pairs with each `String` key and value as its bytes
 union_hint w | a lower and an upper bound of how many members a union has left at `w`
-union_left eq w | the members that a union has left at `w`
-union_on eq w | where a call of `next` leads a union from `w`: past the next member, or to the end if there is none
+union_remaining eq w | the members that a union has left at `w`
+union_advanced eq w | where a call of `next` leads a union from `w`: past the next member, or to the end if there is none
 updated_disjoint eq h pairs keys | the pairs once each of `keys` that is stored has the value that `h` makes of its position in `keys` and its old value
 """
 OWN = {it.split()[0]: it.rstrip("|").strip().split(" | ") for it in OWN_MEANINGS.strip().split("\n")}
