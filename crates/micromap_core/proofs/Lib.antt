@@ -13,6 +13,7 @@ pub mod Opened
 pub mod PrintLemmas
 pub mod PuttingLemmas
 pub mod SameLemmas
+pub mod ScanLemmas
 pub mod Sizes
 pub mod SlotsLemmas
 pub mod StepsLemmas

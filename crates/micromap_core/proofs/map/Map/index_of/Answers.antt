@@ -1,6 +1,7 @@
 use Rattle.std.proofs.Common.{ap, sym, length, arith}
 use Rattle.std.proofs.lemmas.Map.Entries.{length-keys_of}
-use Rattle.micromap_core.proofs.MapLemmas.{found_at, not_found, not_yet-start, not_yet-on, not_yet-found, not_yet-missing}
+use Rattle.micromap_core.proofs.MapLemmas.{found_at, not_found}
+use Rattle.micromap_core.proofs.ScanLemmas.{not_yet-start, not_yet-on, not_yet-found, not_yet-missing}
 use Rattle.micromap_core.proofs.map.Map.index_of.Goals as goal
 
 pub loop-key-init : goal.loop-key-init
