@@ -1,6 +1,6 @@
 -- A scan for the index of the first key that passes a test.
-use Rattle.std.proofs.Common.{◌≡◌, ℕ, ◌+◌, [], ◌∷◌, ap, arith, false, if◌then◌else◌, length, not, true, Bool, List, None, Some}
-use Rattle.std.specs.List.{position, position_or_len}
+use Rattle.std.proofs.Common.{◌≡◌, ℕ, ◌+◌, [], ◌∷◌, ap, arith, refl, false, if◌then◌else◌, length, not, true, Bool, List, None, Some}
+use Rattle.std.specs.List.{list_any, position, position_or_len}
 use Rattle.std.proofs.lemmas.Grind.{common_steps}
 
 module _ {K : Type 0} (test : K → Bool) where
@@ -8,6 +8,14 @@ module _ {K : Type 0} (test : K → Bool) where
   pub record NotYet (count : ℕ) (left all : List K) : Type 0 where
     pub counted : count + length left ≡ length all
     pub first : position_or_len test all ≡ count + position_or_len test left
+
+  -- none passes, so the first isn't there
+  none_passes-past : (all : List K) → list_any test all ≡ false → position_or_len test all ≡ length all
+  none_passes-past [] none = refl
+  none_passes-past (x ∷ all) none = grind (arith, common_steps, none, none_passes-past all)
+
+  pub none_passes : (all : List K) → list_any test all ≡ false → position test all ≡ None
+  none_passes all none = grind (arith, common_steps, none_passes-past all none)
 
   pub not_yet-start : (all : List K) → NotYet 0 all all
   not_yet-start all = record { counted = omega arith; first = omega arith }

@@ -138,7 +138,8 @@ impl<T: Eq + Copy, const N: usize> Set<T, N> {
     ///
     /// After `Ok`, this set is the union: its own items, and then the others' that were no members. The result is `Err`
     /// exactly if the two sets together have more than `N` distinct items. Then this set is unchanged, where `try_extend`
-    /// keeps the items before that position. Works on a copy of this set, and makes one scan for each item of `other`.
+    /// keeps the items before that position. Works on a copy of this set if there might not be room for all, and makes one
+    /// scan for each item of `other`.
     ///
     /// ```
     /// let mut seen: Set<u8, 3> = Set::from([5, 6, 5]);

@@ -177,8 +177,8 @@ impl<K: Eq + Copy, V: Copy, const N: usize> Map<K, V, N> {
     /// the position of the first that doesn't, counted from 0.
     ///
     /// The result is `Err` exactly if the two maps together have more than `N` distinct keys. Then this map is unchanged,
-    /// where `try_extend` keeps the pairs before that position. Works on a copy of this map, and makes one scan for each
-    /// pair of `other`.
+    /// where `try_extend` keeps the pairs before that position. Works on a copy of this map if there might not be room for
+    /// all, and makes one scan for each pair of `other`.
     ///
     /// ```
     /// let mut prices: Map<u8, u32, 2> = Map::from([(1, 10), (2, 20)]);
@@ -194,15 +194,32 @@ impl<K: Eq + Copy, V: Copy, const N: usize> Map<K, V, N> {
         ensures unchanged { OnErr result (self.new ≡ self.old) }
         ensures content { AreContents K.eq N self.old self.new }
     {
+        if other.len() <= N - self.len() {
+            return self.put_each(other);
+        }
         let mut all = self.copied();
+        all.put_each(other)?;
+        *self = all;
+        Ok(())
+    }
+
+    // Inserts the pairs of another map one after the other, or returns the position of the first that doesn't fit.
+    #[inline]
+    fn put_each<const M: usize>(&mut self, other: &Map<K, V, M>) -> Result<(), Overfull>
+        ensures pairs { OnOk result (self.new ≡ put_all K.eq self.old other.now) }
+        ensures many { IsErr result ↔ (N < length (put_all K.eq self.old other.now)) }
+        ensures misfit { IfErr result (λ e. MisfitIn K.eq N self.old other.now e.at) }
+        ensures content { AreContents K.eq N self.old self.new }
+    {
+        // What is true of the map, for the contract: `len` ensures it.
+        let _known = self.len();
         let mut position = 0;
         for (key, value) in other {
-            if !all.put(*key, *value) {
+            if !self.put(*key, *value) {
                 return Err(Overfull { at: position });
             }
             position += 1;
         }
-        *self = all;
         Ok(())
     }
 }

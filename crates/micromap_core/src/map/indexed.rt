@@ -3,7 +3,8 @@
 
 ghost use Rattle.std.specs.Prelude.{◌≡◌, ◌∷◌, [], ◌++◌, ◌<◌, length, Some, None, IfNone, slice_get};
 ghost use Rattle.std.specs.Borrow.{sem};
-ghost use Rattle.std.specs.Map.{lookup, lookup_entry, remove_entry};
+ghost use Rattle.std.specs.List.{list_any};
+ghost use Rattle.std.specs.Map.{keys_of, lookup, lookup_entry, remove_entry};
 ghost use Rattle.std.specs.Map.Iter.{deref_pair};
 ghost use Rattle.std.specs.Option.{IfSome, option_map};
 ghost use Rattle.micromap_core.specs.Found.{FoundAt, NotFound};
@@ -17,6 +18,8 @@ use std::mem;
 impl<K: Eq, V, const N: usize> Map<K, V, N> {
     /// Returns the index of the first pair whose key the probe matches, and ensures what follows from it. This is the
     /// scan of every call by a key but the counted ones, and of every call that changes a map.
+    ///
+    /// Many small keys are first compared all at once. Only if one matches are they compared in turn.
     #[inline]
     pub(crate) fn index_of<P: Probe<K>>(&self, probe: &P) -> Option<usize>
         ensures answer { result ≡ first_index (P.matches probe.now) self.now }
@@ -24,6 +27,9 @@ impl<K: Eq, V, const N: usize> Map<K, V, N> {
         ensures missing { IfNone result (NotFound (P.matches probe.now) self.now) }
         ensures content { IsContent K.eq N self.now }
     {
+        if self.pairs.has_many_small_keys() && !self.has_match(probe) {
+            return None;
+        }
         let mut index = 0;
         for key in self.keys() {
             if probe.matches(key) {
@@ -32,6 +38,20 @@ impl<K: Eq, V, const N: usize> Map<K, V, N> {
             index += 1;
         }
         None
+    }
+
+    // Returns `true` if the probe matches a key. Compares every key: without an exit the compiler makes vector code of the
+    // loop.
+    #[inline]
+    fn has_match<P: Probe<K>>(&self, probe: &P) -> bool
+        ensures answer { result ≡ list_any (P.matches probe.now) (keys_of self.now) }
+        ensures content { IsContent K.eq N self.now }
+    {
+        let mut found = false;
+        for key in self.keys() {
+            found |= probe.matches(key);
+        }
+        found
     }
 
     /// Returns the first pair whose key the probe matches. This is the scan of every call by probe that only reads. It

@@ -17,8 +17,12 @@ use micromap_walk::hint;
 use std::marker::Model;
 use std::mem;
 
-// The most bytes of a column of keys whose scan is faster if it is unrolled: 2 slots of `u64`, or 16 of `u8`.
+// The most bytes of a column of keys whose scan is faster if it is unrolled: 2 slots of `u64`, or 8 of `u16`.
 const MOST_UNROLLED: usize = 40;
+// The fewest keys, and the most bytes of a slot, that are compared faster all at once than one after the other.
+const MANY_KEYS: usize = 16;
+
+const SMALL_SLOT: usize = 4;
 
 /// A list of at most `N` pairs. A contract sees it as that list, from front to end.
 #[derive(Drop)]
@@ -57,6 +61,13 @@ impl<K, V, const N: usize> Columns<K, V, N> {
         ensures bounded { length self.now ≤ N }
     {
         self.keys.len()
+    }
+
+    /// Returns `true` if there are slots for many keys, and each is small, so that comparing all keys at once is faster
+    /// than comparing one after the other.
+    #[inline]
+    pub(crate) fn has_many_small_keys(&self) -> bool {
+        MANY_KEYS <= N && mem::size_of_val(&self.keys) / N <= SMALL_SLOT
     }
 
     /// Returns the slots of the keys.

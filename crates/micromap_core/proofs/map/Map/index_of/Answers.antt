@@ -1,7 +1,8 @@
-use Rattle.std.proofs.Common.{ap, sym, length, arith}
+use Rattle.std.proofs.Common.{ap, sym, length, arith, ◌∙◌}
+use Rattle.std.specs.Map.{keys_of}
 use Rattle.std.proofs.lemmas.Map.Entries.{length-keys_of}
 use Rattle.micromap_core.proofs.MapLemmas.{found_at, not_found}
-use Rattle.micromap_core.proofs.ScanLemmas.{not_yet-start, not_yet-on, not_yet-found, not_yet-missing}
+use Rattle.micromap_core.proofs.ScanLemmas.{not_yet-start, not_yet-on, not_yet-found, not_yet-missing, none_passes}
 use Rattle.micromap_core.proofs.map.Map.index_of.Goals as goal
 
 pub loop-key-init : goal.loop-key-init
@@ -48,4 +49,15 @@ returns g c =
           not_found (g.P.Probe.matches c.args.probe.now) c.args.self.now none;
       content =
           c.keys-key-items.ensures.content;
+    }
+
+pub returns-then-not-has_match : goal.returns-then-not-has_match
+returns-then-not-has_match g c =
+    let test = g.P.Probe.matches c.args.probe.now in
+    let none = none_passes test (keys_of c.args.self.now) (sym c.has_match.ensures.answer ∙ c.if-not-has_match.true) in
+    record {
+      answer = sym none;
+      found = tt;
+      missing = not_found test c.args.self.now none;
+      content = c.has_match.ensures.content;
     }

@@ -1,75 +1,39 @@
-use Rattle.std.proofs.Common.{ℕ, ◌+◌, ◌<◌, ◌∙◌, ap, arith, length, refl, subst, sym, Bool, List}
-use Rattle.std.proofs.lemmas.Bool.{false≢true}
-use Rattle.std.proofs.lemmas.Map.Entries.{length-keys_of}
-use Rattle.micromap_core.specs.Build.{put_all, MisfitIn}
-use Rattle.micromap_core.specs.Pairs.{IsContent}
-use Rattle.micromap_core.proofs.KeyedLemmas.{many_left, pairs_keyed}
-use Rattle.micromap_core.proofs.Laws.Equalities.{of_lawful}
-use Rattle.micromap_core.proofs.PuttingLemmas.{putting_begins, putting_goes_on, walk_puts, walk_stops}
-use Rattle.micromap_core.proofs.Walked.{walk_begins, walk_goes_on}
+use Rattle.std.proofs.Common.{◌+◌, ◌≤◌, ◌∷◌, [], arith, length, refl, Bool, Err, List, Ok, Result}
+use Rattle.std.specs.Result.{IsErr, OnErr}
+use Rattle.micromap_core.specs.Build.{put_all}
+use Rattle.micromap_core.specs.Pairs.{put}
+use Rattle.micromap_core.proofs.Laws.MapLaws.{length_put}
 use Rattle.micromap_core.proofs.map.Map.try_extend_from.Goals as goal
 
--- where one of the items doesn't fit, what would be put is more than there is room for
-stopped_many : {K V : Type 0} {eq : K → K → Bool} {N : ℕ} {pairs : List (K × V)}
-    → IsContent eq N pairs → (items : List (K × V)) (at : ℕ) → MisfitIn eq N pairs items at
-    → N < length (put_all eq pairs items)
-stopped_many {eq = eq} {N = N} {pairs = pairs} content items at stops =
-    subst (λ n. N < n) (length-keys_of (put_all eq pairs items))
-    (many_left (of_lawful eq content.lawful) (pairs_keyed eq N) pairs items (at + 1) content.unique
-    (omega (arith, length-keys_of pairs, content.bounded)) stops.1)
+-- at most as many pairs as both maps have
+put_all_few : {K V : Type 0} (eq : K → K → Bool) (pairs items : List (K × V))
+    → length (put_all eq pairs items) ≤ length pairs + length items
+put_all_few eq pairs [] = omega arith
+put_all_few eq pairs (p ∷ items) =
+    grind (arith, length_put eq pairs p.0 p.1, put_all_few eq (put eq pairs p.0 p.1) items)
 
-pub loop-key-init : goal.loop-key-init
-loop-key-init g c =
-    rw (c.copied-all.ensures.answer, c.into_iter-key-iterator.ensures.into_iter_gives.0) (record {
-      put = walk_begins putting_begins;
-      counted = omega arith;
-      content = rw c.copied-all.ensures.answer at c.copied-all.ensures.content;
-    })
+on_err_only : {T E P : Type 0} (r : Result T E) → (IsErr r → P) → OnErr r P
+on_err_only (Ok _) holds = tt
+on_err_only (Err _) holds = holds refl
 
-pub loop-key-preserved : goal.loop-key-preserved
-loop-key-preserved g c =
-    let l = c.loop-key.invariant in
-    record {
-      put = walk_goes_on l.put c.in-Some.ensures.steps (putting_goes_on l.put.holds (
-        c.in-Some.key.now,
-        c.in-Some.value.now,
-      ) c.put.ensures.pairs (sym c.put.ensures.answer ∙ c.if-not-put.false));
-      counted = omega (arith, l.counted, ap length c.in-Some.ensures.steps);
-      content = c.put.ensures.content.1;
-    }
+-- there is room for all
+pub returns-then-len-clause-unchanged : goal.returns-then-len-clause-unchanged
+returns-then-len-clause-unchanged g c = on_err_only c.put_each.result (λ fails. absurd (omega (
+  arith,
+  c.put_each.ensures.many.0 fails,
+  put_all_few g.K.PartialEq.eq c.args.self.now c.args.other.now,
+  c.if-len.true,
+  c.len.ensures.answer,
+  c.len-2.ensures.answer,
+  c.len-2.ensures.content.bounded,
+)))
 
-pub overflow_add-position : goal.overflow_add-position
-overflow_add-position g c =
-    let other = c.into_iter-key-iterator.ensures.into_iter_gives.2 in
-    omega (arith, c.loop-key.invariant.counted, ap length c.in-Some.ensures.steps, other.bounded, g.M.fits)
+pub returns-in_err-put_each-clause-many : goal.returns-in_err-put_each-clause-many
+returns-in_err-put_each-clause-many g c =
+    rw (← c.copied-all.ensures.answer) (
+      λ _. c.in_err-put_each.ensures.many.0 refl,
+      λ _. c.from_residual.ensures.0,
+    )
 
--- a pair that doesn't fit: the pairs of both are too many
-pub returns-then-not-put : goal.returns-then-not-put
-returns-then-not-put g c =
-    let l = c.loop-key.invariant in
-    let misfit = sym c.put.ensures.answer ∙ c.if-not-put.true in
-    let stops = walk_stops l.put c.in-Some.ensures.steps misfit c.loop-key.position l.counted in
-    let content = rw c.copied-all.ensures.answer at c.copied-all.ensures.content in
-    record {
-      pairs = tt;
-      many = (λ _. stopped_many content c.args.other.now c.loop-key.position stops.0, λ _. refl);
-      misfit = stops.0;
-      unchanged = refl;
-      content = (content, content);
-    }
-
--- all are put, and the map has room for them
-pub returns : goal.returns
-returns g c =
-    let put = (walk_puts c.loop-key.invariant.put c.in-None.ensures.steps.0).1 in
-    let content = c.loop-key.invariant.content in
-    record {
-      pairs = put;
-      many = (
-        λ no. absurd (false≢true no),
-        λ many. absurd (omega (arith, many, ap length put, content.bounded)),
-      );
-      misfit = tt;
-      unchanged = tt;
-      content = (rw c.copied-all.ensures.answer at c.copied-all.ensures.content, content);
-    }
+pub returns-clause-many : goal.returns-clause-many
+returns-clause-many g c = rw (← c.copied-all.ensures.answer) c.in_ok-put_each.ensures.many
