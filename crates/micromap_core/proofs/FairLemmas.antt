@@ -10,7 +10,7 @@ use Rattle.std.specs.Option.{option_eq, option_map_or}
 use Rattle.std.proofs.lemmas.Bool.{false_from_ne_true, false≢true, OnTrue_from}
 use Rattle.micromap_core.specs.Calls.{after, agree, answer, clear, contains, get, get_key_value, insert, insert_key_value, is_empty, len, remove, remove_entry, run, Call}
 use Rattle.micromap_core.specs.Equalities.{Lawful}
-use Rattle.micromap_core.specs.Fair.{AnswersAgree, IsFair, IsFairCall, SameForGood, ToldApart}
+use Rattle.micromap_core.specs.Fair.{AnswersAgree, Compares, IsFair, IsFairCall, SameForGood, ToldApart}
 use Rattle.micromap_core.specs.Pairs.{at, fits, has, has_room, pair, put, put_key, take_out, IsContent, IsUnique}
 use Rattle.micromap_core.specs.Same.{has_value, is_same, pair_eq, Same}
 use Rattle.micromap_core.proofs.DistinctLemmas.{IsDistinct-nil}
@@ -153,31 +153,28 @@ module _ {K V : Type 0} {eq : K → K → Bool} {same : V → V → Bool} {N M :
     {first second : List (K × V)} (values : IsEquivalence same) (content : IsContent eq N first)
     (other : IsContent eq M second) {m n : ℕ} (one : m ≡ length first)
     (two : n ≡ length second) where
-  -- the clauses of a comparison
-  abbrev Clauses : Bool → Type 0
-  Clauses answer = (IsTrue answer ↔ Same eq same first second)
-      × (IsFalse answer ↔ ToldApart eq same N M first second)
-      × OnTrue answer (SameForGood eq same N M first second)
-      × (IsTrue answer ↔ FindAlike eq same first second)
+  -- what an answer says of the two
+  abbrev Says : Bool → Type 0
+  Says = Compares eq same N M first second
 
   compared : Comparable eq same first second
   compared = comparable (of_lawful eq content.lawful) values content.unique other.unique
 
-  whole : Clauses (is_same eq same first second)
-  whole = (
-    (λ yes. yes, λ are. are),
-    told_apart N M compared,
-    OnTrue_from (is_same eq same first second) (SameForGood eq same N M first second)
-        (λ are calls. run_same N M calls compared are),
-    (alike_from_same compared, same_from_alike compared),
-  )
+  whole : Says (is_same eq same first second)
+  whole = record {
+    says = (λ yes. yes, λ are. are);
+    each = (alike_from_same compared, same_from_alike compared);
+    told_apart = told_apart N M compared;
+    outlasts = OnTrue_from (is_same eq same first second) (SameForGood eq same N M first second)
+        (λ are calls. run_same N M calls compared are);
+  }
 
   pub compared_long : m ≡ n → {answer : Bool} → answer ≡ list_all (has_value eq same second) first
-      → Clauses answer
+      → Says answer
   compared_long long is =
-      subst Clauses (sym (is ∙ same_if_long compared (sym one ∙ long ∙ two))) whole
+      subst Says (sym (is ∙ same_if_long compared (sym one ∙ long ∙ two))) whole
 
-  pub compared_short : m ≢ n → Clauses (nat_eq m n)
+  pub compared_short : m ≢ n → Says (nat_eq m n)
   compared_short apart =
-      subst Clauses (unlike_if_apart compared (λ long. apart (one ∙ long ∙ sym two))
+      subst Says (unlike_if_apart compared (λ long. apart (one ∙ long ∙ sym two))
       ∙ sym (ne_eqb m n apart)) whole

@@ -18,7 +18,7 @@ use Rattle.std.proofs.lemmas.Map.Keys.{any_passes_from_place}
 use Rattle.std.proofs.lemmas.Map.Made.{is_some-lookup}
 use Rattle.std.proofs.lemmas.Option.{slice_get-get_or}
 use Rattle.micromap_core.specs.Pairs.{at, has, IsUnique}
-use Rattle.micromap_core.specs.Same.{first_difference, first_missing, first_unequal, has_value, is_same, pair_eq, same_at, Same}
+use Rattle.micromap_core.specs.Same.{first_difference, first_missing, first_unequal, has_value, is_same, pair_eq, same_at, Same, TellsDifference}
 use Rattle.micromap_core.proofs.DistinctLemmas.{both_sides, not_both_sides}
 use Rattle.micromap_core.proofs.Laws.Equalities.{lawful}
 use Rattle.micromap_core.proofs.Laws.MapLaws.{at_alike}
@@ -242,8 +242,10 @@ module _ {K V : Type 0} {eq : K → K → Bool} {same : V → V → Bool} {first
   -- an answer that is the first difference is none exactly where the two are the same, and else they differ there
   pub answered_difference : (answer : Option (Bor K))
       → option_copied answer ≡ first_difference eq same first second
-      → (IsNone answer ↔ Same eq same first second) × IfSome answer (λ k. Differ k.now)
-  answered_difference answer is = by answer (subst Told (sym is) difference)
+      → TellsDifference eq same first second answer
+  answered_difference answer is =
+      let told = by answer (subst Told (sym is) difference) in
+      record { is = is; none = told.0; differs = told.1 }
     where
       by : (answer : Option (Bor K)) → Told (option_copied answer)
           → (IsNone answer ↔ Same eq same first second) × IfSome answer (λ k. Differ k.now)

@@ -1,9 +1,10 @@
 -- When a list of keyed calls is fair to two lists of pairs, with capacities N and M, and when it tells them apart.
-use Rattle.std.specs.Prelude.{◌≡◌, ℕ, Bool, List, [], ◌∷◌, Option, Some, None, IsTrue, IsFalse, IfSome, ⊤}
+use Rattle.std.specs.Prelude.{◌≡◌, ◌↔◌, ℕ, Bool, List, [], ◌∷◌, Option, Some, None, IsTrue, IsFalse, IfSome, ⊤}
+use Rattle.std.specs.Bool.{OnTrue}
 use Rattle.std.specs.Cmp.Lexicographic.{pointwise}
 use Rattle.micromap_core.specs.Calls.{Call, insert, insert_key_value, after, run, agree}
 use Rattle.micromap_core.specs.Pairs.{has, has_room}
-use Rattle.micromap_core.specs.Same.{Same}
+use Rattle.micromap_core.specs.Same.{same_at, Same}
 
 -- the key that a call inserts
 abbrev pub inserted_key : {K V : Type 0} → Call K V → Option K
@@ -35,3 +36,10 @@ module _ {K V : Type 0} (eq : K → K → Bool) (same : V → V → Bool) (N M :
   -- every fair list of calls gets answers that agree, and leaves the two the same
   abbrev pub SameForGood : Type 0
   SameForGood = (calls : List (Call K V)) → IsFair eq N M first second calls → AnswersAgree calls × Same eq same (run eq N first calls).1 (run eq M second calls).1
+
+  -- all that a comparison of the two answers
+  pub record Compares (answer : Bool) : Type 0 where
+    pub says : IsTrue answer ↔ Same eq same first second
+    pub each : IsTrue answer ↔ ((k : K) → IsTrue (same_at eq same first second k))
+    pub told_apart : IsFalse answer ↔ ToldApart
+    pub outlasts : OnTrue answer SameForGood

@@ -1,9 +1,10 @@
 -- Two lists of pairs are the same if each pair of either has an equal key with an equal value in the other, in whatever
 -- order. A list may have repeated keys. The file also says at which key two lists first differ.
-use Rattle.std.specs.Prelude.{Bool, ◌&&◌, List, Option, Some, not, IsTrue}
+use Rattle.std.specs.Prelude.{◌≡◌, ◌↔◌, Bool, ◌&&◌, List, Option, Some, not, IsFalse, IsNone, IsTrue, IfSome}
+use Rattle.std.specs.Borrow.{Bor}
 use Rattle.std.specs.List.{find, list_all, list_any}
 use Rattle.std.specs.Map.{keys_of}
-use Rattle.std.specs.Option.{option_eq, option_map, option_or}
+use Rattle.std.specs.Option.{option_copied, option_eq, option_map, option_or}
 use Rattle.micromap_core.specs.Pairs.{at, has}
 
 -- whether each item of either list has an equal one in the other
@@ -45,3 +46,9 @@ module _ {K V : Type 0} (eq : K → K → Bool) (same : V → V → Bool) where
   -- the first key of this list that has no equal pair in the other, else the first of the other that this list lacks
   abbrev pub first_difference : List (K × V) → List (K × V) → Option K
   first_difference this other = option_or (first_unequal this other) (first_missing other this)
+
+  -- all that an answer tells which is the first difference
+  pub record TellsDifference (this other : List (K × V)) (answer : Option (Bor K)) : Type 0 where
+    pub is : option_copied answer ≡ first_difference this other
+    pub none : IsNone answer ↔ Same this other
+    pub differs : IfSome answer (λ k. IsFalse (same_at this other k.now))

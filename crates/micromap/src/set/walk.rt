@@ -44,6 +44,15 @@ impl<T: Eq + Drop, const N: usize> Set<T, N> {
     {
         mem::take(self).into_iter()
     }
+
+    // Returns what `into_iter` does.
+    #[inline]
+    fn into_items(self) -> IntoIter<T, N>
+        ensures { (result ≡ self) × GivesInOrder T × IsItems T.eq N self }
+    {
+        let Set { map } = self;
+        map.into_keys()
+    }
 }
 
 /// A loop over a set yields its items by value, from the front. Items that aren't taken are dropped with the iterator. A
@@ -56,8 +65,7 @@ impl<T: Eq + Drop, const N: usize> IntoIterator for Set<T, N> {
     ghost into_iter_gives = { λ s walk. (walk ≡ s) × GivesInOrder T × IsItems T.eq N s };
 
     fn into_iter(self) -> IntoIter<T, N> {
-        let Set { map } = self;
-        map.into_keys()
+        self.into_items()
     }
 }
 

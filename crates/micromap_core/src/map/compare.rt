@@ -3,9 +3,9 @@ ghost use Rattle.std.specs.Prelude.{◌≡◌, ◌↔◌, IsTrue, IsFalse, IsNon
 ghost use Rattle.std.specs.Bool.{OnTrue};
 ghost use Rattle.std.specs.Cmp.{partial_equiv_from_equiv};
 ghost use Rattle.std.specs.Option.{option_copied};
-ghost use Rattle.micromap_core.specs.Fair.{SameForGood, ToldApart};
+ghost use Rattle.micromap_core.specs.Fair.{Compares, SameForGood, ToldApart};
 ghost use Rattle.micromap_core.specs.Pairs.{IsContent};
-ghost use Rattle.micromap_core.specs.Same.{same_at, is_same, Same, first_unequal, first_missing, first_difference};
+ghost use Rattle.micromap_core.specs.Same.{same_at, is_same, Same, TellsDifference, first_unequal, first_missing, first_difference};
 ghost use Rattle.micromap_core.specs.SameLaws.{is_same_equiv};
 
 use super::Map;
@@ -27,9 +27,7 @@ impl<K: Eq, V: Eq, const N: usize> Map<K, V, N> {
         ensures told_apart { IsFalse result ↔ ToldApart K.eq V.eq N M self.now other.now }
         ensures outlasts { OnTrue result (SameForGood K.eq V.eq N M self.now other.now) }
     {
-        // Both have the same number of keys, and `other` has each key of this map. So `other` has no other key.
-        let lengths = (self.len(), other.len());
-        lengths.0 == lengths.1 && self.first_unequal(other).is_none()
+        self.compared(other)
     }
 
     /// Returns a reference to a stored key at which `get` on the two maps doesn't agree, or `None` if the maps are the
@@ -47,6 +45,24 @@ impl<K: Eq, V: Eq, const N: usize> Map<K, V, N> {
         ensures answer { option_copied result ≡ first_difference K.eq V.eq self.now other.now }
         ensures none { IsNone result ↔ Same K.eq V.eq self.now other.now }
         ensures differs { IfSome result (λ k. IsFalse (same_at K.eq V.eq self.now other.now k.now)) }
+    {
+        self.first_difference(other)
+    }
+
+    // Returns what `eq_with` does.
+    #[inline]
+    fn compared<const M: usize>(&self, other: &Map<K, V, M>) -> bool
+        ensures { Compares K.eq V.eq N M self.now other.now result }
+    {
+        // Both have the same number of keys, and `other` has each key of this map. So `other` has no other key.
+        let lengths = (self.len(), other.len());
+        lengths.0 == lengths.1 && self.first_unequal(other).is_none()
+    }
+
+    // Returns what `differs_at` does.
+    #[inline]
+    fn first_difference<'a, const M: usize>(&'a self, other: &'a Map<K, V, M>) -> Option<&'a K>
+        ensures { TellsDifference K.eq V.eq self.now other.now result }
     {
         // What is true of the other map, for the contract: `len` ensures it.
         let _known = other.len();

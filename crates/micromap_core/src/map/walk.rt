@@ -88,6 +88,16 @@ impl<K: Eq + Drop, V: Drop, const N: usize> Map<K, V, N> {
     {
         mem::take(self).into_iter()
     }
+
+    // Returns what `into_iter` does.
+    #[inline]
+    fn into_pairs(self) -> IntoIter<K, V, N>
+        ensures { (result ≡ self) × GivesInOrder (K × V) × IsContent K.eq N self }
+    {
+        let Map { pairs } = self;
+        let (keys, values) = pairs.into_array_vecs();
+        IntoIter::over(keys, values)
+    }
 }
 
 /// A loop over a map yields its pairs by value, from the front. A caller that is generic in `K` and `V` requires
@@ -100,9 +110,7 @@ impl<K: Eq + Drop, V: Drop, const N: usize> IntoIterator for Map<K, V, N> {
     ghost into_iter_gives = { λ m walk. (walk ≡ m) × GivesInOrder (K × V) × IsContent K.eq N m };
 
     fn into_iter(self) -> IntoIter<K, V, N> {
-        let Map { pairs } = self;
-        let (keys, values) = pairs.into_array_vecs();
-        IntoIter::over(keys, values)
+        self.into_pairs()
     }
 }
 

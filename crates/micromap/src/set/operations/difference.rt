@@ -54,6 +54,16 @@ impl<'a, 'b, T: Eq, O> Clone for DifferenceIn<'a, 'b, T, O> {
     }
 }
 
+impl<'a, 'b, T: Eq, const M: usize> DifferenceIn<'a, 'b, T, Set<T, M>> {
+    // Returns what `next` does.
+    #[inline]
+    fn step(&mut self) -> Option<&'a T>
+        ensures { GivesNext deref (difference_remaining T.eq) (difference_advanced T.eq) self.old result self.new }
+    {
+        next_where(&mut self.rest, self.other, Wanted::Missing)
+    }
+}
+
 impl<'a, 'b, T: Eq, const M: usize> Iterator for DifferenceIn<'a, 'b, T, Set<T, M>> {
     type Item = &'a T;
 
@@ -61,8 +71,9 @@ impl<'a, 'b, T: Eq, const M: usize> Iterator for DifferenceIn<'a, 'b, T, Set<T, 
 
     ghost remaining = { item_count (difference_remaining T.eq) };
 
+    #[tactic(auto, using(crate::proofs::OperationSteps::progress))]
     fn next(&mut self) -> Option<&'a T> {
-        next_where(&mut self.rest, self.other, Wanted::Missing)
+        self.step()
     }
 
     fn size_hint(&self) -> (usize, Option<usize>)

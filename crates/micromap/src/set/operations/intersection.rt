@@ -54,6 +54,16 @@ impl<'a, T: Eq, O> Clone for IntersectionIn<'a, T, O> {
     }
 }
 
+impl<'a, T: Eq, const M: usize> IntersectionIn<'a, T, Set<T, M>> {
+    // Returns what `next` does.
+    #[inline]
+    fn step(&mut self) -> Option<&'a T>
+        ensures { GivesNext deref (intersection_remaining T.eq) (intersection_advanced T.eq) self.old result self.new }
+    {
+        next_where(&mut self.rest, self.other, Wanted::Common)
+    }
+}
+
 impl<'a, T: Eq, const M: usize> Iterator for IntersectionIn<'a, T, Set<T, M>> {
     type Item = &'a T;
 
@@ -61,8 +71,9 @@ impl<'a, T: Eq, const M: usize> Iterator for IntersectionIn<'a, T, Set<T, M>> {
 
     ghost remaining = { item_count (intersection_remaining T.eq) };
 
+    #[tactic(auto, using(crate::proofs::OperationSteps::progress))]
     fn next(&mut self) -> Option<&'a T> {
-        next_where(&mut self.rest, self.other, Wanted::Common)
+        self.step()
     }
 
     fn size_hint(&self) -> (usize, Option<usize>)

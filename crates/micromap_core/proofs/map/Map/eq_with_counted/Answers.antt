@@ -16,9 +16,9 @@ returns-then-lengths g c =
     let all = compared_long g.met.V.Eq.laws c.len.ensures.content c.len-2.ensures.content one two
     c.if-lengths.true c.is_within_counted.ensures.answer in
     record {
-      answer = all.0;
-      told_apart = all.1;
-      outlasts = all.2;
+      answer = all.says;
+      told_apart = all.told_apart;
+      outlasts = all.outlasts;
       count = rw (← steps) at c.is_within_counted.ensures.count;
       bounded = bounded;
     }
@@ -32,9 +32,9 @@ returns-else-lengths g c =
     let all = compared_short g.met.V.Eq.laws c.len.ensures.content c.len-2.ensures.content one two
     c.if-lengths.false in
     record {
-      answer = all.0;
-      told_apart = all.1;
-      outlasts = all.2;
+      answer = all.says;
+      told_apart = all.told_apart;
+      outlasts = all.outlasts;
       count =
           omega (arith, steps);
       bounded = omega arith;

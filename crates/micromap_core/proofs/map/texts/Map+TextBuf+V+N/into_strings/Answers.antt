@@ -1,4 +1,4 @@
-use Rattle.std.proofs.Common.{◌∙◌, arith, string_bytes}
+use Rattle.std.proofs.Common.{◌∙◌, string_bytes}
 use Rattle.std.specs.declared.alloc.Global.{Global}
 use Rattle.micromap_core.proofs.ConvertedLemmas.{from_texts, unique_from_texts}
 use Rattle.micromap_core.proofs.Laws.Equalities.{lawful_string}
