@@ -8,8 +8,7 @@ import tempfile
 from adding.copies import IGNORED, LIBRARY, LICENSE, LIST, ORIGIN, PROGRAM, TOP
 from adding.copies import library, origin_of, program_as, read, rows_for, text_of, write
 from adding.gallery import GALLERY, examples, with_example
-from pages.examples import HOME
-from pages.links import dead_links
+from pages.links import HOME, dead_links
 
 
 def state(folder):

@@ -3,8 +3,7 @@ import collections
 import re
 
 from pages.calls import Calls
-from pages.examples import HOME, example
-from pages.sources import TYPES, Paths, anchor, link, parts
+from pages.sources import TYPES, Paths, anchor, parts
 from pages.vocabulary import Vocabulary
 
 API = "crates/micromap/API.md"
@@ -37,38 +36,64 @@ OTHERS = {
     "Drain of a set",
     "Iterators of set operations": "Difference, Intersection, Union, SymmetricDifference, DifferenceRef",
 }
-HEAD = f"""# The calls of `micromap`
+HEAD = """# The calls of `micromap`
 
-Made from the sources. Each call has its documentation, its signature and its contract: \
-what it requires and what it ensures. `K`, `V`, `T` and `N` are the parameters of `Map<K, V, N>` and `Set<T, N>`; \
-the bounds `K: Eq` and `T: Eq` are left out.
+Made from the sources. Each call has its documentation, its signature and its contract: what it requires and what it ensures. `K`, `V`, `T` and `N` are the parameters of `Map<K, V, N>` and `Set<T, N>`. The bounds `K: Eq`, `T: Eq` and `Drop` are left out: a call that inserts, removes or may drop a key, a value or an item needs `Drop` of its type.
 
-In a clause `result` is what the call returns. `self.now` is what `&self` points to. `self.old` and `self.new` are \
-what `&mut self` points to at the call and at the return. `self`, also written `self.entry`, is a `self` that the call \
-takes, as it was passed, and `self.exit` is what is left of it: of an entry, `self.exit.0.now` is the map afterwards. Of `&mut self`, `self.entry` is the reference itself. \
-A call that returns a `&mut` has one more clause, [`writes_back`](#written-through-a-reference). \
-Other parameters are named in the same way, as `key.now`. `K.eq` is `==` of the keys. The [words](#words) of this library and those of the [standard \
-library](#words-of-the-standard-library) are explained at the end.
+In a clause `result` is what the call returns. `self.now` is what `&self` points to. `self.old` and `self.new` are what `&mut self` points to at the call and at the return. `self`, also written `self.entry`, is a `self` that the call takes, as it was passed, and `self.exit` is what is left of it: of an entry, `self.exit.0.now` is the map afterwards. Of `&mut self`, `self.entry` is the reference itself. Other parameters are named in the same way, as `key.now`. `K.eq` is `==` of the keys. The [words](#words) of this library are explained at the end.
 
-Examples are proved. Their files are in {HOME}, and their imports are left out here. In comments `rt` is the test's `HostRuntime`, and \
-`alloc` is `rt.alloc()`.
+Two clauses stand at the end for all calls that have them: [`content`](#the-content-of-a-map-or-a-set), that keys are unequal and fit the capacity, and [`writes_back`](#written-through-a-reference) of a call that returns a `&mut`. The functions `over`, by which calls make their iterators, stand in the sources alone.
+
+Tests run the examples. In them `rt` is the test's `HostRuntime`, and `alloc` is `rt.alloc()`.
 """
-LENT = """## Written through a reference
+# The clauses that stand at the end: their sections, with what is said there.
+ENDS = {
+    "content": """## The content of a map or a set
 
-A call that returns a `&mut` has one more clause, `writes_back`, which isn't shown above. It says what the map has \
-once the borrow ends: at the key, the value that was written last.
+{content} Of a set, `IsItems` and `AreItems` say the same of its items. A map's `read_entries` says it in `reads`, and impls of traits say it in their ghost members. If a proof needs it, and the function has no such call, add the line `let _known = map.len();`.
 
-| Call | `ensures* writes_back` |
-|---|---|"""
+| `ensures content` | Calls |
+|---|---|""",
+    "writes_back": """## Written through a reference
+
+What the map has once the borrow ends: at the key, the value that was written last.
+
+| `ensures* writes_back` | Calls |
+|---|---|""",
+}
 
 
 def signature(function, where=(), indent=""):
-    """The lines of a function's signature and of its clauses but `writes_back`."""
+    """The lines of a function's signature and of its clauses but those of ENDS."""
     head, _, own = function.head.partition(" where ")
-    where = ", ".join([*where, *parts(own)])
-    shown = (it for it in function.clauses if it[:2] != ("ensures*", "writes_back"))
+    where = bounds([*where, *parts(own)])
+    shown = (it for it in function.clauses if it[1] not in ENDS)
     clauses = (f"{kind} {label}".strip() + f" {{ {text} }}" for kind, label, text in shown)
     return [indent + head, *[f"{indent}where {where}"] * bool(where), *(f"{indent}    {it}" for it in clauses)]
+
+
+def bounds(given):
+    """Bounds without those of `Drop`."""
+    kept = (re.sub(r"(?<=[:+]) Drop\b(?: \+)?|\s*\+ Drop\b", "", it) for it in given)
+    return ", ".join(it for it in kept if not it.endswith(":"))
+
+
+def rested(code):
+    """The lines of an impl, with `rest` for what lists the items that an iterator has left."""
+    rest = re.search(r"ghost remaining = \{ item_count (.*) \};", "\n".join(code))
+    return [it.replace(f"item_count {rest[1]}", "item_count rest") if rest else it for it in code]
+
+
+def shared_section(shared):
+    """What is said of members that types share, and these."""
+    bare = collections.defaultdict(list)
+    for trait, (those, lines) in shared.items():
+        bare[", ".join(those)] += [trait] * (not lines)
+    code = [[f"impl {', '.join(traits)} for {those}"] for those, traits in bare.items() if traits]
+    code += [[f"impl {trait} for {', '.join(those)}", *lines] for trait, (those, lines) in shared.items() if lines]
+    said = "These types have in common, with `rest` for the second argument of `GivesNext`:"
+    said = said if any("item_count rest" in line for it in code for line in it) else "These types have in common:"
+    return ["", said, "", "```rust", "\n\n".join("\n".join(it) for it in code), "```"] if code else []
 
 
 def members(item):
@@ -89,12 +114,14 @@ class Api:
     said. What is amiss is added to `wrong`."""
 
     def __init__(self, sources, wrong):
-        self.sources, self.wrong, self.paths, self.views, self.lent = sources, wrong, Paths("micromap").found, {}, []
+        self.sources, self.wrong, self.paths, self.views = sources, wrong, Paths("micromap").found, {}
         self.entries, self.traits = collections.defaultdict(list), collections.defaultdict(list)
+        self.ends = {label: collections.defaultdict(list) for label in ENDS}
         for it in sources.items:
             if not it.path.endswith(("/slot.rt", "/hint.rt")) and (it.kind != "impl" or self.subject(it) in sources.types):
                 self.take(it)
         self.groups = self.grouped()
+        self.calls = Calls(self.entries, wrong)
 
     def subject(self, item):
         """The type that an impl is of, or is `From` if that type is the standard library's."""
@@ -109,24 +136,31 @@ class Api:
         elif item.trait and not item.ghosts and not any(it.clauses for it in functions):
             self.traits[owner].append(item.trait)
         elif item.trait:
-            is_alone = owner in ("Map", "Set")
-            doc = item.doc or "\n\n".join(it.doc for it in functions if it.doc)
-            head = f"impl {item.trait} for {self.sources.public(item.whom)}"
-            said = [f"/// {line}".rstrip() for line in item.doc.split("\n")] * bool(item.doc and not is_alone)
-            code = [*said, head, *[f"where {', '.join(item.bounds)}"] * bool(item.bounds), *members(item)]
-            at = self.sources.call(item) if is_alone else item.trait.partition("<")[0] if owner == "K" else owner
-            self.entries[at].append((doc * is_alone, code, item))
+            self.take_impl(item, owner)
         elif item.kind in ("impl", "fn"):
             where = [f"Self = {item.whom}"] * ("&" in item.whom) + item.bounds
             for it in functions:
-                self.entries[self.sources.call(item, it)].append((item.doc or it.doc, signature(it, where), item))
+                if (item.path.split("/")[1], it.name) != ("micromap_walk", "over"):
+                    self.entries[self.sources.call(item, it)].append((item.doc or it.doc, signature(it, where), item))
         else:
             self.traits[owner] += item.derives
             if item.name not in self.sources.aliases:
                 self.entries[self.sources.call(item)].append((item.doc, self.type_of(item), item))
         for it in functions:
-            lent = [text for kind, label, text in it.clauses if (kind, label) == ("ensures*", "writes_back")]
-            self.lent += [(self.sources.call(item, it), text) for text in lent]
+            for _, label, text in it.clauses:
+                if label in ENDS:
+                    self.ends[label][text].append((self.sources.call(item, it), item.imports))
+
+    def take_impl(self, item, owner):
+        """Adds an impl of a trait, by itself if it is of a map or a set, else to its type."""
+        is_alone = owner in ("Map", "Set")
+        doc = item.doc or "\n\n".join(it.doc for it in item.functions if it.doc)
+        head = f"impl {item.trait} for {self.sources.public(item.whom)}"
+        said = [f"/// {line}".rstrip() for line in item.doc.split("\n")] * bool(item.doc and not is_alone)
+        where = bounds(item.bounds)
+        code = [*said, head, *[f"where {where}"] * bool(where), *members(item)]
+        at = self.sources.call(item) if is_alone else item.trait.partition("<")[0] if owner == "K" else owner
+        self.entries[at].append((doc * is_alone, code, item))
 
     def type_of(self, item):
         """A type as a user sees it: its variants or its public fields, or the whole of a trait."""
@@ -157,55 +191,75 @@ class Api:
 
     def heading(self, call):
         """The heading of a call, or of its type, if API.md has it."""
-        return next((it for it in (call, call.split(" for ")[-1], call.split("::")[0]) if it in self.entries), "")
+        of_type = [call.split(" for ")[-1], *[call.split("::")[0]] * (not call.endswith("::over"))]
+        return next((it for it in (call, *of_type) if it in self.entries), "")
 
-    def facts(self, name):
-        """How a type is imported and what a contract sees of it, and the traits without a contract."""
+    def facts(self, name, shared):
+        """How a type is imported, what a contract sees of it, its traits without a contract, and where more stands."""
         items = [it for _, _, it in self.entries[name] if it.kind in (*TYPES, "fn")]
         paths = [self.paths[it.path, it.name][0] for it in items if (it.path, it.name) in self.paths]
         self.wrong += [f"{items[0].path}: {name} has no public path"] if items and not paths else []
         yield from (f"Imported as `{it}`." for it in paths)
         if name in self.views:
             yield f"In clauses: `{self.sources.public(self.views[name].ghosts[0][3])}`."
-        if self.traits[name]:
-            yield f"Implements {', '.join(f'`{it}`' for it in dict.fromkeys(self.traits[name]))}."
+        traits = [it for it in dict.fromkeys(self.traits[name]) if it not in shared]
+        if traits:
+            yield f"Implements {', '.join(f'`{it}`' for it in traits)}."
+        if shared:
+            title = next(it for it, names in self.groups.items() if name in names)
+            yield f"More: [above](#{anchor(title)})."
 
     def text(self):
-        ends = [*self.lent_table(), "", *Vocabulary([*self.texts()], self.wrong).tables()]
-        titles = ["Every call", *self.groups, *re.findall(r"^## (.*)", "\n".join(ends), re.M)]
-        lists = {"Map": [], "Set": [], "Others": []}
-        for it in titles:
-            owner, _, short = it.partition(": ")
-            lists[owner if short else "Others"].append(f"[{short or it}](#{anchor(it)})")
-        out = [HEAD, *(f"- {owner}: {', '.join(links)}" for owner, links in lists.items()), "", *Calls(self).lines()]
+        out = [HEAD, *self.calls.lines(self.groups)]
         for title, names in self.groups.items():
-            paths = dict.fromkeys(it.path for name in names for _, _, it in self.entries[name])
-            out += ["", f"## {title}", "", "Source: " + ", ".join(link(it, API) for it in paths)]
-            out += example(title, [doc for name in names for doc, _, _ in self.entries[name]], self.wrong)
+            shared = dict(self.shared(names)) if title.startswith("Iterators") else {}
+            out += ["", f"## {title}", *shared_section(shared)]
             for name in names:
-                out += self.section(name)
-        return "\n".join([*out, "", *ends]) + "\n"
+                out += self.section(name, {trait: lines for trait, (those, lines) in shared.items() if name in those})
+        for label in ENDS:
+            out += ["", *self.end(label)]
+        return "\n".join([*out, "", *Vocabulary([*self.texts()], self.wrong).table()]) + "\n"
 
-    def section(self, name):
-        """What is said of a call or a type, and its code."""
-        docs, codes, _ = zip(*self.entries[name])
-        said = [it for it in (*docs, " ".join(self.facts(name))) if it]
+    def shared(self, names):
+        """The members that all impls of a trait for some types have: by the trait the types and the lines."""
+        found = collections.defaultdict(dict)
+        for name in names:
+            for it in self.traits[name]:
+                found[it][name] = []
+            for _, code, item in self.entries[name]:
+                if item.trait:
+                    found[item.trait][name] = [it for it in rested(code) if it[0] == " "]
+        for trait, (first, *others) in ((trait, of.values()) for trait, of in found.items()):
+            lines = [it for it in first if all(it in them for them in others)]
+            if others and (lines or not first):
+                yield trait, ([*found[trait]], lines)
+
+    def section(self, name, shared):
+        """What is said of a call or a type, and its code but for what it shares with others."""
+        codes = []
+        for _, code, item in self.entries[name]:
+            lines = shared.get(item.trait, [])
+            has_own = any(it.startswith(" " * 8) and it not in lines for it in rested(code))  # clauses of its function
+            own = [it for it, seen in zip(code, rested(code)) if seen not in lines or has_own and it.startswith("    fn ")]
+            codes += [own] if not lines or any(it[0] == " " for it in own) else []
+        said = [it for it in (self.calls.own(name), " ".join(self.facts(name, shared))) if it]
         code = "\n\n".join("\n".join(it) for it in codes if it)
         return ["", f"### `{name}`", "", "\n\n".join(said), "", "```rust", code, "```"]
 
-    def lent_table(self):
-        """The clauses `writes_back`."""
-        yield LENT
-        order = {name: at for at, name in enumerate(it for names in self.groups.values() for it in names)}
-        for call, text in sorted(self.lent, key=lambda it: order.get(self.heading(it[0]), -1)):
-            if self.heading(call):
-                yield f"| [`{call}`](#{anchor(self.heading(call))}) | `{text}` |"
-        yield from example(re.search("## (.*)", LENT)[1], [], self.wrong)
+    def end(self, label):
+        """The section of a clause that many calls have."""
+        content = next(it for it in self.calls.doc("Map::len").split("\n\n") if "`content`" in it)
+        yield ENDS[label].format(content=" ".join(content.split()))
+        rows = collections.defaultdict(lambda: ([], []))
+        for text, calls in self.ends[label].items():
+            texts, names = rows[text.replace("T.eq", "K.eq").replace("AreItems", "AreContents").replace("IsItems", "IsContent")]
+            texts.append(f"`{text}`")
+            names += [f"`{it}`" for it, _ in calls if self.heading(it)]
+        yield from (f"| {'; '.join(texts)} | {', '.join(names)} |" for texts, names in rows.values() if names)
 
     def texts(self):
         """Each piece of code and each view, with the imports of its file."""
         lines = lambda code: "\n".join(it for it in code if not it.lstrip().startswith("///"))
         yield from ((lines(code), it.imports) for pieces in self.entries.values() for _, code, it in pieces)
         yield from ((it.ghosts[0][3], it.imports) for it in self.views.values())
-        imports = {name: module for it in self.sources.items for name, module in it.imports.items()}
-        yield from ((text, imports) for _, text in self.lent)
+        yield from ((text, imports) for text, calls in self.ends["content"].items() for _, imports in calls)

@@ -1,8 +1,12 @@
-"""The links of documents."""
+"""The links of documents, and the laws that PROVING.md names."""
+import glob
 import os
 import re
 
 from pages.sources import anchor, read
+
+HOME = "micromap's own repository"  # what a copied document says of a file that isn't copied
+PROVING = "crates/micromap/PROVING.md"
 
 
 def prose(text):
@@ -20,3 +24,15 @@ def dead_links(document, top="."):
         anchors = {*map(anchor, re.findall(r"^#+ (.*)$", text, re.M)), *re.findall(r'^<a id="(.*?)"></a>$', text, re.M)}
         if not re.match(r"\w+:", where) and (not os.path.exists(path) or (at and at not in anchors)):
             yield f"{document}: the link {where} leads nowhere"
+
+
+def wrong_of_laws():
+    """What is amiss in the laws for callers: a file doesn't say what they are for, or PROVING.md names one that isn't there."""
+    for path in sorted(glob.glob("crates/*/proofs/Laws/*.antt")):
+        if not read(path).startswith("-- For callers: "):
+            yield f"{path}: its first comment doesn't say what its laws are for callers"
+    known = {it for path in glob.glob("crates/micromap*/**/*.antt", recursive=True) for it in re.findall(r"[\w'≢-]+", read(path))}
+    rows = "\n".join(it for it in read(PROVING).split("\n") if it.startswith("| "))
+    named = re.findall(r"`([\w'≢]+[_-][\w'≢-]+)`", rows)
+    yield from (f"{PROVING}: a table names {it}, which is no law" for it in named if it not in known)
+    yield from [f"{PROVING}: no table names a law"] * (not named)

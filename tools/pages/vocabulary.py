@@ -1,29 +1,66 @@
-"""The tables of words of API.md: each with its arguments, its module and its meaning."""
+"""The table of words of API.md: those of this library that clauses show, each with its arguments and its meaning."""
 import collections
 import re
 from itertools import takewhile
 
-from pages.sources import link, parts, read, spec_of
-from pages.words import FORM_OF, FORMS, OWN, PLAIN
+from pages.sources import link, read, spec_of
 
-GUIDES = ["crates/micromap/CALLING.md", "crates/micromap/PROVING.md"]  # the documents that name words for callers
-OWN_WORDS = """## Words
+HEAD = """## Words
 
-Each word of the calls' contracts has its arguments and its meaning here. The words of a module stand together, below its name. They are imported from it, as by \
-`ghost use Rattle.micromap.specs.Pairs.{put};`. `rt lemma WORD` prints the definition of any other, as of \
-`has_value`. `nat_eq` of `std.specs.Prelude` is whether two numbers are equal. Signs: `≡` is equality, `→` "if, then" or a function, \
-`↔` "exactly if", `×` "and", `λ x. ..` a function of `x`. `(k : K) → P` says that `P` holds for each `k`, \
-`(xs : List K) × P` that there is an `xs` for which `P` holds, and `⊤ → P` means `P`. `[]` is the empty list, `x ∷ xs` the list `xs` with `x` before \
-it, `++` joins two lists, `x == y` is whether two numbers are equal, `⊤` always holds, `ℕ` are the natural numbers.
+The words of this library in the clauses above, each with its arguments, below its module, from which it is imported, as by `ghost use Rattle.micromap.specs.Pairs.{put};`. `rt lemma WORD` prints the definition of any word, and of those of the standard library, which aren't listed. Signs: `≡` is equality, `→` "if, then" or a function, `↔` "exactly if", `×` "and", `λ x. ..` a function of `x`. `(k : K) → P` says that `P` holds for each `k`, `(xs : List K) × P` that there is an `xs` for which `P` holds, and `⊤ → P` means `P`. `x ∷ xs` is the list `xs` with `x` before it, `++` joins two lists, `x == y` is whether two numbers are equal.
 
 | Word | Meaning |
 |---|---|"""
-STANDARD_WORDS = """## Words of the standard library
-
-A word is shown with its arguments, below its module. A dot begins a member of a trait, as `K.eq x y` has it.
-
-| Word | Meaning |
-|---|---|"""
+# Words with their arguments, where a definition doesn't name them, and with a meaning, where it has no comment of its own or
+# one that rests on another's. Without a meaning here, the comment stands.
+BY_HAND = """
+all_fit eq N items |
+all_items_fit eq N items |
+build eq items |
+code fault |
+count_or_refuse eq N content x | the pairs of a counter once one more of `x` came, or `None` if it doesn't fit or if `content` is `None`
+difference_advanced eq w | where a call of `next` leads the operation from `w`: past the next member, or to the end if there is none
+difference_hint w | the bounds of how many members are left: `(length w.rest - length w.other, Some (length w.rest))`
+difference_remaining eq w | the members that the operation has left at `w`
+distinct eq items |
+entry_key e |
+entry_taken e |
+entry_value e |
+Faults faults last_fault old new fault | one fault came between `old` and `new`, and it is `fault`
+insert_error_text error |
+intersection_advanced eq w | where a call of `next` leads the operation from `w`: past the next member, or to the end if there is none
+intersection_hint w | the bounds of how many members are left: `(0, Some (min (length w.rest) (length w.other)))`
+intersection_remaining eq w | the members that the operation has left at `w`
+is_same eq same first second |
+IsSound eq e |
+item_texts items | a set's `String` items, by their bytes
+ItemMisfitIn eq N old items position | `position` is that of the first of the items that doesn't fit a set of capacity `N` with `old`
+key_texts pairs | the pairs with each `String` key as its bytes
+map_text key_text value_text pairs |
+MapReads eq N old new read | what `read` is of a source that is `old` before it and `new` after it: `build` of its entries if all fit, else its first fault, or `TooMany` at the first entry that doesn't fit. `new` has the entries that weren't taken
+members pairs |
+message fault |
+MisfitIn eq N old items position | `position` is that of the first of the items that doesn't fit a map of capacity `N` with the pairs `old`
+put_all eq pairs items |
+put_all_items eq old items |
+put_item_or_refuse eq N content x | the items once `x` is put, or `None` if it doesn't fit or if `content` is `None`
+put_or_refuse eq N content p | the pairs once `p` is put, or `None` if it doesn't fit or if `content` is `None`
+put_pair_if_fits eq N pairs p |
+PutsAll eq N old new items |
+PutsAllItems eq N old new items |
+PutsBefore eq N old new items position | the first of the items that doesn't fit stands at `position`, and `new` is `put_all` of those before it
+PutsItemsBefore eq N old new items position | the same of a set and `put_all_items`
+read_fault_text fault_text fault |
+Same eq same first second | each pair of either list has an equal key with an equal value in the other
+symmetric_advanced eq w | where a call of `next` leads the operation from `w`: past the next member, or to the end if there is none
+symmetric_hint w | the sums of the bounds of both differences at `w`: the lower one at most `2 ^ 64 - 1`, the upper one `None` from `2 ^ 64` on
+symmetric_remaining eq w | the members that the operation has left at `w`
+union_advanced eq w | where a call of `next` leads the operation from `w`: past the next member, or to the end if there is none
+union_hint w | the sums of the bounds of `w.beyond` and of the number of `w.others`, limited in the same way as those of `symmetric_hint`
+union_remaining eq w | the members that the operation has left at `w`
+"""
+BY_HAND = {it.split()[0]: it.rstrip("|").strip().split(" | ") for it in BY_HAND.strip().split("\n")}
+DEFINED = r"(?:abbrev |unfoldable )?pub (record |data )?"  # what stands before a word where it is defined
 
 
 def groups_of(text):
@@ -62,19 +99,12 @@ def names_above(lines, indent):
     return [name for depth, names in modules if depth < indent for name in names]
 
 
-def first_home(module, word):
-    """The module that a file of specs/ has a word from. Only in its own crate does it have the word itself."""
-    path = spec_of(module)
-    found = re.search(rf"^pub use Rattle\.([\w.]+)\.\{{[^}}]*\b{word}\b", read(path), re.M) if path else None
-    return found[1] if found else module
-
-
 class Definition:
     """A word as its file defines it: its own comment, how many arguments it has and their names, where it names them."""
 
     def __init__(self, path, word):
         lines = read(path).split("\n")
-        found = re.compile(rf"( *)(?:abbrev |unfoldable )?pub (record |data )?{re.escape(word)} (.*?)(?: where)?$")
+        found = re.compile(rf"( *){DEFINED}{re.escape(word)} (.*?)(?: where)?$")
         at = next(i for i, it in enumerate(lines) if found.match(it))
         indent, kind, rest = found.match(lines[at]).groups()
         given = given_names(" ".join(takewhile(":".__ne__, groups_of(rest))))
@@ -112,84 +142,44 @@ def with_marks(meaning, form):
     return meaning
 
 
-def rows_of(modules):
-    """The rows of the words of each module, below a row with its name."""
-    for module in sorted(modules, key=lambda it: it.strip("`")):
-        yield from (f"| **{module}** | |", *modules[module])
-
-
 class Vocabulary:
     """The words of some texts, each with the imports of its file. What is amiss is added to `wrong`."""
 
     def __init__(self, texts, wrong):
-        self.texts, self.wrong, self.homes = texts, wrong, collections.defaultdict(set)
-
-    def tables(self):
-        """The tables of the words, and the words that mean what their names say."""
-        modules, plain, own, standard = self.modules(), collections.defaultdict(list), collections.defaultdict(list), collections.defaultdict(list)
-        for word, module in modules.items():
-            path = spec_of(module)
-            if word in PLAIN:
-                for home in sorted({first_home(it, word) for it in self.homes[word] | {module}}):  # two types may have it
-                    plain[home].append(word)
-            elif path:
-                form, meaning = self.explained(path, word)
-                own[link(path, "crates/micromap/API.md", module)].append(f"| `{form}` | {meaning} |")
-            elif word in FORM_OF:
-                standard[f"`{module}`"].append(f"| `{FORM_OF[word]}` | {FORMS[FORM_OF[word]]} |")
-            else:
-                self.wrong.append(f"tools/pages/words.py: the word {word} of {module} isn't explained")
-        self.wrong += [f"tools/pages/words.py: no clause and no document names {it}" for it in OWN if it not in modules]
-        yield "\n".join([OWN_WORDS, *rows_of(own)])
-        yield ""
-        yield "\n".join([STANDARD_WORDS, *rows_of(standard), "| **of traits** | |", *self.member_rows()])
-        lists = (f"{', '.join(f'`{it}`' for it in words)} of `{module}`" for module, words in plain.items())
-        yield f"\nThese mean what their names say: {'; '.join(lists)}."
+        self.texts, self.wrong = texts, wrong
 
     def modules(self):
-        """The modules of the words of all clauses, and of those that the definitions name and words.py explains."""
-        exported, modules = read("crates/micromap/specs/Lib.antt"), {}
+        """The words of this library in the texts, by the modules that users import them from."""
+        exported, found = read("crates/micromap/specs/Lib.antt"), collections.defaultdict(set)
         for text, imports in self.texts:
-            for word in re.findall(r"[\w-]+", text):
-                if word in imports:
-                    module = imports[word]
-                    is_ours = f"pub use Rattle.{module}\n" in exported
-                    modules[word] = module.replace("micromap_core", "micromap") if is_ours else module
-                    self.homes[word].add(modules[word])
-        modules |= dict(self.guided(exported))
-        for path in dict.fromkeys(spec_of(it) for it in modules.values() if spec_of(it)):
-            for module, names in re.findall(r"^use Rattle\.([\w.]+)\.\{([^}]*)\}", read(path), re.M):
-                modules |= {it: module for it in parts(names) if it in FORM_OF and it not in modules}
-        unnamed = (it for it in FORM_OF if it[0] != "." and it not in modules)
-        self.wrong += [f"tools/pages/words.py: no clause and no definition names {it}" for it in unnamed]
-        return dict(sorted(modules.items(), key=lambda it: (it[0].lower(), it)))
+            for word in {*re.findall(r"[\w-]+", text)} & {*imports}:
+                module = imports[word]
+                is_ours = f"pub use Rattle.{module}\n" in exported
+                if spec_of(module) and re.search(rf"^ *{DEFINED}{re.escape(word)} ", read(spec_of(module)), re.M):
+                    found[module.replace("micromap_core", "micromap") if is_ours else module].add(word)
+        return found
 
-    def guided(self, exported):
-        """The modules of the words that the documents for callers import, or name by themselves."""
-        named = set(re.findall(r"`([\w-]+)[^`\n]*`", "".join(map(read, GUIDES))))
-        for crate, name in re.findall(r"^pub (?:mod|use Rattle\.(\w+)\.specs\.)\s*(\w+)$", exported, re.M):
-            module = f"micromap.specs.{name}"
-            kinds = r"(?:(?:abbrev|unfoldable) pub|pub (?:record|data))"
-            defined = re.findall(rf"^ *{kinds} ([\w-]+)(?= )", read(spec_of(module)), re.M)
-            yield from ((word, module) for word in defined if word in named)
+    def table(self):
+        """The lines of the table. The words of a module stand below a row with its name."""
+        found = self.modules()
+        yield HEAD
+        for module in sorted(found):
+            path = spec_of(module)
+            yield f"| **{link(path, 'crates/micromap/API.md', module)}** | |"
+            rows = collections.defaultdict(list)
+            for word in sorted(found[module], key=lambda it: (it.lower(), it)):
+                form, meaning = self.explained(path, word)
+                rows[meaning].append(f"`{form}`")
+            yield from (f"| {', '.join(forms)} | {meaning} |" for meaning, forms in rows.items())
+        self.wrong += [f"tools/pages/vocabulary.py: no clause has {it}" for it in BY_HAND if it not in set().union(*found.values())]
 
     def explained(self, path, word):
-        """A word of ours with its arguments, and its meaning: what words.py says of it, else its definition."""
-        found, (form, meaning) = Definition(path, word), OWN.get(word, ("", ""))
+        """A word with its arguments, and its meaning: what is said by hand, else by its definition."""
+        found, (form, *said) = Definition(path, word), BY_HAND.get(word, [""])
         form = form or " ".join([word, *found.names])
-        meaning = meaning or with_marks(found.comment, form)
-        is_whole = found.is_named or word in OWN
-        self.wrong += [] if is_whole else [f"tools/pages/words.py: {path} doesn't name the arguments of {word}"]
         counts = len(groups_of(form)) - 1, found.count
-        self.wrong += [f"tools/pages/words.py: {word} has {counts[1]} arguments, not {counts[0]}"] * (counts[0] != counts[1])
-        self.wrong += [] if meaning else [f"{path}: no comment of its own says what {word} means, nor does words.py"]
-        return form, meaning
-
-    def member_rows(self):
-        """The rows of the members of traits that clauses name."""
-        named = {f".{it}" for text, _ in self.texts for it in re.findall(r"\b[A-Z]\w*\.(\w+)", text)}
-        known = {it for it in FORM_OF if it[0] == "."}
-        self.wrong += [f"tools/pages/words.py: no clause names {it}" for it in sorted(known - named)]
-        self.wrong += [f"tools/pages/words.py: {it} isn't explained" for it in sorted(named - known - {*PLAIN})]
-        for form in sorted({FORM_OF[it] for it in named & known}):
-            yield f"| `{form}` | {FORMS[form]} |"
+        if counts[0] != counts[1] or not found.is_named and word not in BY_HAND:
+            self.wrong.append(f"tools/pages/vocabulary.py: {path} gives {word} {counts[1]} arguments, and not those of {form}")
+        if not said and not found.comment:
+            self.wrong.append(f"{path}: no comment of its own says what {word} means, nor does tools/pages/vocabulary.py")
+        return form, *(said or [with_marks(found.comment, form)])
