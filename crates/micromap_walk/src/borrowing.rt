@@ -206,6 +206,7 @@ impl<'a, K, V> Default for Iter<'a, K, V> {
 #[derive(Drop)]
 pub struct Keys<'a, K, V> {
     pub(crate) keys: ColumnIter<'a, K>,
+    // With a `PhantomData<&'a V>` the check doesn't cover a closure that compares two of these.
     _values: PhantomData<V>,
 }
 
@@ -292,6 +293,7 @@ pub struct Values<'a, K, V> {
     _keys: PhantomData<K>,
 }
 
+// The methods are those of `Keys` again: a macro would hide their contracts, and a generic type would show in them.
 impl<'a, K, V> Model for Values<'a, K, V> {
     ghost use Rattle.std.specs.Prelude.{List};
 

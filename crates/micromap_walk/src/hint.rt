@@ -5,7 +5,8 @@ ghost use Rattle.std.specs.Prelude.{◌≡◌, ◌<◌, ◌≤◌};
 pub(crate) const ONE: [usize; 1] = [0];
 
 // Stands where control never comes. `unreachable!()` alone is compiled to a test and a stop, in every turn of every
-// loop. A loop up to what lies past the end of a list tells the compiler that it can leave the test out.
+// loop. A loop up to what lies past the end of a list tells the compiler that it can leave the test out. A function in
+// the place of this macro would require what no call can meet, and `rt ci` refuses such a function.
 macro_rules! never {
     () => {{
         for _ in 0..$crate::hint::ONE[1] {}

@@ -21,7 +21,8 @@ use std::mem;
 pub struct IntoIter<K, V, const N: usize> {
     keys: ArrayVec<Option<K>, N>,
     values: ArrayVec<Option<V>, N>,
-    // The number of pairs yielded. As many slots in front are empty.
+    // The number of pairs yielded. As many slots in front are empty. With an index for each column, a caller that is
+    // generic in `N` couldn't show that the iterator fits in memory.
     front: usize,
 }
 

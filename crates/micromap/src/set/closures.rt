@@ -19,6 +19,7 @@ impl<T: Eq + Drop, const N: usize> Set<T, N> {
         ensures shorter { length self.new ≤ length self.old }
         ensures content { AreItems T.eq N self.old self.new }
     {
+        // The clauses that are inferred of a closure would require that `keep` may always be called.
         self.map.retain(
             |x: &T, _: &mut ()|
                 requires { F.pre keep x }
