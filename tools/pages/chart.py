@@ -1,15 +1,14 @@
-"""A chart of ratios over the capacity, as an SVG."""
+"""A chart of ratios over the capacity, as an SVG, with a panel for each workload."""
 import math
 import textwrap
 from html import escape
 
-# The height of a panel, the gaps between panels, and the room around all of them. The names have a line each.
-HEIGHT, GAP_X, GAP_Y, LEFT, RIGHT, NAME = 110, 24, 58, 44, 20, 14
+# How many panels are in a row, their size, the gaps between them, and the room around all of them.
+COLUMNS, WIDTH, HEIGHT, GAP_X, GAP_Y, LEFT, RIGHT = 3, 232, 110, 24, 58, 44, 20
 LETTER = 6.6  # the width of a letter
 # Of each line, by light and by dark: its colour, its width and its dashes.
 LINES = [
     ("#0b62c4", "#58a6ff", 2.4, ""),
-    ("#1a7f37", "#56d364", 1.5, ""),
     ("#b35900", "#f0a04b", 1.5, "5 3"),
     ("#7a5ea8", "#c4a7f0", 1.5, "1.5 2.5"),
 ]
@@ -52,14 +51,13 @@ def style():
     return f"{STYLE}{''.join(lines)}  @media (prefers-color-scheme: dark) {{{DARK}{''.join(dark)}  }}\n"
 
 
-class Frame:
-    """What all panels have: a width, and the powers of two between which the given ratios are."""
+class Levels:
+    """The powers of two between which all panels show ratios."""
 
-    def __init__(self, width, ratios):
-        self.width = width
+    def __init__(self, ratios):
         self.low, self.high = min(-1, math.floor(math.log2(min(ratios)))), max(1, math.ceil(math.log2(max(ratios))))
 
-    def level(self, ratio):
+    def at(self, ratio):
         return HEIGHT * (self.high - math.log2(ratio)) / (self.high - self.low)
 
 
@@ -77,74 +75,69 @@ def beyond(points, ratios):
             yield is_upper, inner[0] + part * (outer[0] - inner[0]), begins, farthest
 
 
-def far_labels(width, number, points, ratios, taken):
+def far_labels(number, points, ratios, taken):
     """The farthest values beyond the edges, each beside the place where its line leaves the panel."""
     for is_upper, x, begins, farthest in beyond(points, ratios):
         words = coarse((farthest, ""))
         room = LETTER * len(words)
-        left = max(2, x - 5 - room) if begins else min(width - 2 - room, x + 5)
+        left = max(2, x - 5 - room) if begins else min(WIDTH - 2 - room, x + 5)
         step = 11 * taken.count((is_upper, begins))
         taken.append((is_upper, begins))
         yield text(left, 10 + step if is_upper else HEIGHT - 4 - step, words, f"far{number}")
 
 
-def axes(frame, capacities, has_levels):
-    yield f'<rect class="faster" y="{frame.level(1):.1f}" width="{frame.width}" height="{HEIGHT - frame.level(1):.1f}"/>'
-    for power in range(frame.low, frame.high + 1):
-        y = frame.level(2**power)
-        yield f'<path class="{"even" if power == 0 else "grid"}" d="M0 {y:.1f}H{frame.width}"/>'
-        if has_levels:
+def axes(levels, capacities, is_first):
+    yield f'<rect class="faster" y="{levels.at(1):.1f}" width="{WIDTH}" height="{HEIGHT - levels.at(1):.1f}"/>'
+    for power in range(levels.low, levels.high + 1):
+        y = levels.at(2**power)
+        yield f'<path class="{"even" if power == 0 else "grid"}" d="M0 {y:.1f}H{WIDTH}"/>'
+        if is_first:
             yield text(-6, y + 4, f"{2 ** power:g}", "faint", "end")
     yield from (text(place, HEIGHT + 14, str(at), "faint", "middle") for place, at in capacities.items())
-    yield text(frame.width / 2, HEIGHT + 27, "capacity", "faint", "middle")
+    yield text(WIDTH / 2, HEIGHT + 27, "capacity", "faint", "middle")
 
 
-def panel(frame, names, mean, capacities, lines, has_levels):
-    """A panel with a line for each of some numbered lists of ratios."""
-    places = [frame.width * (index + 0.5) / len(capacities) for index in range(len(capacities))]
-    yield from axes(frame, dict(zip(places, capacities)), has_levels)
-    *subject, name = names
-    yield from (text(0, -7 - NAME, it, "faint") for it in subject)
+def panel(levels, name, mean, capacities, lines, is_first):
+    """A panel with a line for each list of ratios."""
+    places = [WIDTH * (index + 0.5) / len(capacities) for index in range(len(capacities))]
+    yield from axes(levels, dict(zip(places, capacities)), is_first)
     yield f'<text x="0" y="-7"><tspan class="name">{escape(name)}</tspan><tspan dx="7">{shown(mean)}</tspan></text>'
     labels, taken = [], []
     yield '<g clip-path="url(#panel)">'
-    for number, ratios in reversed(lines):
-        points = [(place, frame.level(it)) for place, (it, _) in zip(places, ratios)]
-        if points:
-            yield f'<path class="line{number}" d="M{"L".join(f"{x:.1f} {y:.1f}" for x, y in points)}"/>'
+    for number, ratios in reversed([*enumerate(lines)]):
+        points = [(place, levels.at(it)) for place, (it, _) in zip(places, ratios)]
+        yield f'<path class="line{number}" d="M{"L".join(f"{x:.1f} {y:.1f}" for x, y in points)}"/>'
         if number == 0:
             yield from (f'<circle class="far0" cx="{x:.1f}" cy="{y:.1f}" r="2.6"/>' for x, y in points)
-        labels += far_labels(frame.width, number, points, [it for it, _ in ratios], taken)
+        labels += far_labels(number, points, [it for it, _ in ratios], taken)
     yield from ["</g>", *labels]
 
 
-def legend(lines):
-    x = LEFT
-    for kind, name in [*((f"line{number}", name.replace("`", "")) for number, name in lines), ("even", "the Rust crate")]:
+def legend(names):
+    x, lines = LEFT, [(f"line{number}", name.replace("`", "")) for number, name in enumerate(names)]
+    for kind, name in [*lines, ("even", "the Rust crate")]:
         yield f'<path class="{kind}" d="M{x} 42h24"/>' + text(x + 30, 46, name)
         x += 54 + round(LETTER * len(name))
 
 
-def chart(title, source, frame, lines, panels, columns):
-    """The chart, with `source` to say where the figures are from. A line has its number and its name. A panel has its names,
-    the mean of the first line, the capacities, and the ratios of each line."""
-    names = max(len(it[0]) for it in panels) * NAME
-    across, down = frame.width + GAP_X, HEIGHT + GAP_Y + names - NAME
-    width = LEFT + columns * across - GAP_X + RIGHT
+def chart(title, source, levels, names, panels):
+    """The chart, with `source` to say where the figures are from. A panel has its name, the mean of the first line, the
+    capacities, and the ratios of each line, which are in the order of `names`."""
+    across, down = WIDTH + GAP_X, HEIGHT + GAP_Y
+    width = LEFT + COLUMNS * across - GAP_X + RIGHT
     help_lines = [line for it in (HELP, source) for line in textwrap.wrap(it, int((width - LEFT - RIGHT) / 6.2))]
-    top = 66 + 16 * len(help_lines) + names
-    height = top + -(-len(panels) // columns) * down - names - 6
+    top = 80 + 16 * len(help_lines)
+    height = top + -(-len(panels) // COLUMNS) * down - 20
     drawn = [
         f'<svg xmlns="http://www.w3.org/2000/svg" viewBox="0 0 {width} {height}" width="{width}" height="{height}" role="img">',
         f"<title>{escape(title, quote=False)}, by capacity</title>",
-        f'<style>{style()}</style><clipPath id="panel"><rect y="-3" width="{frame.width}" height="{HEIGHT + 6}"/></clipPath>',
+        f'<style>{style()}</style><clipPath id="panel"><rect y="-3" width="{WIDTH}" height="{HEIGHT + 6}"/></clipPath>',
         f'<rect class="paper" width="{width}" height="{height}"/>',
         text(LEFT, 24, title, "title"),
         *(text(LEFT, 68 + 16 * number, it, "faint") for number, it in enumerate(help_lines)),
-        *legend(lines),
+        *legend(names),
     ]
-    for index, (names, mean, capacities, lists) in enumerate(panels):
-        numbered = [(number, ratios) for (number, _), ratios in zip(lines, lists)]
-        drawn.append(f'<g transform="translate({LEFT + index % columns * across} {top + index // columns * down})">')
-        drawn += [*panel(frame, names, mean, capacities, numbered, index % columns == 0), "</g>"]
+    for index, it in enumerate(panels):
+        drawn.append(f'<g transform="translate({LEFT + index % COLUMNS * across} {top + index // COLUMNS * down})">')
+        drawn += [*panel(levels, *it, index % COLUMNS == 0), "</g>"]
     return "\n".join([*drawn, "</svg>", ""])

@@ -1,34 +1,29 @@
-"""What is made of a recorded measurement: tables, parts of README.md and docs/SPEED.md, and both charts."""
+"""What is made of a recorded measurement: tables, parts of README.md and docs/SPEED.md, and the README's chart."""
 import math
 import os
 import re
 from collections import defaultdict
 
-from pages.chart import Frame, chart, coarse, shown
+from pages.chart import Levels, chart, coarse, shown
 from pages.sources import read
 
 # A line `time` has the kind of elements, the workload, the capacity, the Rust crate's nanoseconds, and then the times over these
-# of RIVALS, as far as they were timed. Lines `alone`, `build` and `size` have nanoseconds of JSON, nanoseconds of a call or its
-# loop, and bytes of this library and of the Rust crate.
-RECORD = "docs/speed.tsv"
+# of RIVALS, as far as they were timed. A line `size` has bytes of this library and of the Rust crate.
+RECORD, CHART = "docs/speed.tsv", "docs/speed-six.svg"
 README, SPEED = "README.md", "docs/SPEED.md"
 # What is compared with the Rust crate, in the order of the driver's ratios.
-RIVALS = ["this library", "the same layout in `unsafe` Rust", "`ArrayVec` by hand", "`IndexMap`", "`HashMap`", "`BTreeMap`"]
-# The charts: the file, the title, the rivals that have lines, the workloads on numbers that have panels or None for all
-# workloads, how many panels are in a row, and their width.
-SIX = ["get, hit", "get, miss", "overwrite", "remove and put back", "walk", "clone"]
-CHARTS = [
-    ("docs/speed-six.svg", "Time relative to the Rust crate's: numbers as keys and values", [0, 2, 3], SIX, 3, 232),
-    ("docs/speed.svg", "Time relative to the Rust crate's", [0, 1, 2, 3], None, 5, 172),
-]
-# SPEED.md's table of what to take in place of this library: the rivals, the capacities and the workloads on numbers.
-CHOICES, CHOICE_CAPACITIES = range(3, 6), [2, 8, 32, 64]
+RIVALS = ["this library", "the same layout in `unsafe` Rust", "`IndexMap`", "`HashMap`"]
+# The workloads on numbers that have panels in the chart.
+PANELS = ["get, hit", "get, miss", "overwrite", "remove and put back", "walk", "clone"]
+# What to take in place of this library: the rivals, which have lines in the chart and columns in the README and in SPEED.md, and
+# SPEED.md's capacities, for them and for this library, and its workloads on numbers.
+CHOICES, CHOICE_CAPACITIES, OWN_CAPACITIES = [2, 3], [2, 4, 8, 16, 32], [2, 8, 32]
 CHOICE_WORDS = {
     "get, hit": "a stored key is found",
     "overwrite": "a value is overwritten",
     "get, miss": "a key is found missing",
-    "count by entries": "items are counted by entries",
-    "remove and put back": "a pair is removed and put back",
+    "count by entries": "items are counted",
+    "remove and put back": "a pair is removed, put back",
     "walk": "all pairs are walked",
     "new and fill": "a new map is filled",
     "clone": "a map is cloned",
@@ -36,16 +31,13 @@ CHOICE_WORDS = {
 # The README's table has the times of one of these, at some capacities, in a row that begins with these words.
 FOUND, FOUND_CAPACITIES, FOUND_WORDS = "get, hit", [2, 4, 8, 16, 32], "Finds one of"
 NEW_MAPS = ["copied", "put one, hand on"]  # without which SPEED.md says the means too
-# The table of calls that build a map or a set: its capacities, and the ways that the calls are set beside.
-BUILD_CAPACITIES, LOOPS = [2, 8, 64], ["loop", "loop in place"]
 PART = r"(^<!-- made by tools/compare: ([^\n]*) -->\n).*?(^<!-- end -->$)"
 
 
 def parsed(text):
-    """A record's or the driver's lines, as where it is from, {(subject, workload): {capacity: (nanoseconds, ratios)}},
-    {workload: {capacity: nanoseconds}} of what is timed alone, {(call, way): {capacity: nanoseconds}} of the ways to build
-    a map or a set, and {type: {capacity: sizes}}. A ratio is a number with its mark."""
-    source, (times, alone, builds, sizes) = "", (defaultdict(dict) for _ in range(4))
+    """A record's or the driver's lines, as where it is from, {(subject, workload): {capacity: (nanoseconds, ratios)}} and
+    {type: {capacity: sizes}}. A ratio is a number with its mark."""
+    source, times, sizes = "", defaultdict(dict), defaultdict(dict)
     for kind, *words in (line.split("\t") for line in text.splitlines()):
         if kind == "source":
             source = words[0]
@@ -53,23 +45,17 @@ def parsed(text):
             subject, workload, capacity, nanoseconds, *ratios = words
             marked = [(float(it.rstrip("~")), "~" * it.endswith("~")) for it in ratios]
             times[subject, workload][int(capacity)] = float(nanoseconds), marked
-        elif kind == "alone":
-            alone[words[0]][int(words[1])] = float(words[2])
-        elif kind == "build":
-            builds[words[0], words[1]][int(words[2])] = float(words[3])
         elif kind == "size":
             sizes[words[0]][int(words[1])] = int(words[2]), int(words[3])
-    return source, times, alone, builds, sizes
+    return source, times, sizes
 
 
-def record(source, times, alone, builds, sizes):
+def record(source, times, sizes):
     """The text of a record."""
     lines = [["source", source]]
     for (subject, workload), cells in times.items():
         for at, (nanoseconds, ratios) in cells.items():
             lines.append(["time", subject, workload, at, f"{nanoseconds:.2f}", *(f"{it:.4f}{mark}" for it, mark in ratios)])
-    lines += (["alone", name, at, f"{nanoseconds:.2f}"] for name, cells in alone.items() for at, nanoseconds in cells.items())
-    lines += (["build", *key, at, f"{nanoseconds:.2f}"] for key, cells in builds.items() for at, nanoseconds in cells.items())
     lines += (["size", name, at, *both] for name, cells in sizes.items() for at, both in cells.items())
     return "".join("\t".join(map(str, it)) + "\n" for it in lines)
 
@@ -78,11 +64,6 @@ def mean(ratios):
     """The geometric mean, marked if one of them is."""
     numbers, marks = zip(*ratios)
     return math.exp(sum(map(math.log, numbers)) / len(numbers)), max(marks)
-
-
-def averaged_alone(runs):
-    """The geometric means of several runs' nanoseconds."""
-    return {name: {at: mean([(run[name][at], "") for run in runs])[0] for at in cells} for name, cells in runs[0].items()}
 
 
 def averaged(runs):
@@ -151,17 +132,16 @@ def size_table(sizes):
 
 
 def choice_table(times):
-    """A table of this library's times, and one of those of what a user might take in its place, relative to its own."""
+    """A table of this library's times, and of those of what a user might take in its place over these."""
     columns = [(rival, at) for rival in CHOICES for at in CHOICE_CAPACITIES]
-    heads = (f"{RIVALS[rival]} at {at}" if at == CHOICE_CAPACITIES[0] else at for rival, at in columns)
-    own_lines, lines = [*heading("Nanoseconds of `Map`", CHOICE_CAPACITIES)], [*heading("Time over `Map`'s", heads)]
+    heads = [("`Map`", OWN_CAPACITIES), *((RIVALS[it], CHOICE_CAPACITIES) for it in CHOICES)]
+    lines = heading("", (it for name, (first, *others) in heads for it in (f"{name} at {first}", *others)))
     for workload, words in CHOICE_WORDS.items():
         cells = times["numbers", workload]
-        own = {at: nanoseconds * ratios[0][0] for at, (nanoseconds, ratios) in cells.items()}
+        own = (cells[at][0] * cells[at][1][0][0] for at in OWN_CAPACITIES)
         ratios = {rival: dict(zip(cells, over(cells, rival, 0))) for rival in CHOICES}
-        own_lines.append(row([f"{words} (`{workload}`)", *(f"{own[at]:.1f}" for at in CHOICE_CAPACITIES)]))
-        lines.append(row([f"`{workload}`", *(coarse(ratios[rival][at]) for rival, at in columns)]))
-    return [*own_lines, "", *lines]
+        lines.append(row([words, *(f"{brief(it)} ns" for it in own), *(coarse(ratios[rival][at]) for rival, at in columns)]))
+    return lines
 
 
 def found_table(times, part):
@@ -172,27 +152,6 @@ def found_table(times, part):
         nanoseconds, ratios = cells[at]
         yield row([f"{FOUND_WORDS} {at} numbers in", *(f"{brief(nanoseconds * ratios[rival][0])}{ratios[rival][1]} ns" for rival in [0, *CHOICES])])
     yield "\nA `~` marks a figure that [isn't steady](docs/SPEED.md#how-it-was-measured)."
-
-
-def alone_table(alone):
-    """The nanoseconds of what is timed alone."""
-    yield from heading("Nanoseconds", next(iter(alone.values())))
-    yield from (row([name, *(f"{it:.0f}" for it in cells.values())]) for name, cells in alone.items())
-
-
-def build_table(builds):
-    """The nanoseconds of each call that builds a map or a set, and its time over that of each loop that it replaces: the
-    mean and the greatest ratio."""
-    if not builds:
-        yield "The record has no figures of these calls."
-        return
-    own = {call: cells for (call, way), cells in builds.items() if way == "call"}
-    yield from heading("Nanoseconds", [*BUILD_CAPACITIES, *(f"Over the {way}" for way in LOOPS)])
-    for call, cells in own.items():
-        loops = [builds.get((call, way), {}) for way in LOOPS]
-        ratios = [[(cells[at] / it[at], "") for at in it] for it in loops]
-        nanoseconds = (brief(cells[at]) for at in BUILD_CAPACITIES)
-        yield row([f"`{call}`", *nanoseconds, *(worst(it, both) if it else "" for it, both in zip(loops, ratios))])
 
 
 def speed_list(times):
@@ -227,12 +186,10 @@ def worst(cells, ratios):
 
 
 def causes_table(times, part):
-    """The table of what takes over a tenth longer than the layout, with the names and causes that it has, and what holds
-    of the rest."""
-    causes = dict(re.findall(r"^\| (\w[^|]*: [^|]*?) \|.*\| ([^|]+) \|$", part, re.M))
+    """The table of what takes over a fifth longer than the layout, with the causes that it has, and what holds of the rest."""
+    known = dict(re.findall(r"^\| (\w[^|]*: [^|]*?) \|.*\| ([^|]+) \|$", part, re.M))
     cells = {f"{subject}: {workload}": it for (subject, workload), it in times.items()}
-    slow = (name for name, it in cells.items() if mean(over_layout(it))[0] >= 1.105)
-    causes |= {name: "not looked into" for name in slow if name not in causes}
+    causes = {name: known.get(name, "not looked into") for name, it in cells.items() if mean(over_layout(it))[0] > 1.2}
     yield from ["| | Over the Rust crate | Over the layout | Cause |", "|---|---|---|---|"]
     for name, cause in sorted(causes.items(), key=lambda it: -mean(over_layout(cells[it[0]]))[0]):
         yield row([name, *(worst(cells[name], of(cells[name])) for of in (own_of, over_layout)), cause])
@@ -244,42 +201,36 @@ def causes_table(times, part):
         yield f"The mean {words} is {own:.2f} over the Rust crate, and {layout:.2f} over the layout."
 
 
-def charts(source, times):
-    """The charts by their files."""
-    own = [ratio for cells in times.values() for ratio, _ in own_of(cells)]
-    for path, title, rivals, only, columns, width in CHARTS:
-        panels = []
-        for (subject, workload), cells in times.items():
-            if only is None or (subject == "numbers" and workload in only):
-                names = [subject, workload] if only is None else [workload]
-                panels.append((names, mean(own_of(cells)), [*cells], [ratios_of(cells, it) for it in rivals]))
-        yield path, chart(title, source, Frame(width, own), [(it, RIVALS[it]) for it in rivals], panels, columns)
+def drawn(source, times):
+    """The chart."""
+    levels, rivals = Levels([ratio for cells in times.values() for ratio, _ in own_of(cells)]), [0, *CHOICES]
+    cells = {name: times["numbers", name] for name in PANELS}
+    panels = [(name, mean(own_of(it)), [*it], [ratios_of(it, rival) for rival in rivals]) for name, it in cells.items()]
+    return chart("Time relative to the Rust crate's: numbers as keys and values", source, levels, [RIVALS[it] for it in rivals], panels)
 
 
 def made(text):
-    """The files that a record makes: the charts, and the pages with their parts."""
-    source, times, alone, builds, sizes = parsed(text)
-    files = dict(charts(source, times))
+    """The files that a record makes: the chart, and the pages with their parts."""
+    source, times, sizes = parsed(text)
     makers = {
         "what it takes to find a key": lambda part: found_table(times, part),
         "times relative to Map's": lambda _: choice_table(times),
         "times relative to the Rust crate's": lambda _: speed_list(times),
         "what takes longer than the layout": lambda part: causes_table(times, part),
         "sizes in bytes": lambda _: size_table(sizes),
-        "what is timed alone": lambda _: alone_table(alone),
-        "what replaces a loop": lambda _: build_table(builds),
     }
 
     def part_of(found):
         return "\n".join([found[1], *makers[found[2]](found[0]), "", found[3]])
 
-    return files | {path: re.sub(PART, part_of, read(path), flags=re.M | re.S) for path in (README, SPEED)}
+    parts = {path: re.sub(PART, part_of, read(path), flags=re.M | re.S) for path in (README, SPEED)}
+    return {CHART: drawn(source, times)} | parts
 
 
 def wrong_of_speed(notes):
     """Which files aren't what the record makes."""
     if not os.path.exists(RECORD):
-        notes.append(f"{RECORD} isn't there: nothing says whether the charts and the tables of times are of one run")
+        notes.append(f"{RECORD} isn't there: nothing says whether the chart and the tables of times are of one run")
         return []
     stale = (path for path, it in made(read(RECORD)).items() if not os.path.exists(path) or read(path) != it)
     return [f"{path} isn't what {RECORD} has: run tools/compare --chart" for path in stale]

@@ -2,16 +2,12 @@
 //! prints lines of words with tabs between them, for `tools/compare` to make its tables of:
 //!
 //!     time  SUBJECT  WORKLOAD  CAPACITY  NANOSECONDS  RATIO..
-//!     alone  WORKLOAD  CAPACITY  NANOSECONDS
-//!     build  CALL  WAY  CAPACITY  NANOSECONDS
 //!     size  TYPE  CAPACITY  BYTES  BYTES
 //!
 //! The nanoseconds are those of a round at the Rust crate. The ratios are the times over the Rust crate's of this library,
-//! of its layout in `unsafe` Rust and, for numbers, of the scan by hand, `IndexMap`, `HashMap` and `BTreeMap`. Each figure
-//! is a median over the turns. A `~` follows a ratio if the medians over the first half of the turns and over the second
-//! differ by more than a tenth. What is timed alone has this library's nanoseconds. So have the ways to build a map or a
-//! set: a call, the loop that it replaces and, for some, that loop in place. The bytes are this library's and the Rust
-//! crate's.
+//! of its layout in `unsafe` Rust and, for numbers, of `IndexMap` and `HashMap`. Each figure is a median over the turns. A
+//! `~` follows a ratio if the medians over the first half of the turns and over the second differ by more than a tenth. The
+//! bytes are this library's and the Rust crate's.
 
 // The files of workloads are those of the static library, so that both sides run the same text.
 #[path = "workloads/both.rs"]
@@ -35,7 +31,6 @@ use micromap::{Map, Set};
 use platform::Global;
 use std::hint::black_box;
 use std::mem::size_of;
-use std::ops::Range;
 use std::time::Instant;
 
 extern "C" {
@@ -44,28 +39,6 @@ extern "C" {
 }
 
 const CAPACITIES: [u64; 6] = [2, 4, 8, 16, 32, 64];
-/// The subject of the static library that is timed alone, and its workloads.
-const ALONE: (u64, [&str; 2]) = (9, ["JSON out", "JSON in"]);
-/// The subject of the static library that has calls beside the loops that they replace, and those calls, each with the
-/// first of its workloads and with how many of `WAYS` it has.
-const BUILDS: (u64, [(&str, u64, usize); 11]) = (
-    10,
-    [
-        ("Map::from_all", 0, 3),
-        ("Map::from_fitting", 3, 2),
-        ("Map::counts_of", 5, 2),
-        ("Map::try_from_iter", 7, 2),
-        ("Map::try_extend", 9, 2),
-        ("Map::try_extend_from", 11, 2),
-        ("Set::from_all", 13, 3),
-        ("Set::from_fitting", 16, 2),
-        ("Set::try_from_iter", 18, 2),
-        ("Set::try_extend", 20, 2),
-        ("Set::try_extend_from", 22, 2),
-    ],
-);
-/// The ways to build a map or a set, in the order of a call's workloads.
-const WAYS: [&str; 3] = ["call", "loop", "loop in place"];
 
 type NumberMap<const N: usize> = Map<u64, u64, N>;
 type ByteSet<const N: usize> = Set<u8, N>;
@@ -129,8 +102,8 @@ macro_rules! subject {
 
 fn subjects() -> [Subject; 5] {
     [
-        subject!("numbers", "Map<u64, u64, N>", numbers, NumberMap, NumberColumns, [0, 1, 2, 6, 7]),
-        subject!("two maps", "Map<u64, u64, N>", both, NumberMap, NumberColumns, [8]),
+        subject!("numbers", "Map<u64, u64, N>", numbers, NumberMap, NumberColumns, [0, 1, 2]),
+        subject!("two maps", "Map<u64, u64, N>", both, NumberMap, NumberColumns, [6]),
         subject!("set of bytes", "Set<u8, N>", bytes, ByteSet, ByteColumns, [3]),
         subject!("texts", "Map<String, u64, N>", texts, TextMap, TextColumns, [4]),
         subject!("24-byte values", "Map<u64, [u64; 3], N>", wide, WideMap, WideColumns, [5]),
@@ -210,16 +183,6 @@ fn measured(subject: &Subject, workload: usize, at: usize, turns: usize) -> (f64
     (median(&nanoseconds), (1..runs.len()).map(|run| marked(&ratios(run))).collect())
 }
 
-/// The nanoseconds of a round of some workloads of one subject of the static library, at one capacity.
-fn own(subject: u64, workloads: Range<u64>, capacity: u64, turns: usize, name: &str) -> Vec<f64> {
-    let runs: Vec<Rounds> = workloads.map(|workload| linked(subject, workload, capacity)).collect();
-    // The sum is 0 where nothing was made, and the greatest number where there is no such workload.
-    assert!(runs.iter().all(|run| ![0, u64::MAX].contains(&run(1))), "{name}, capacity {capacity}: nothing was found");
-    let (seconds, rounds) = in_turns(&runs, turns, &format!("{name}, capacity {capacity}"));
-    let of_run = |run: usize| seconds.iter().map(|turn| turn[run] * 1e9 / rounds).collect::<Vec<f64>>();
-    (0..runs.len()).map(|run| median(&of_run(run))).collect()
-}
-
 fn main() {
     let turns = std::env::args().nth(1).and_then(|word| word.parse().ok()).filter(|turns| *turns > 0).expect("a number of turns");
     for subject in subjects() {
@@ -231,21 +194,6 @@ fn main() {
                     print!("\t{ratio}");
                 }
                 println!();
-            }
-        }
-    }
-    for (workload, name) in ALONE.1.iter().enumerate() {
-        for capacity in CAPACITIES {
-            let workload = workload as u64;
-            let nanoseconds = own(ALONE.0, workload..workload + 1, capacity, turns, name);
-            println!("alone\t{name}\t{capacity}\t{:.2}", nanoseconds[0]);
-        }
-    }
-    for (call, first, ways) in BUILDS.1 {
-        for capacity in CAPACITIES {
-            let nanoseconds = own(BUILDS.0, first..first + ways as u64, capacity, turns, call);
-            for (way, nanoseconds) in WAYS.iter().zip(nanoseconds) {
-                println!("build\t{call}\t{way}\t{capacity}\t{nanoseconds:.2}");
             }
         }
     }

@@ -2,24 +2,18 @@
 //! `tools/compare` makes a crate of these files, which end in `.rs` since the gate reads every `.rt` file.
 //!
 //! `inputs` and the files of workloads (`both`, `bytes`, `numbers`, `texts` and `wide`) have no clause and are Rust as well:
-//! the driver compiles the same files. `library` has the workloads' calls at this library's types, and `scan`,
-//! `index_map`, `hash_map` and `btree_map` have them at types that a user might take in their place. `builds` has calls beside
-//! the loops that they replace, and `json` is timed alone. A workload is proved to be safe and to end. The driver compares
-//! what it returns. `tests` runs each without proof.
+//! the driver compiles the same files. `library` has the workloads' calls at this library's types, and `index_map` and
+//! `hash_map` have them at types that a user might take in their place. A workload is proved to be safe and to end. The
+//! driver compares what it returns. `tests` runs each without proof.
 //!
 //! A new workload has a function in the file of its trait, an arm in `run` and a name in `NAMES`. A method that the trait
 //! lacks is added to each type that implements it, unless it has a default: in `library.rs`, `tools/speed/rust_crate.rs`
-//! and `tools/speed/layout.rs`, and for numbers in `scan.rs`, `index_map.rs`, `hash_map.rs` and `btree_map.rs`. A workload
-//! of `json.rs` has a name in `ALONE` of `tools/speed/main.rs`, and is counted in `tests.rs`.
+//! and `tools/speed/layout.rs`, and for numbers in `index_map.rs` and `hash_map.rs`.
 //!
-//! A new call beside its loop has its loop in `builds/loops.rs`, two workloads in `builds/maps.rs` or `builds/sets.rs`,
-//! two arms in `run` of `builds.rs`, which `tests.rs` counts, and a row in `BUILDS` of `tools/speed/main.rs`.
-//!
-//! A new type implements the trait, as `scan.rs` does. It has a `mod` and an arm here, and its library in `LINE` of
+//! A new type implements the trait, as `hash_map.rs` does. It has a `mod` and an arm here, and its library in `LINE` of
 //! `tools/compare`; a line in `tests.rs`; a number in the table of `tools/speed/main.rs`, and a name at the same place in
-//! `RIVALS` of `tools/pages/speed.py`; and a number in `CHARTS` or `CHOICES` there if it has a line in a chart, or columns
-//! in the second table of SPEED and in the README's, whose head and other rows get it by hand. A type in Rust is an
-//! argument of `subject!` in `main.rs`, and has a place in `measured`.
+//! `RIVALS` of `tools/pages/speed.py`. The head and the other rows of the README's table get it by hand. A type in Rust is
+//! an argument of `subject!` in `main.rs`, and has a place in `measured`.
 //!
 //! Then `tools/compare --check` passes, the figures are recorded anew, and SPEED says what a new workload does.
 #![tactic(auto)]
@@ -27,42 +21,31 @@
 ghost use Rattle.std.specs.Prelude.{◌≤◌};
 
 pub mod both;
-mod btree_map;
-mod builds;
 pub mod bytes;
 mod hash_map;
 mod index_map;
 pub mod inputs;
-mod json;
 mod library;
 pub mod numbers;
 pub mod platform;
-mod scan;
 #[cfg(test)]
 mod tests;
 pub mod texts;
 pub mod wide;
 
-use arrayvec::ArrayVec;
 use indexmap::IndexMap;
 use micromap::{Map, Set};
 use std::alloc::Global;
-use std::collections::{BTreeMap, HashMap};
+use std::collections::HashMap;
 use std::mem;
 
 type NumberMap<const N: usize> = Map<u64, u64, N>;
-
-type PairScan<const N: usize> = ArrayVec<(u64, u64), N>;
 
 type ByteSet<const N: usize> = Set<u8, N>;
 
 type TextMap<const N: usize> = Map<String, u64, N>;
 
 type WideMap<const N: usize> = Map<u64, [u64; 3], N>;
-
-type CountMap<const N: usize> = Map<u64, usize, N>;
-
-type NumberSet<const N: usize> = Set<u64, N>;
 
 /// Runs a workload of a subject for some rounds at a capacity, and returns a sum of what it found; the greatest number
 /// where there is no such workload. The salt is 0, which no compiler can know, nor so the keys.
@@ -91,16 +74,12 @@ fn run<const N: usize>(memory: Global, subject: u64, workload: u64, salt: u64, r
 {
     match subject {
         0 => numbers::run::<NumberMap<N>, N>(memory, workload, salt, rounds),
-        1 => numbers::run::<PairScan<N>, N>(memory, workload, salt, rounds),
-        2 => numbers::run::<IndexMap<u64, u64>, N>(memory, workload, salt, rounds),
+        1 => numbers::run::<IndexMap<u64, u64>, N>(memory, workload, salt, rounds),
+        2 => numbers::run::<HashMap<u64, u64>, N>(memory, workload, salt, rounds),
         3 => bytes::run::<ByteSet<N>, N>(memory, workload, salt, rounds),
         4 => texts::run::<TextMap<N>, N>(memory, workload, salt, rounds),
         5 => wide::run::<WideMap<N>, N>(memory, workload, salt, rounds),
-        6 => numbers::run::<HashMap<u64, u64>, N>(memory, workload, salt, rounds),
-        7 => numbers::run::<BTreeMap<u64, u64>, N>(memory, workload, salt, rounds),
-        8 => both::run::<NumberMap<N>, N>(memory, workload, salt, rounds),
-        9 => json::run::<N>(memory, workload, salt, rounds),
-        10 => builds::run::<N>(workload, salt, rounds),
+        6 => both::run::<NumberMap<N>, N>(memory, workload, salt, rounds),
         _ => u64::MAX,
     }
 }
