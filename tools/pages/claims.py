@@ -14,7 +14,7 @@ HEAD = """# Claims
 
 Made by `tools/documents` from the sources, the edits, and what [`tools/claims`](MAINTAINING.md#edits) recorded.
 
-Every clause is proved, but may say too little. So wrong bodies are tried, which the check must refuse. A refusal suggests that a clause rules out this one mistake. An *edit* is a wrong body that was written for some clauses. It is refused at *goals*, statements to be proved, which are [named](../crates/micromap/CALLING.md#when-a-check-fails) for the clause.
+Every clause is proved, but may say too little. So wrong bodies are tried, which the check must refuse. A refusal suggests that a clause rules out this one mistake. An *edit* is a wrong body that was written for some clauses. It is refused at *goals*, statements to be proved, which are [named](../crates/micromap/WHEN_A_CHECK_FAILS.md) for the clause.
 
 TOTALS
 
@@ -217,11 +217,3 @@ class Claims:
             "OTHERS": "\n".join(self.others()),
         }
         return re.sub("|".join(said), lambda it: str(said[it[0]]), HEAD)
-
-    def wrong_of_readme(self):
-        """What is amiss in the README's sentence about these."""
-        counts = self.counts()
-        weaker = len(self.library) - counts["A"] - counts["none"]
-        wanted = (f"The library has {len(self.library)} clauses that a body could break. For {counts['A']} of them a wrong body made for the clause was refused at it, "
-                  f"where the search proves the right body. For {weaker} others the evidence is weaker, and for {counts['none']} there is none.")
-        return [] if wanted in read("README.md") else [f"README.md doesn't say: {wanted}"]

@@ -1,5 +1,5 @@
-//! Tests of the calls on whole maps and sets: building, cloning, comparison, printing, streams and JSON; of the README;
-//! and of the example libraries.
+//! Tests of the calls on whole maps and sets: building, cloning, comparison, printing, streams and JSON; of the examples of
+//! doc comments; and of the example libraries.
 #![tactic(auto)]
 
 #[cfg(test)]

@@ -1,4 +1,4 @@
-//! The code of the README, and the examples of doc comments.
+//! Short uses of the calls, and the examples of doc comments.
 use micromap::{InsertError, Map, Overfull, Set, Text, TextBuf};
 use std::alloc::AllocError;
 
