@@ -229,6 +229,7 @@ pub fn text_of_amounts(alloc: Global, amounts: &Map<u8, u8, 16>) -> Result<Strin
 }
 
 /// Matches the key that is this text in small letters.
+/// Two keys that match one probe must be equal. So the keys are in small letters, and the probe folds only its text.
 #[derive(Clone, Copy)]
 pub struct AnyCase<'a>(pub &'a str);
 
