@@ -10,7 +10,8 @@ use super::operations::Wanted;
 
 impl<T: Eq, const N: usize> Set<T, N> {
     /// Returns `true` if each item of either set has an equal one in the other, so that both contain the same items.
-    /// Neither order nor capacity matters.
+    /// Neither order nor capacity matters. After `==` of two sets the law `same_members` says what the clause
+    /// `members` says here.
     ///
     /// Compares no item if the lengths differ. Else it costs what `is_subset` costs.
     pub fn eq_with<const M: usize>(&self, other: &Set<T, M>) -> bool
