@@ -29,7 +29,7 @@ Counted are the clauses of `ensures` of public calls, the ghost members of impls
 - Of the clauses without a refusal, SILENT.
 - What was tried is the function as it stands. An attribute, a ghost member, a definition or a proof may have changed since.
 
-The EXAMPLES edits of the example libraries, the worked rows and the first program are refused too, REFUSED of them at a goal of the contract. Their clauses aren't counted.
+The edits of functions outside the library are OUTSIDE. REFUSED of them were refused at a goal of the contract. Their clauses aren't counted.
 
 ## Comparisons and operations on sets
 
@@ -39,7 +39,7 @@ HEADLINE
 
 ## The other calls
 
-A clause leads to its edit.
+A clause leads to its edits, the strongest first. Edits for a precondition are REQUIRED.
 
 | Call | A | B | C to F | P | None |
 |---|---|---|---|---|---|
@@ -134,13 +134,17 @@ class Claims:
         goals = goals_for(row, name)
         return "A" if any(is_fair(edit.path, row, it, label) for it in goals) else "B" if goals else "C"
 
-    def best_of(self, name):
-        """The best grade of a clause, the edits that have it, and what is known without one."""
+    def graded(self, name):
+        """The edits for a clause by their grades, the strongest first."""
         found = collections.defaultdict(list)
         for edit in (it for it in self.edits if name in it.claims):
             found[self.grade(edit, name)].append(edit)
-        said = self.verdict(name)
-        return (*min(found.items()), "") if found else ("P" if " refused, as " in said else "none", [], said)
+        return sorted(found.items())
+
+    def best_of(self, name):
+        """The best grade of a clause, the edits that have it, and what is known without one."""
+        found, said = self.graded(name), self.verdict(name)
+        return (*found[0], "") if found else ("P" if " refused, as " in said else "none", [], said)
 
     def verdict(self, name):
         """What is known of a clause without an edit: what was planted on its call, or why there is no refusal."""
@@ -181,10 +185,15 @@ class Claims:
             yield f"|{self.linked(call)}|{'|'.join(cells)}|"
 
     def cell(self, name):
-        """A clause, as a link to its edit if it has one."""
-        grade, those, _ = self.best[name]
-        label = f"`{label_of(name) or 'ensures'}`"
-        return f"{f'{grade} ' * (grade in 'CDEF')}[{label}](../{those[0].path})" if those else label
+        """A clause, as links to its edits if it has some."""
+        grade, label = self.best[name][0], f"`{label_of(name) or 'ensures'}`"
+        paths = [it.path for _, those in self.graded(name) for it in those]
+        links = (f"[{n if n > 1 else label}](../{path})" for n, path in enumerate(paths, 1))
+        return f"{f'{grade} ' * (grade in 'CDEF')}{' '.join(links)}" if paths else label
+
+    def apart(self, edits):
+        """Edits of which no clause is counted, each as a link by what it is for."""
+        return ", ".join(f"[`{it.claims[0]}`](../{it.path})" for it in edits)
 
     def vague(self):
         """The clauses, of calls with several, that no goal of the best edits names."""
@@ -201,7 +210,8 @@ class Claims:
     def text(self):
         silent = collections.Counter(said for _, _, said in self.best.values())
         through = [f"`{call}`" for call, said in self.planted.items() if "let through" in said]
-        outside = [it.path for it in self.edits if it.path.split("/")[1] not in LIBRARY and self.rows[it.path].goals]
+        outside = [it for it in self.edits if it.path.split("/")[1] not in LIBRARY]
+        required = [it for it in self.edits if it not in outside and not self.library.keys() & it.claims]
         vague = [*self.vague()]
         totals = [f"| {it} | {GRADES[it]} | {count} |" for it, count in self.counts().items()]
         said = {
@@ -211,8 +221,9 @@ class Claims:
             "VAGUE": f" So it is with {', '.join(vague)}." if vague else "",
             "THROUGH": f" Let through was one of {', '.join(through)}." if through else " None was let through.",
             "SILENT": ", ".join(f"{silent[it]} {why}" for it, why in SILENT.items() if silent[it]),
-            "EXAMPLES": len(outside),
-            "REFUSED": sum(CONTRACT in {kind_of(it, goal) for goal in self.rows[it].goals} for it in outside),
+            "OUTSIDE": self.apart(outside),
+            "REFUSED": sum(CONTRACT in {kind_of(it.path, goal) for goal in self.rows[it.path].goals} for it in outside),
+            "REQUIRED": self.apart(required),
             "HEADLINE": "\n".join(self.headline()),
             "OTHERS": "\n".join(self.others()),
         }

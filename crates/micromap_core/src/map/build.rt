@@ -211,7 +211,6 @@ impl<K: Eq + Copy, V: Copy, const N: usize> Map<K, V, N> {
         ensures misfit { IfErr result (λ e. MisfitIn K.eq N self.old other.now e.at) }
         ensures content { AreContents K.eq N self.old self.new }
     {
-        // What is true of the map, for the contract: `len` ensures it.
         let _known = self.len();
         let mut position = 0;
         for (key, value) in other {
