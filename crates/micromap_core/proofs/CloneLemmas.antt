@@ -29,12 +29,11 @@ from_equal eq C D (p ∷ ps) (q ∷ qs) clones =
     ((clones.0.0.0, clones.0.1), from_equal eq C D ps qs clones.1)
 
 -- what a call says of its `Ok` and its `Err`, by the case
-pub cloned_cases : {X E S T I J : Type 0} (P Q R : X → Type 0) (r : Result X E)
-    → (S → T → IfOk r P) → IfOk r Q → IfOk r R → (I → J → IsOk r)
-    → MatchResult r (λ x. (S → T → P x) × Q x × R x) (λ _. ¬ (I × J))
+pub cloned_cases : {X E S T I : Type 0} (P Q R : X → Type 0) (r : Result X E)
+    → (S → T → IfOk r P) → IfOk r Q → IfOk r R → (I → IsOk r)
+    → MatchResult r (λ x. (S → T → P x) × Q x × R x) (λ _. ¬ I)
 cloned_cases P Q R (Ok x) same clones content sure = (same, clones, content)
-cloned_cases P Q R (Err e) same clones content sure =
-    λ both. absurd (false≢true (sure both.0 both.1))
+cloned_cases P Q R (Err e) same clones content sure = λ is. absurd (false≢true (sure is))
 
 module _ {X : Type 0} (C : X → X → Type 0) (xs ys : List X) (i : ℕ)
     (clones : AllZip C (take i xs) ys) where

@@ -1,6 +1,7 @@
 //! A map of fixed capacity that finds its keys by `==` alone: no hash, no order on keys, no heap.
 #![tactic(auto)]
 
+mod equal_clone;
 mod insert_error;
 pub mod map;
 mod overfull;
@@ -10,6 +11,7 @@ mod steps;
 pub mod stream;
 mod text_buf;
 
+pub use equal_clone::EqualClone;
 pub use insert_error::InsertError;
 pub use map::Map;
 pub use overfull::Overfull;

@@ -6,6 +6,7 @@ ghost use Rattle.micromap.specs.Clones.{AreIdentical};
 ghost use Rattle.micromap.specs.Items.{IsItems};
 
 use super::Set;
+use micromap_core::EqualClone;
 use std::alloc::AllocError;
 
 impl<T: Eq + Clone + Drop, const N: usize> Set<T, N> {
@@ -39,12 +40,12 @@ impl<T: Eq + Copy, const N: usize> Set<T, N> {
     }
 }
 
-/// A set has the trait too, so that a map of sets can be cloned. It requires nothing, but compares each item with its
-/// clone, and is `Err` if they differ. `set.clone()` is the call above.
-impl<T: Eq + Clone, const N: usize> Clone for Set<T, N> {
-    ghost is_clone = { λ items new. (AreIdentical T.is_clone → new ≡ items) × AllZip T.is_clone items new × IsItems T.eq N new };
+/// A set has the trait too if a clone of an item equals it, so that a map of sets can be cloned. `set.clone()` is the call
+/// above.
+impl<T: EqualClone, const N: usize> Clone for Set<T, N> {
+    ghost is_clone = { λ items new. (AreIdentical T.is_equal_clone → new ≡ items) × AllZip T.is_equal_clone items new × IsItems T.eq N new };
 
-    ghost is_infallible = { λ items. ClonesAreEqual T.eq T.is_clone × All T.is_infallible items };
+    ghost is_infallible = { All T.never_fails };
 
     fn clone(&self) -> Result<Self, AllocError> {
         let map = Clone::clone(&self.map)?;

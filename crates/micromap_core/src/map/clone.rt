@@ -1,11 +1,13 @@
 //! Cloning and copying a map.
-ghost use Rattle.std.specs.Prelude.{◌≡◌, ◌≤◌, All, IsFalse, IsOk, IfOk};
+ghost use Rattle.std.specs.Prelude.{◌≡◌, ◌≤◌, All, IsOk, IfOk};
 ghost use Rattle.std.specs.List.{AllZip};
+ghost use Rattle.std.specs.Result.{MatchResult};
 ghost use Rattle.std.specs.Set.{ClonesAreEqual};
-ghost use Rattle.micromap_core.specs.Clones.{AreIdentical, IsEqualClone, IsPairClone};
+ghost use Rattle.micromap_core.specs.Clones.{AreIdentical, IsPairClone};
 ghost use Rattle.micromap_core.specs.Pairs.{IsContent};
 
 use super::Map;
+use crate::equal_clone::EqualClone;
 use micromap_walk::hint;
 use std::alloc::AllocError;
 
@@ -22,32 +24,69 @@ impl<K: Eq + Clone + Drop, V: Clone + Drop, const N: usize> Map<K, V, N> {
         ensures content { IfOk result (IsContent K.eq N) }
         ensures succeeds { All (λ p. K.is_infallible p.0 × V.is_infallible p.1) self.now → IsOk result }
     {
-        self.cloned(false)
+        self.cloned::<ByClone>()
     }
+}
 
-    // Returns the clones of all pairs. With `compares` a key whose clone isn't equal to it ends this with `Err`.
+impl<K: Eq + Drop, V: Clone + Drop, const N: usize> Map<K, V, N> {
+    // Returns the clones of all pairs, with keys that are made by `C`.
     #[inline]
-    fn cloned(&self, compares: bool) -> Result<Self, AllocError>
-        requires { IsFalse compares → ClonesAreEqual K.eq K.is_clone }
-        ensures clones { IfOk result (AllZip (IsPairClone K.is_clone V.is_clone) self.now) }
-        ensures same { AreIdentical K.is_clone → AreIdentical V.is_clone
+    fn cloned<C: KeyClone<K>>(&self) -> Result<Self, AllocError>
+        requires { ClonesAreEqual K.eq C.is_key_clone }
+        ensures clones { IfOk result (AllZip (IsPairClone C.is_key_clone V.is_clone) self.now) }
+        ensures same { AreIdentical C.is_key_clone → AreIdentical V.is_clone
             → IfOk result (λ new. new ≡ self.now) }
         ensures content { IfOk result (IsContent K.eq N) }
-        ensures succeeds { ClonesAreEqual K.eq K.is_clone
-            → All (λ p. K.is_infallible p.0 × V.is_infallible p.1) self.now → IsOk result }
+        ensures succeeds { All (λ p. C.is_sure p.0 × V.is_infallible p.1) self.now → IsOk result }
     {
         let len = self.len();
         let mut map = Map::new();
         for index in 0..clone_turns::<N>(len) {
             if index < len {
                 let (key, value) = self.pair_at(index);
-                let key = clone_of_key(key, compares)?;
+                let key = C::of(key)?;
                 let value = value.clone()?;
                 hint::equal(map.len(), index);
                 map.pairs.push(key, value);
             }
         }
         Ok(map)
+    }
+}
+
+// A way to make the clones of keys.
+pub(crate) trait KeyClone<K> {
+    ghost is_key_clone: { K → K → Type 0 };
+
+    ghost is_sure: { K → Type 0 };
+
+    fn of(key: &K) -> Result<K, AllocError>
+        ensures { MatchResult result (is_key_clone key.now) (λ _. ¬ is_sure key.now) };
+}
+
+pub(crate) struct ByClone;
+
+impl<K: Clone> KeyClone<K> for ByClone {
+    ghost is_key_clone = { K.is_clone };
+
+    ghost is_sure = { K.is_infallible };
+
+    #[inline]
+    fn of(key: &K) -> Result<K, AllocError> {
+        key.clone()
+    }
+}
+
+pub(crate) struct ByEqualClone;
+
+impl<K: EqualClone> KeyClone<K> for ByEqualClone {
+    ghost is_key_clone = { K.is_equal_clone };
+
+    ghost is_sure = { K.never_fails };
+
+    #[inline]
+    fn of(key: &K) -> Result<K, AllocError> {
+        key.equal_clone()
     }
 }
 
@@ -65,30 +104,16 @@ impl<K: Eq + Copy, V: Copy, const N: usize> Map<K, V, N> {
     }
 }
 
-/// A map has the trait too, so that a map of maps can be cloned. It requires nothing, but compares each key with its clone,
-/// and is `Err` if they differ. `map.clone()` is the call above.
-impl<K: Eq + Clone, V: Clone, const N: usize> Clone for Map<K, V, N> {
-    ghost is_clone = { λ pairs new. (AreIdentical K.is_clone → AreIdentical V.is_clone → new ≡ pairs) × AllZip (IsPairClone K.is_clone V.is_clone) pairs new × IsContent K.eq N new };
+/// A map has the trait too if a clone of a key equals it, so that a map of maps can be cloned. `map.clone()` is the call
+/// above.
+impl<K: EqualClone, V: Clone, const N: usize> Clone for Map<K, V, N> {
+    ghost is_clone = { λ pairs new. (AreIdentical K.is_equal_clone → AreIdentical V.is_clone → new ≡ pairs) × AllZip (IsPairClone K.is_equal_clone V.is_clone) pairs new × IsContent K.eq N new };
 
-    ghost is_infallible = { λ pairs. ClonesAreEqual K.eq K.is_clone × All (λ p. K.is_infallible p.0 × V.is_infallible p.1) pairs };
+    ghost is_infallible = { All (λ p. K.never_fails p.0 × V.is_infallible p.1) };
 
     fn clone(&self) -> Result<Self, AllocError> {
-        self.cloned(true)
+        self.cloned::<ByEqualClone>()
     }
-}
-
-// Returns the clone of a key. With `compares` a clone that isn't equal to the key is an `Err`.
-#[inline]
-fn clone_of_key<K: Eq + Clone + Drop>(key: &K, compares: bool) -> Result<K, AllocError>
-    requires { IsFalse compares → ClonesAreEqual K.eq K.is_clone }
-    ensures clone { IfOk result (IsEqualClone K.eq K.is_clone key.now) }
-    ensures succeeds { ClonesAreEqual K.eq K.is_clone → K.is_infallible key.now → IsOk result }
-{
-    let new_key = key.clone()?;
-    if compares && *key != new_key {
-        return Err(AllocError);
-    }
-    Ok(new_key)
 }
 
 // The number of turns in which `len` pairs are cloned. With at most 16 slots it is `N`, and each turn tests the length, so

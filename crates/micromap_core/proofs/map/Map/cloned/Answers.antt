@@ -1,6 +1,5 @@
 use Rattle.std.proofs.Common.{◌∙◌, ap, arith, take_all}
 use Rattle.std.proofs.lemmas.List.Elements.{same_from_all_zip}
-use Rattle.std.proofs.lemmas.Bool.{false≢true}
 use Rattle.micromap_core.specs.Clones.{IsEqualClone}
 use Rattle.micromap_core.proofs.CloneLemmas.{all_at, clones_all, clones_more, from_equal, length_clones, IsContent-clones}
 use Rattle.micromap_core.proofs.Sizes.{columns_fit}
@@ -25,11 +24,11 @@ push-requires g c = (
 pub invariant_of-map : goal.invariant_of-map
 invariant_of-map g c =
     rw (c.push.ensures, c.map.view_is)
-    (IsContent-clones (IsEqualClone g.K.PartialEq.eq g.K.Clone.is_clone) g.V.Clone.is_clone
+    (IsContent-clones (IsEqualClone g.K.PartialEq.eq g.C.KeyClone.is_key_clone) g.V.Clone.is_clone
     (λ k q clone. clone.1) c.len-len.ensures.content _ _
     (clones_more _ _ _ _ c.loop-index.invariant _ _
     (rw (← c.len-len.ensures.answer) c.if-index-len.true) c.pair_at.ensures
-    (c.in_ok-key.ensures.clone, c.in_ok-value.ensures.cases)))
+    ((c.in_ok-key.ensures, c.requires _ _ c.in_ok-key.ensures), c.in_ok-value.ensures.cases)))
 
 pub loop-index-preserved : goal.loop-index-preserved
 loop-index-preserved g c =
@@ -38,7 +37,7 @@ loop-index-preserved g c =
           rw (w.map-is, w.push.ensures, c.map.view_is)
           (clones_more _ _ _ _ c.loop-index.invariant _ _
           (rw (← c.len-len.ensures.answer) w.if-index-len.true) w.pair_at.ensures
-          (w.in_ok-key.ensures.clone, w.in_ok-value.ensures.cases))
+          ((w.in_ok-key.ensures, c.requires _ _ w.in_ok-key.ensures), w.in_ok-value.ensures.cases))
       | goal.else-index-len w ↦ rw w.map-is
           (clones_all _ _ _ _ c.loop-index.invariant _
           (omega (arith, c.len-len.ensures.answer, w.if-index-len.false))
@@ -63,17 +62,17 @@ returns-clause-same g c =
 
 pub returns-in_err-key-clause-succeeds : goal.returns-in_err-key-clause-succeeds
 returns-in_err-key-clause-succeeds g c =
-    λ equal all. absurd (false≢true (c.in_err-key.ensures.succeeds equal
-    (all_at (λ p. g.K.Clone.is_infallible p.0
-    × g.V.Clone.is_infallible p.1) _ _ _ c.pair_at.ensures all).0))
+    λ all. absurd (c.in_err-key.ensures
+    (all_at (λ p. g.C.KeyClone.is_sure p.0
+    × g.V.Clone.is_infallible p.1) _ _ _ c.pair_at.ensures all).0)
 
 pub returns-in_err-value-clause-succeeds : goal.returns-in_err-value-clause-succeeds
 returns-in_err-value-clause-succeeds g c =
-    λ equal all. absurd (c.in_err-value.ensures.cases
-    (all_at (λ p. g.K.Clone.is_infallible p.0
+    λ all. absurd (c.in_err-value.ensures.cases
+    (all_at (λ p. g.C.KeyClone.is_sure p.0
     × g.V.Clone.is_infallible p.1) _ _ _ c.pair_at.ensures all).1)
 
 pub returns-clause-content : goal.returns-clause-content
 returns-clause-content g c =
-    IsContent-clones (IsEqualClone g.K.PartialEq.eq g.K.Clone.is_clone) g.V.Clone.is_clone
+    IsContent-clones (IsEqualClone g.K.PartialEq.eq g.C.KeyClone.is_key_clone) g.V.Clone.is_clone
     (λ k q clone. clone.1) c.len-len.ensures.content _ _ c.loop-index.invariant

@@ -10,7 +10,7 @@ returns g c =
     record {
       cases = (
         λ identical. ap keys_of (copies.0 identical (λ _ _ _. refl)) ∙ c.self.view_is,
-        rw (← c.self.view_is) (zip-keys g.T.Clone.is_clone _ _ _ copies.1),
+        rw (← c.self.view_is) (zip-keys g.T.EqualClone.is_equal_clone _ _ _ copies.1),
         content_items refl copies.2,
       );
     }
@@ -18,5 +18,5 @@ returns g c =
 pub returns-in_err-map : goal.returns-in_err-map
 returns-in_err-map g c = record {
   cases = MatchResult-from_err _ _ _ c.from_residual.ensures.0 (λ _ all. absurd (c.in_err-map.ensures.cases
-      (all.0, each_infallible g.T.Clone.is_infallible c.self.inside.map (rw c.self.view_is all.1))));
+      (each_infallible g.T.EqualClone.never_fails c.self.inside.map (rw c.self.view_is all))));
 }
