@@ -5,7 +5,6 @@ mod capacity;
 mod cloning;
 mod comparison;
 mod counted;
-mod extending;
 mod json;
 mod lockstep;
 mod map;

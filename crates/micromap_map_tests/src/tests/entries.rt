@@ -1,10 +1,10 @@
-//! Entries as a user writes them, and the proofs of callers with a contract over the final list.
-ghost use Rattle.std.specs.Prelude.{◌≡◌, ◌+ℤ◌, IfSome, IsTrue, if◌then◌else◌, nat_eq, pos};
+//! Entries as a user writes them, what they drop, and callers' proofs: letters are counted, and entries are returned.
+ghost use Rattle.std.specs.Prelude.{◌≡◌, ◌+ℤ◌, IfSome, IsTrue, nat_eq, pos};
 ghost use Rattle.std.specs.Int.{saturate_signed, w32};
-ghost use Rattle.std.specs.Option.{option_map_or, unwrap_or};
+ghost use Rattle.std.specs.Option.{option_map_or};
 ghost use Rattle.micromap.specs.Entry.{IsSound, entry_has_room};
 ghost use Rattle.micromap_core.specs.declared.map.entry.EntryIn.TheVariants.{Occupied, Vacant};
-ghost use Rattle.micromap.specs.Pairs.{at, fits, has, put, put_if_fits, take_out};
+ghost use Rattle.micromap.specs.Pairs.{at, fits, has, put};
 
 use micromap::Map;
 use micromap::map::{Entry, OccupiedEntry, VacantEntry};
@@ -21,70 +21,12 @@ fn count<const N: usize>(counts: &mut Map<char, i32, N>, letter: char)
         .or_insert(1);
 }
 
-// The value of `key`, which is `value` from now on where it had none.
-fn get_or_insert<const N: usize>(map: &mut Map<u8, u8, N>, key: u8, value: u8) -> u8
-    requires { IsTrue (fits nat_eq N map.old key) }
-    ensures answer { result ≡ unwrap_or (at nat_eq map.old key) value }
-    ensures pairs { map.new ≡ put nat_eq map.old key result }
-{
-    *map.entry(key).or_insert(value)
-}
-
-// Writes `value` at `key` if there is room for it, and returns whether there was.
-fn overwrite<const N: usize>(map: &mut Map<u8, u8, N>, key: u8, value: u8) -> bool
-    ensures answer { result ≡ fits nat_eq N map.old key }
-    ensures pairs { map.new ≡ put_if_fits nat_eq N map.old key value }
-{
-    let entry = map.entry(key);
-    if entry.has_room() {
-        *entry.or_insert(0) = value;
-        true
-    } else {
-        false
-    }
-}
-
-// Writes 7 at `key`, where it is stored.
-fn overwrite_stored<K: Eq + Drop, const N: usize>(map: &mut Map<K, u8, N>, key: K)
-    ensures { map.new ≡ (if has K.eq map.old key then put K.eq map.old key 7 else map.old) }
-{
-    map.entry(key).and_modify(|value| *value = 7);
-}
-
 // Whether `key` is stored.
 fn is_stored<K: Eq + Drop, V, const N: usize>(map: &mut Map<K, V, N>, key: K) -> bool
     ensures answer { result ≡ has K.eq map.old key }
     ensures pairs { map.new ≡ map.old }
 {
     matches!(map.entry(key), Entry::Occupied(_))
-}
-
-// Writes `value` at `key`, and reads it by the entry that the call returns.
-fn put_and_read<const N: usize>(map: &mut Map<u8, u8, N>, key: u8, value: u8) -> u8
-    requires { IsTrue (fits nat_eq N map.old key) }
-    ensures answer { result ≡ value }
-    ensures pairs { map.new ≡ put nat_eq map.old key value }
-{
-    let entry = map.entry(key).insert_entry(value);
-    *entry.get()
-}
-
-// Raises the value of a key that is there, and takes it out by the same entry.
-fn raise_and_take<const N: usize>(map: &mut Map<u8, u8, N>, key: u8) -> bool
-    ensures answer { result ≡ has nat_eq map.old key }
-    ensures pairs { map.new ≡ take_out nat_eq map.old key }
-{
-    let entry = map.entry(key);
-    match entry.and_modify(|value| *value = value.wrapping_add(1)) {
-        Entry::Occupied(entry) => {
-            entry.remove();
-            true
-        }
-        Entry::Vacant(entry) => {
-            entry.into_key();
-            false
-        }
-    }
 }
 
 // The entry of `key`, where it can have a value.
@@ -123,18 +65,6 @@ fn free<const N: usize>(
 }
 
 #[test]
-fn a_dropped_entry_leaves_the_map(rt: HostRuntime) {
-    let mut map: Map<u8, u8, 1> = Map::new();
-    map.insert(1, 10);
-    assert!(rt; !overwrite(&mut map, 2, 20));
-    assert!(rt; is_stored(&mut map, 1));
-    assert!(rt; !is_stored(&mut map, 2));
-    assert!(rt; map.get(&1) == Some(&10));
-    overwrite_stored(&mut map, 1);
-    assert!(rt; map.get(&1) == Some(&7));
-}
-
-#[test]
 fn letters_are_counted(rt: HostRuntime) {
     let mut counts: Map<char, i32, 13> = Map::new();
     for letter in "a short treatise on fungi".chars() {
@@ -151,24 +81,6 @@ fn letters_are_counted(rt: HostRuntime) {
         assert!(rt; counts.get(&letter) == times);
     }
     assert!(rt; counts.len() == 13);
-}
-
-#[test]
-#[tactic(auto, unfolding(micromap_core::specs::Pairs::put))]
-fn a_first_value_stays(rt: HostRuntime) {
-    let mut map: Map<u8, u8, 1> = Map::new();
-    assert!(rt; get_or_insert(&mut map, 1, 10) == 10);
-    assert!(rt; get_or_insert(&mut map, 1, 11) == 10);
-    assert!(rt; put_and_read(&mut map, 1, 12) == 12);
-    assert!(rt; map.get(&1) == Some(&12));
-}
-
-#[test]
-fn a_written_pair_is_taken_out(rt: HostRuntime) {
-    let mut map: Map<u8, u8, 3> = Map::from([(1, 10), (2, 20), (3, 30)]);
-    assert!(rt; raise_and_take(&mut map, 1));
-    assert!(rt; !raise_and_take(&mut map, 1));
-    assert!(rt; map.drain().eq([(2, 20), (3, 30)]));
 }
 
 // The key of the entry of a new key, and whether it has room.
@@ -220,65 +132,6 @@ fn a_function_may_answer_an_entry(rt: HostRuntime) {
         assert!(rt; entry.remove() == 1);
     }
     assert!(rt; map.drain().eq([('b', 2)]));
-}
-
-// The letter and the value of a vacant entry once it is inserted.
-fn insert_new_entry(map: &mut Map<char, u8, 1>, letter: char, value: u8) -> Option<(char, u8)> {
-    match map.entry(letter) {
-        Entry::Vacant(entry) if entry.has_room() => {
-            let entry = entry.insert_entry(value);
-            Some((*entry.key(), *entry.get()))
-        }
-        Entry::Vacant(_entry) => None,
-        Entry::Occupied(_entry) => None,
-    }
-}
-
-#[test]
-fn a_vacant_entry_is_filled_and_goes_on(rt: HostRuntime) {
-    let mut map: Map<char, u8, 1> = Map::new();
-    assert!(rt; insert_new_entry(&mut map, 'e', 5) == Some(('e', 5)));
-    assert!(rt; insert_new_entry(&mut map, 'e', 6).is_none());
-}
-
-// Reads or makes a value by an entry, where it has room.
-fn read_or_put<const N: usize>(map: &mut Map<u8, u8, N>, key: u8, value: u8) -> Option<u8> {
-    let entry = map.entry(key);
-    if entry.has_room() {
-        Some(*entry.or_insert(value))
-    } else {
-        None
-    }
-}
-
-// Puts a pair with a new key by its entry, where it has room.
-fn put_new<const N: usize>(map: &mut Map<u8, u8, N>, key: u8, value: u8) -> bool {
-    match map.entry(key) {
-        Entry::Vacant(entry) => {
-            let has_room = entry.has_room();
-            if has_room {
-                entry.insert(value);
-            }
-            has_room
-        }
-        Entry::Occupied(_entry) => false,
-    }
-}
-
-#[test]
-fn an_entry_has_room_where_it_is_occupied_or_the_map_has(rt: HostRuntime) {
-    let mut map: Map<u8, u8, 1> = Map::new();
-    assert!(rt; read_or_put(&mut map, 1, 10) == Some(10));
-    assert!(rt; read_or_put(&mut map, 1, 11) == Some(10));
-    assert!(rt; read_or_put(&mut map, 2, 20).is_none());
-    assert!(rt; !put_new(&mut map, 1, 11));
-    assert!(rt; !put_new(&mut map, 2, 20));
-    map.clear();
-    assert!(rt; put_new(&mut map, 2, 20));
-    assert!(rt; map.drain().eq([(2, 20)]));
-    let mut none: Map<u8, u8, 0> = Map::new();
-    assert!(rt; read_or_put(&mut none, 1, 10).is_none());
-    assert!(rt; !put_new(&mut none, 1, 10));
 }
 
 #[test]

@@ -38,25 +38,6 @@ fn values_are_summed(rt: HostRuntime) {
 }
 
 #[test]
-fn a_loop_lends_each_pair_or_gives_it_away(rt: HostRuntime) {
-    let map = three();
-    let mut last = 0u8;
-    for (key, value) in &map {
-        assert!(rt; *key == last.wrapping_add(1));
-        assert!(rt; *value == u64::from(*key) * 10);
-        last = *key;
-    }
-    assert!(rt; last == 3);
-    last = 0;
-    for (key, value) in map {
-        assert!(rt; key == last.wrapping_add(1));
-        assert!(rt; value == u64::from(key) * 10);
-        last = key;
-    }
-    assert!(rt; last == 3);
-}
-
-#[test]
 fn each_walk_gives_every_pair_and_stays_at_its_end(rt: HostRuntime) {
     let mut map = three();
     assert!(rt; gives(map.iter(), &[(&1, &10), (&2, &20), (&3, &30)]));
@@ -87,45 +68,6 @@ fn a_walk_over_an_empty_map_is_at_its_end(rt: HostRuntime) {
     assert!(rt; gives(map.into_iter(), &[]));
     assert!(rt; gives(Map::<u8, u64, 0>::new().into_keys(), &[]));
     assert!(rt; gives(Map::<u8, u64, 0>::new().into_values(), &[]));
-}
-
-#[test]
-fn a_cloned_walk_goes_on_from_the_same_position(rt: HostRuntime) -> Result<(), AllocError> {
-    let map = three();
-    let mut pairs = map.iter();
-    pairs.next();
-    assert!(rt; gives(pairs.clone()?, &[(&2, &20), (&3, &30)]));
-    assert!(rt; gives(pairs, &[(&2, &20), (&3, &30)]));
-    let mut keys = map.keys();
-    keys.next();
-    assert!(rt; gives(keys.clone()?, &[&2, &3]));
-    assert!(rt; gives(keys, &[&2, &3]));
-    let mut values = map.values();
-    values.next();
-    assert!(rt; gives(values.clone()?, &[&20, &30]));
-    assert!(rt; gives(values, &[&20, &30]));
-    Ok(())
-}
-
-#[test]
-fn a_walk_counts_what_is_left(rt: HostRuntime) {
-    let mut map = three();
-    let (mut pairs, mut keys, mut values) = (map.iter(), map.keys(), map.values());
-    assert!(rt; (pairs.len(), keys.len(), values.len()) == (3, 3, 3));
-    pairs.next();
-    keys.next();
-    values.next();
-    assert!(rt; (pairs.len(), keys.len(), values.len()) == (2, 2, 2));
-    let mut pairs = three().into_iter();
-    let mut keys = three().into_keys();
-    let mut values = three().into_values();
-    let mut drained = map.drain();
-    pairs.next();
-    keys.next();
-    values.next();
-    drained.next();
-    assert!(rt; (pairs.len(), keys.len(), values.len()) == (2, 2, 2));
-    assert!(rt; drained.len() == 2);
 }
 
 // A function over the standard library's traits.

@@ -1,22 +1,10 @@
 //! The operations on two sets as a user calls them, and callers' proofs.
-ghost use Rattle.std.specs.Prelude.{◌≡◌, ◌↔◌, ◌==◌, ◌%◌, ◌<◌, ◌^◌, filter, length, nat_eq, sum, Ok, IfOk, IsErr};
+ghost use Rattle.std.specs.Prelude.{◌≡◌, ◌↔◌, ◌==◌, ◌%◌, ◌<◌, filter, length, nat_eq, Ok, IfOk, IsErr};
 ghost use Rattle.micromap.specs.Operations.{difference, intersection, union};
 
 use micromap::{Overfull, Set};
-use micromap_testing::{Counted, Counts, Marked, counted_set, holds};
+use micromap_testing::{Counted, Counts, Marked, counted_set};
 use std::alloc::{AllocError, Global};
-
-// The sum of the numbers that are in either set: each of them is met once.
-fn total<const N: usize, const M: usize>(a: &Set<u8, N>, b: &Set<u8, M>) -> u64
-    requires { sum (union nat_eq a.now b.now) < 2 ^ 64 }
-    ensures { result ≡ sum (union nat_eq a.now b.now) }
-{
-    let mut total = 0;
-    for x in a.union(b) {
-        total += u64::from(*x);
-    }
-    total
-}
 
 // How many of the first numbers the second set lacks.
 fn missing<const N: usize, const M: usize>(a: &Set<u8, N>, b: &Set<u8, M>) -> usize
@@ -47,16 +35,6 @@ fn joined<const N: usize, const M: usize, const L: usize>(
     Set::try_from_iter(a.union(b).copied())
 }
 
-// The nodes that are next to both of two nodes, where each has the set of the nodes next to it.
-fn common_neighbours<const N: usize, const M: usize>(
-    first: &Set<u8, N>,
-    second: &Set<u8, M>,
-) -> Result<Set<u8, N>, AllocError>
-    ensures { result ≡ Ok (intersection nat_eq first.now second.now) }
-{
-    first.bitand(second)
-}
-
 // A reference that outlives the two sets.
 fn first_missing<'a, const N: usize, const M: usize>(
     ours: Set<&'a i32, N>,
@@ -84,12 +62,6 @@ fn equal_items_come_from_one_side(rt: HostRuntime) {
 fn a_reference_outlives_its_sets(rt: HostRuntime) {
     let [one, two, again] = &[1, 2, 1];
     assert!(rt; first_missing(Set::from([one, two]), Set::from([again])) == Some(&2));
-}
-
-#[test]
-fn neighbours_of_two_nodes(rt: HostRuntime) {
-    let common = common_neighbours(&Set::from([9, 4, 2]), &Set::from([2, 4, 6]));
-    assert!(rt; common.is_ok_and(|set| holds(&set, &[4, 2])));
 }
 
 // The sets of the crate's documentation.

@@ -3,22 +3,6 @@ ghost use Rattle.std.specs.Prelude.{[]};
 
 use micromap::{InsertError, Map, Overfull, Set};
 use micromap_testing::{Counted, Counts, debugs, displays, holds};
-use std::alloc::AllocError;
-
-#[test]
-fn a_vector_becomes_a_map(rt: HostRuntime) -> Result<(), AllocError> {
-    let items = vec![in rt.alloc(); (1, 10), (2, 20), (1, 11)]?;
-    let map: Result<Map<u8, u8, 2>, Overfull> = Map::try_from_iter(items.into_iter());
-    assert!(rt; map.is_ok_and(|map| map.into_iter().eq([(1, 11), (2, 20)])));
-    Ok(())
-}
-
-#[test]
-fn an_array_becomes_a_set(rt: HostRuntime) {
-    let set: Set<u8, 8> = [4, 5, 6, 6, 6, 7, 8, 9].into();
-    assert!(rt; set.capacity() == 8);
-    assert!(rt; holds(&set, &[4, 5, 6, 7, 8, 9]));
-}
 
 #[test]
 fn the_first_misfit_is_named(rt: HostRuntime) {
@@ -42,6 +26,16 @@ fn nothing_is_taken_after_a_misfit(rt: HostRuntime) {
     let set: Result<Set<u8, 1>, Overfull> = Set::try_from_iter(&mut left);
     assert!(rt; matches!(set, Err(Overfull { at: 1 })));
     assert!(rt; left.next() == Some(7));
+}
+
+#[test]
+fn a_map_is_extended_up_to_the_first_misfit(rt: HostRuntime) {
+    let mut map: Map<u8, u8, 2> = Map::new();
+    map.checked_insert(1, 10);
+    let mut left = [(2, 20), (1, 11), (3, 30), (2, 21)].into_iter();
+    assert!(rt; map.try_extend(&mut left) == Err(Overfull { at: 2 }));
+    assert!(rt; left.next() == Some((2, 21)));
+    assert!(rt; map.drain().eq([(1, 11), (2, 20)]));
 }
 
 #[test]
@@ -104,28 +98,12 @@ fn all_items_or_none_make_a_map(rt: HostRuntime) {
 }
 
 #[test]
-fn items_that_fit_make_a_map(rt: HostRuntime) {
-    let map: Map<u8, char, 1> = Map::from_fitting([(1, 'a'), (2, 'b'), (1, 'c')].into_iter());
-    assert!(rt; map.into_iter().eq([(1, 'c')]));
-    let set: Set<u8, 2> = Set::from_fitting([5, 6, 7, 5].into_iter());
-    assert!(rt; holds(&set, &[5, 6]));
-}
-
-#[test]
 fn items_that_are_not_in_a_map_are_dropped(rt: HostRuntime) {
     let counts = Counts::new();
     let items = [0, 1, 0, 2, 3].map(|id| Counted::new(id, &counts));
     let set: Option<Set<Counted<'_>, 2>> = Set::from_all(items.into_iter());
     assert!(rt; set.is_none());
     assert!(rt; counts.drops.get() == 5);
-}
-
-#[test]
-fn more_distinct_items_than_there_is_room_for_are_not_counted(rt: HostRuntime) {
-    let few: Option<Map<u8, usize, 2>> = Map::counts_of([1, 2, 1, 3, 1].into_iter());
-    assert!(rt; few.is_none());
-    let counts: Option<Map<u8, usize, 3>> = Map::counts_of([1, 2, 1, 3, 1].into_iter());
-    assert!(rt; counts.is_some_and(|map| map.into_iter().eq([(1, 3), (2, 1), (3, 1)])));
 }
 
 #[test]

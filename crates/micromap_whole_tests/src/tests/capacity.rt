@@ -1,8 +1,6 @@
-//! Maps and sets in another capacity, and two callers' proofs: a map that goes on in a larger one, and a third map that
-//! finds no difference.
-ghost use Rattle.std.specs.Prelude.{◌≡◌, ◌<◌, ◌*◌, ◌↔◌, IfSome, IsTrue, nat_eq};
+//! Maps and sets in another capacity, and a caller's proof: a map goes on in a larger one.
+ghost use Rattle.std.specs.Prelude.{◌≡◌, ◌<◌, ◌*◌, nat_eq};
 ghost use Rattle.micromap.specs.Pairs.{put};
-ghost use Rattle.micromap.specs.Same.{Same};
 
 use micromap::{Map, Set};
 use micromap_testing::{Counts, counted_map, holds};
@@ -23,17 +21,6 @@ fn outgrow<const N: usize, const M: usize>(
     };
     larger.insert(key, value);
     larger
-}
-
-// Whether a third map is the same as this one, by a comparison in another capacity, or `None` where it doesn't fit.
-fn is_same_in_8<const N: usize, const L: usize>(
-    map: Map<u8, u8, N>,
-    third: &Map<u8, u8, L>,
-) -> Option<bool>
-    ensures { IfSome result (λ same. IsTrue same ↔ Same nat_eq nat_eq map.entry third.now) }
-{
-    let moved: Map<u8, u8, 8> = map.into_capacity().ok()?;
-    Some(moved.eq_with(third))
 }
 
 // The keys 1 to 3 with ten times their number.
@@ -110,33 +97,6 @@ fn a_full_map_goes_on_in_a_larger_one(rt: HostRuntime) {
     let larger: Map<u8, u8, 6> = outgrow(full, 4, 40);
     assert!(rt; has_pairs(&larger, &[1, 2, 3, 4], &[10, 20, 30, 40]));
     assert!(rt; larger.fits(&5));
-}
-
-#[test]
-fn a_third_map_finds_no_difference(rt: HostRuntime) {
-    let third = Map::from([(3, 30), (1, 10), (2, 20)]);
-    assert!(rt; is_same_in_8(three::<5>(), &third) == Some(true));
-    let other = Map::from([(1, 10), (2, 20), (3, 31)]);
-    assert!(rt; is_same_in_8(other, &third) == Some(false));
-    let many = Map::from([1, 2, 3, 4, 5, 6, 7, 8, 9].map(|key| (key, key)));
-    assert!(rt; is_same_in_8(many, &third).is_none());
-}
-
-// A map of this capacity, where it is the type's.
-fn with_capacity<const N: usize>(capacity: usize) -> Option<Map<u8, u8, N>> {
-    if capacity == N {
-        Some(Map::with_capacity(capacity))
-    } else {
-        None
-    }
-}
-
-#[test]
-fn a_capacity_is_that_of_the_type(rt: HostRuntime) {
-    assert!(rt; with_capacity::<2>(2).is_some_and(|map| map.capacity() == 2));
-    assert!(rt; with_capacity::<2>(1).is_none());
-    assert!(rt; with_capacity::<2>(3).is_none());
-    assert!(rt; with_capacity::<0>(0).is_some_and(|map| map.is_empty()));
 }
 
 #[test]

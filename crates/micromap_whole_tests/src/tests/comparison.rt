@@ -1,11 +1,10 @@
-//! Comparing maps and sets, and a caller's proof from a `true` of `eq_with`.
+//! Comparing maps, and a caller's proof from a `true` of `eq_with`.
 ghost use Rattle.std.specs.Prelude.{◌≡◌, [], ◌∷◌};
 ghost use Rattle.std.specs.Bool.{OnTrue};
 ghost use Rattle.micromap.specs.Calls.{run, insert, remove};
 ghost use Rattle.micromap.specs.Same.{Same};
 
-use micromap::{Map, Set};
-use micromap_testing::Marked;
+use micromap::Map;
 
 // An edit of a list of attributes: sets one if there is room for it, and removes another.
 fn edit<K: Eq + Copy, V: Copy, const N: usize>(
@@ -82,27 +81,4 @@ fn the_first_key_of_this_map_comes_first(rt: HostRuntime) {
     let other = Map::from([(3, 30)]);
     assert!(rt; two.differs_at(&other) == Some(&1));
     assert!(rt; other.differs_at(&two) == Some(&3));
-}
-
-#[test]
-fn equal_keys_and_values_need_not_be_identical(rt: HostRuntime) {
-    let first = Map::from([
-        (Marked::new(1, 'a'), Marked::new(5, 'p')),
-        (Marked::new(2, 'b'), Marked::new(6, 'q')),
-    ]);
-    let mut second = Map::from([
-        (Marked::new(2, 'x'), Marked::new(6, 'y')),
-        (Marked::new(1, 'x'), Marked::new(5, 'y')),
-    ]);
-    assert!(rt; first.eq_with(&second));
-    assert!(rt; first == second);
-    second.checked_insert(Marked::new(1, 'z'), Marked::new(7, 'p'));
-    assert!(rt; first != second);
-    assert!(rt; first.differs_at(&second).map(|key| key.mark) == Some('a'));
-    assert!(rt; second.differs_at(&first).map(|key| key.mark) == Some('x'));
-}
-
-#[test]
-fn equal_items_need_not_be_identical(rt: HostRuntime) {
-    assert!(rt; Set::from([Marked::new(1, 'a')]) == Set::from([Marked::new(1, 'b')]));
 }

@@ -1,5 +1,5 @@
 //! How many comparisons look-ups and comparisons of maps make, by their contracts and by items whose `==` counts.
-ghost use Rattle.std.specs.Prelude.{◌≡◌, ◌↔◌, nat_eq, IfSome, IsTrue};
+ghost use Rattle.std.specs.Prelude.{◌≡◌, ◌↔◌, nat_eq, IsTrue};
 ghost use Rattle.std.specs.Option.{option_copied};
 ghost use Rattle.micromap.specs.Pairs.{at};
 ghost use Rattle.micromap.specs.Same.{Same};
@@ -33,15 +33,6 @@ fn compared<const N: usize, const M: usize>(
     let mut steps = Steps::new();
     let same = first.eq_with_counted(second, &mut steps);
     (same, steps.count())
-}
-
-#[test]
-fn a_step_is_one_comparison(rt: HostRuntime) {
-    let mut steps = Steps::new();
-    assert!(rt; steps.count() == 0);
-    assert!(rt; steps.same(&1, &1));
-    assert!(rt; !steps.same(&1, &2));
-    assert!(rt; steps.count() == 2);
 }
 
 #[test]
@@ -101,26 +92,4 @@ fn of_two_sets_one_is_looked_up_in_the_other(rt: HostRuntime) {
     counts.comparisons.set(0);
     assert!(rt; set.eq_with(&turned));
     assert!(rt; counts.comparisons.get() == 6);
-}
-
-// The value at a key, where the counter has room for the steps of the look-up.
-fn counted<'a, const N: usize>(
-    map: &'a Map<u8, u8, N>,
-    key: u8,
-    steps: &mut Steps,
-) -> Option<Option<&'a u8>>
-    ensures { IfSome result (λ found. option_copied found ≡ at nat_eq map.now key) }
-{
-    if steps.count() >= u128::MAX - map.len() as u128 {
-        return None;
-    }
-    Some(map.get_counted(&key, steps))
-}
-
-#[test]
-fn conditions_are_tested_by_the_counts(rt: HostRuntime) {
-    let map = Map::from([(1, 10), (2, 20)]);
-    let mut steps = Steps::new();
-    assert!(rt; counted(&map, 2, &mut steps) == Some(Some(&20)));
-    assert!(rt; steps.count() == 2);
 }

@@ -5,7 +5,6 @@ ghost use Rattle.std.specs.Ordering.{int_eq};
 ghost use Rattle.std.specs.String.{string_eq};
 ghost use Rattle.micromap.specs.Json.{HasPairs, IsFault, Pairs, pairs_for};
 ghost use Rattle.micromap.specs.Same.{Same};
-ghost use Rattle.micromap.specs.Texts.{item_texts};
 ghost use Rattle.micromap.specs.declared.json.JsonFault.TheVariants.{Memory};
 
 use micromap::json::{JsonFault, map_from_json, map_to_json, set_from_json, set_to_json};
@@ -31,18 +30,6 @@ fn map_by_text<const N: usize, const M: usize>(
 {
     let text = map_to_json(alloc, map)?;
     map_from_json(alloc, text.as_str())
-}
-
-// The same items in another capacity, by way of their text.
-fn set_by_text<const N: usize, const M: usize>(
-    alloc: Global,
-    set: &Set<String, N>,
-) -> Result<Set<String, M>, JsonFault>
-    requires { length set.now ≤ M }
-    ensures { MatchResult result (λ new. item_texts new ≡ item_texts set.now) (λ fault. fault ≡ Memory) }
-{
-    let text = set_to_json(alloc, set)?;
-    set_from_json(alloc, text.as_str())
 }
 
 // A map of these pairs, which all fit.
@@ -99,14 +86,6 @@ fn map_code(alloc: Global, text: &str) -> u8 {
 // The code of the fault of a text as a set of at most one text, or 0.
 fn set_code(alloc: Global, text: &str) -> u8 {
     code(set_from_json::<1>(alloc, text))
-}
-
-#[test]
-fn objects_are_read(rt: HostRuntime) -> Result<(), JsonFault> {
-    let alloc = rt.alloc();
-    let map = map_from_json::<3>(alloc, r#"{"a":1,"b":2,"c":3}"#)?;
-    assert!(rt; has(&map, &[("c", 3), ("a", 1), ("b", 2)]));
-    Ok(())
 }
 
 #[test]
@@ -259,42 +238,12 @@ fn the_seven_faults(rt: HostRuntime) -> Result<(), AllocError> {
 }
 
 #[test]
-fn maps_are_written(rt: HostRuntime) -> Result<(), JsonFault> {
-    let alloc = rt.alloc();
-    let map = map_of::<2>(alloc, &[("b", 2), ("a", 1)])?;
-    assert!(rt; map_to_json(alloc, &map)?.as_str() == r#"{"a":1,"b":2}"#);
-    let none: Map<String, i64, 0> = Map::new();
-    assert!(rt; map_to_json(alloc, &none)?.as_str() == "{}");
-    Ok(())
-}
-
-#[test]
 fn sets_are_written(rt: HostRuntime) -> Result<(), JsonFault> {
     let alloc = rt.alloc();
     let set = set_of::<3>(alloc, &["b", "a", "\"\n"])?;
     assert!(rt; set_to_json(alloc, &set)?.as_str() == r#"["b","a","\"\n"]"#);
     let none: Set<String, 3> = Set::new();
     assert!(rt; set_to_json(alloc, &none)?.as_str() == "[]");
-    Ok(())
-}
-
-#[test]
-fn a_map_that_was_written_is_read(rt: HostRuntime) -> Result<(), JsonFault> {
-    let alloc = rt.alloc();
-    let map = map_of::<3>(alloc, &[("\"", i64::MIN), ("", -1), ("é", 0)])?;
-    let text = map_to_json(alloc, &map)?;
-    assert!(rt; map_from_json::<9>(alloc, text.as_str())?.eq_with(&map));
-    assert!(rt; map_code(alloc, text.as_str()) == 6);
-    Ok(())
-}
-
-#[test]
-fn a_set_that_was_written_is_read(rt: HostRuntime) -> Result<(), JsonFault> {
-    let alloc = rt.alloc();
-    let text = set_to_json(alloc, &set_of::<3>(alloc, &["\\", "", "a"])?)?;
-    let set = set_from_json::<8>(alloc, text.as_str())?;
-    assert!(rt; lists(&set, &["\\", "", "a"]));
-    assert!(rt; set_code(alloc, text.as_str()) == 6);
     Ok(())
 }
 
@@ -315,18 +264,5 @@ fn a_map_goes_to_another_capacity_by_its_text(rt: HostRuntime) -> Result<(), Jso
     }
     let other: Map<String, i64, 2> = map_by_text(alloc, &map)?;
     assert!(rt; other.eq_with(&map));
-    Ok(())
-}
-
-#[test]
-fn a_set_goes_to_another_capacity_by_its_text(rt: HostRuntime) -> Result<(), JsonFault> {
-    let alloc = rt.alloc();
-    let set = set_of::<4>(alloc, &["b", "a"])?;
-    if set.len() > 2 {
-        assert!(rt; false);
-        return Ok(());
-    }
-    let other: Set<String, 2> = set_by_text(alloc, &set)?;
-    assert!(rt; other.iter().eq(set.iter()));
     Ok(())
 }

@@ -1,7 +1,6 @@
 //! Maps and sets written to sinks and read from sources, what stands after a fault of either, and a caller that is
 //! proved to read back what it wrote.
-ghost use Rattle.std.specs.Prelude.{◌≡◌, ◌++◌, IfOk, IfSome, Some, None, if◌then◌else◌, length, nat_eq, nat_le};
-ghost use Rattle.std.specs.Bool.{OnTrue};
+ghost use Rattle.std.specs.Prelude.{◌≡◌, IfOk, IfSome, Some, None, if◌then◌else◌, length, nat_eq, nat_le};
 ghost use Rattle.std.specs.Map.{keys_of};
 ghost use Rattle.micromap.specs.Extend.{distinct};
 
@@ -177,14 +176,6 @@ fn an_empty_source_fits_everywhere(rt: HostRuntime) {
 }
 
 #[test]
-fn a_misfit_may_come_last(rt: HostRuntime) {
-    let mut source = SliceSource::over(&[(5, ()), (5, ()), (6, ())]);
-    let set: Result<Set<u8, 1>, _> = Set::read_entries(&mut source);
-    assert!(rt; matches!(set, Err(ReadFault::TooMany)));
-    assert!(rt; source.left().is_empty());
-}
-
-#[test]
 fn the_less_room_the_more_is_left(rt: HostRuntime) {
     let mut source = SliceSource::over(&[(1, "a"), (2, "b"), (3, "c")]);
     let two: Result<Map<u8, &str, 2>, _> = Map::read_entries(&mut source);
@@ -241,49 +232,6 @@ fn a_source_may_fail_at_each_call(rt: HostRuntime) {
 }
 
 #[test]
-fn a_sink_has_what_came_before_its_fault(rt: HostRuntime) -> Result<(), AllocError> {
-    let map: Map<u8, u8, 3> = [(1, 10), (2, 20), (3, 30)].into();
-    let all = [(1, 10), (1, 10), (2, 20), (1, 10), (2, 20), (3, 30)];
-    let mut sink = RefusingSink::new(rt.alloc(), 0)?;
-    for (refuses_at, written, faults, last_fault) in [
-        (1, Err(Fault::At(1)), 1, 1),
-        (3, Err(Fault::At(3)), 2, 3),
-        (9, Ok(()), 2, 3),
-    ] {
-        assert!(rt; sink.faults() < 3);
-        sink.refuses_at = refuses_at;
-        assert!(rt; map.write_entries(&mut sink) == written);
-        assert!(rt; sink.taken.iter().eq(all.iter().take(refuses_at)));
-        assert!(rt; (sink.faults(), sink.last_fault) == (faults, Some(Fault::At(last_fault))));
-    }
-    Ok(())
-}
-
-#[test]
-fn a_source_has_what_comes_after_its_fault(rt: HostRuntime) {
-    let mut source = RefusingSource {
-        left: &[(1, 'a'), (2, 'b'), (1, 'c')],
-        refuses_at: 3,
-        fault: 8,
-        faults: 0,
-        last_fault: None,
-    };
-    assert!(rt; source.next_entry() == Err(8));
-    source.refuses_at = 1;
-    source.fault = 9;
-    let map: Result<Map<u8, char, 2>, _> = Map::read_entries(&mut source);
-    assert!(rt; matches!(map, Err(ReadFault::Source(9))));
-    assert!(rt; source.left == [(1, 'c')].as_slice());
-    assert!(rt; source.faults() == 2);
-    assert!(rt; source.last_fault == Some(9));
-    source.refuses_at = 9;
-    let map: Result<Map<u8, char, 2>, _> = Map::read_entries(&mut source);
-    assert!(rt; map.is_ok_and(|mut map| map.drain().eq([(1, 'c')])));
-    assert!(rt; source.faults() == 2);
-    assert!(rt; source.last_fault == Some(9));
-}
-
-#[test]
 fn a_set_is_written_as_keys_with_no_value(rt: HostRuntime) -> Result<(), AllocError> {
     let set: Set<u8, 4> = [7, 5, 7, 6].into();
     let mut sink = VecSink::new(rt.alloc());
@@ -293,17 +241,6 @@ fn a_set_is_written_as_keys_with_no_value(rt: HostRuntime) -> Result<(), AllocEr
     let read: Result<Set<u8, 3>, _> = Set::read_entries(&mut SliceSource::over(sink.entries()));
     assert!(rt; read.is_ok_and(|read| read.iter().eq(&[7, 5, 6])));
     assert!(rt; sink.into_entries().len() == 3);
-    Ok(())
-}
-
-#[test]
-fn a_list_takes_as_many_entries_as_come(rt: HostRuntime) -> Result<(), AllocError> {
-    let mut sink = VecSink::new(rt.alloc());
-    for key in 0..1000u16 {
-        assert!(rt; sink.faults() == 0);
-        sink.entry(&key, &())?;
-    }
-    assert!(rt; sink.entries().len() == 1000);
     Ok(())
 }
 
@@ -324,19 +261,4 @@ fn a_fault_says_whose_it_is(rt: HostRuntime) {
             "a pair has a new key, and there is no room for it"
         )
     );
-}
-
-// Writes the map if the sink may return one more error, and returns whether it was written.
-fn written<W: EntrySink<u8, u8>, const N: usize>(map: &Map<u8, u8, N>, sink: &mut W) -> bool
-    ensures { OnTrue result (W.taken sink.new ≡ W.taken sink.old ++ map.now) }
-{
-    sink.faults() < u128::MAX && map.write_entries(sink).is_ok()
-}
-
-#[test]
-fn a_sink_is_written_to_where_it_may_fail_once_more(rt: HostRuntime) {
-    let map = Map::from([(1, 10), (2, 20)]);
-    let mut sink = VecSink::new(rt.alloc());
-    assert!(rt; written(&map, &mut sink));
-    assert!(rt; sink.entries() == [(1, 10), (2, 20)].as_slice());
 }

@@ -32,17 +32,6 @@ fn full(alloc: Global) -> Attributes<3> {
     list
 }
 
-#[test]
-fn attributes_stand_in_the_order_in_which_they_came(rt: HostRuntime) {
-    let alloc = rt.alloc();
-    let mut list = full(alloc);
-    assert!(rt; reads(alloc, &list, "{id: b, class: wide, href: /}"));
-    assert!(rt; put(alloc, &mut list, "alt", "") == Some(false));
-    assert!(rt; put(alloc, &mut list, "href", "#") == Some(true));
-    assert!(rt; value_or(&list, "href", "none") == "#");
-    assert!(rt; value_or(&list, "alt", "none") == "none");
-}
-
 // The other attributes keep their order, and the new name stands behind them.
 #[test]
 fn a_renamed_attribute_goes_last(rt: HostRuntime) {
@@ -51,6 +40,8 @@ fn a_renamed_attribute_goes_last(rt: HostRuntime) {
     assert!(rt; renamed(alloc, &mut list, "id", "name") == Some(true));
     assert!(rt; renamed(alloc, &mut list, "id", "alt") == Some(false));
     assert!(rt; reads(alloc, &list, "{class: wide, href: /, name: b}"));
+    assert!(rt; value_or(&list, "name", "none") == "b");
+    assert!(rt; value_or(&list, "id", "none") == "none");
     assert!(rt; remove(&mut list, "class"));
     assert!(rt; !remove(&mut list, "class"));
     assert!(rt; reads(alloc, &list, "{href: /, name: b}"));

@@ -1,8 +1,8 @@
-//! A frame with two variables, and a small expression over them.
+//! A small expression over a frame with two variables.
 #![tactic(auto)]
 
 use micromap::Map;
-use micromap_examples::frame::{Expression, Frame, assign, update};
+use micromap_examples::frame::{Expression, Frame};
 use std::alloc::{AllocError, Global};
 
 fn number(alloc: Global, n: i64) -> Result<Box<Expression>, AllocError> {
@@ -28,17 +28,6 @@ fn whole(alloc: Global) -> Result<Expression, AllocError> {
 // let 3 = 1 in 2
 fn unbound(alloc: Global) -> Result<Expression, AllocError> {
     Ok(Expression::Let(3, number(alloc, 1)?, number(alloc, 2)?))
-}
-
-#[test]
-fn a_frame_keeps_two_variables(rt: HostRuntime) {
-    let mut frame: Frame<2> = Map::new();
-    assert!(rt; assign(&mut frame, 1, 6));
-    assert!(rt; assign(&mut frame, 2, -7));
-    assert!(rt; !assign(&mut frame, 3, 1));
-    assert!(rt; update(&mut frame, 1, 5));
-    assert!(rt; !update(&mut frame, 3, 1));
-    assert!(rt; frame.into_iter().eq([(1, 5), (2, -7)]));
 }
 
 #[test]

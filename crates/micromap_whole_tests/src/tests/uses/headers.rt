@@ -1,12 +1,9 @@
-//! Headers from the fields of a request: their names in any case, their values, and each fault.
+//! Headers from the fields of a request: their names in any case, and their values.
 #![tactic(auto)]
 
 use httparse::Header;
-use micromap_examples::headers::HeaderFault::{
-    self, Memory, NoHost, TooMany, TwoHosts, TwoLengths,
-};
+use micromap_examples::headers::HeaderFault::{self, Memory};
 use micromap_examples::headers::{Headers, Name, collect, value_of};
-use micromap_testing::displays;
 use std::alloc::Global;
 
 const FIELDS: [(&str, &str); 5] = [
@@ -45,40 +42,4 @@ fn names_have_one_case_and_values_are_joined(rt: HostRuntime) -> Result<(), Head
     assert!(rt; has(alloc, &headers, "HOST", Some(b"example.org".as_slice())));
     assert!(rt; has(alloc, &headers, "hos", None));
     Ok(())
-}
-
-#[test]
-fn the_first_fault_is_returned(rt: HostRuntime) {
-    let length = |value| ("Content-Length", value);
-    for (fields, fault) in [
-        ([].as_slice(), NoHost),
-        (&FIELDS[2..4], NoHost),
-        (
-            &[("a", ""), ("b", ""), ("c", ""), ("host", "x")],
-            TooMany(2),
-        ),
-        (
-            &[("host", "x"), ("HOST", "y"), ("a", ""), ("b", "")],
-            TwoHosts,
-        ),
-        (
-            &[length("1"), length("1"), length("2"), ("a", "")],
-            TwoLengths,
-        ),
-    ] {
-        assert!(rt; read::<2>(rt.alloc(), fields).is_err_and(|error| error == fault));
-    }
-}
-
-#[test]
-fn a_fault_can_be_read(rt: HostRuntime) {
-    for (fault, text) in [
-        (TooMany(20), "there are more than 20 names"),
-        (TwoHosts, "two values of host differ"),
-        (TwoLengths, "two values of content-length differ"),
-        (NoHost, "there is no host"),
-        (Memory, "a request for memory was refused"),
-    ] {
-        assert!(rt; displays(rt.alloc(), &fault, text));
-    }
 }

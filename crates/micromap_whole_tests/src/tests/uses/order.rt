@@ -10,18 +10,6 @@ fn add(plan: &mut Plan<2, 8>, target: u8, needs: [u8; 2]) {
 }
 
 #[test]
-fn a_diamond_is_built_from_below(rt: HostRuntime) {
-    let mut plan: Plan<2, 8> = Map::new();
-    add(&mut plan, 1, [2, 3]);
-    add(&mut plan, 2, [4, 4]);
-    add(&mut plan, 3, [4, 4]);
-    plan.checked_insert(4, Set::new());
-    let (order, left) = build_order(&plan);
-    assert!(rt; order.iter().eq(&[4, 2, 3, 1]));
-    assert!(rt; left.is_empty());
-}
-
-#[test]
 fn what_is_on_a_cycle_or_behind_it_is_left(rt: HostRuntime) {
     let mut plan: Plan<2, 8> = Map::new();
     add(&mut plan, 1, [2, 2]);
@@ -32,15 +20,4 @@ fn what_is_on_a_cycle_or_behind_it_is_left(rt: HostRuntime) {
     let (order, left) = build_order(&plan);
     assert!(rt; order.iter().eq(&[7, 5]));
     assert!(rt; left.iter().eq(&[1, 2, 3]));
-}
-
-#[test]
-fn what_is_behind_a_missing_target_is_left(rt: HostRuntime) {
-    let mut plan: Plan<2, 8> = Map::new();
-    add(&mut plan, 1, [2, 2]);
-    add(&mut plan, 2, [9, 9]);
-    plan.checked_insert(6, Set::new());
-    let (order, left) = build_order(&plan);
-    assert!(rt; order.iter().eq(&[6]));
-    assert!(rt; left.iter().eq(&[1, 2]));
 }

@@ -4,26 +4,13 @@
 use micromap::{Map, Set};
 use micromap_examples::board::{Board, Square, move_piece, put_piece};
 use micromap_examples::permissions::Permission::{Delete, Read, Share, Write};
-use micromap_examples::permissions::{Role, beyond, grant, limited, may_the_same, merged, revoke};
-
-#[test]
-fn a_permission_is_granted_and_revoked(rt: HostRuntime) {
-    let mut role: Role<2> = Set::new();
-    assert!(rt; grant(&mut role, Write));
-    assert!(rt; grant(&mut role, Read));
-    assert!(rt; grant(&mut role, Write));
-    assert!(rt; !grant(&mut role, Share));
-    assert!(rt; role.iter().eq(&[Write, Read]));
-    assert!(rt; revoke(&mut role, Write));
-    assert!(rt; !revoke(&mut role, Write));
-    assert!(rt; role.iter().eq(&[Read]));
-}
+use micromap_examples::permissions::{beyond, grant, limited, may_the_same, merged, revoke};
 
 #[test]
 fn roles_are_merged_and_limited(rt: HostRuntime) {
     let writer = Set::from([Read, Write]);
     let owner = Set::from([Delete, Write, Share]);
-    let Some(both) = merged::<2, 3, 4>(&writer, &owner) else {
+    let Some(mut both) = merged::<2, 3, 4>(&writer, &owner) else {
         panic!(rt; "there is room for four");
     };
     assert!(rt; both.iter().eq(&[Delete, Write, Share, Read]));
@@ -32,6 +19,9 @@ fn roles_are_merged_and_limited(rt: HostRuntime) {
     assert!(rt; limited(&writer, &owner).is_ok_and(|role| role.iter().eq(&[Write])));
     assert!(rt; beyond(&writer, &owner).is_ok_and(|role| role.iter().eq(&[Read])));
     assert!(rt; !may_the_same(&writer, &both));
+    assert!(rt; revoke(&mut both, Write));
+    assert!(rt; grant(&mut both, Write));
+    assert!(rt; both.iter().eq(&[Delete, Share, Read, Write]));
 }
 
 #[test]

@@ -1,6 +1,6 @@
-//! What is written of a head, and the message of each fault.
+//! Heads that are refused, inputs and outputs that fail, and the message of each fault.
 use anyhow::Result;
-use micromap_examples::request::{RunFault, run};
+use micromap_examples::request::run;
 use micromap_testing::{Refusing, displays};
 use std::alloc::Global;
 use std::io::{self, Read, Write};
@@ -34,15 +34,6 @@ fn fields(alloc: Global, count: u8) -> Result<Vec<u8>> {
 }
 
 #[test]
-fn a_head_is_written_in_order(rt: HostRuntime) -> Result<()> {
-    let text = b"PUT /a HTTP/1.1\nB: c\nHost: x\nb:\td \ncookie: e\nhost:x\nF: \xff\n\nHost: y";
-    assert!(rt;
-        written(rt.alloc(), text)?.as_slice() == b"PUT /a\nb: c, d\nhost: x\nf: \xff\n".as_slice()
-    );
-    Ok(())
-}
-
-#[test]
 fn each_fault_has_its_message(rt: HostRuntime) -> Result<()> {
     for (fields, message) in [
         ("Host: x\n", "the input ends before the head does"),
@@ -56,15 +47,6 @@ fn each_fault_has_its_message(rt: HostRuntime) -> Result<()> {
     ] {
         assert!(rt; refuses(rt.alloc(), fields.as_bytes(), message)?);
     }
-    Ok(())
-}
-
-#[test]
-fn an_empty_value_is_a_value(rt: HostRuntime) -> Result<()> {
-    assert!(rt;
-        written(rt.alloc(), b"GET / HTTP/1.1\nHost:\nA: \n\n")?.as_slice()
-            == b"GET /\nhost: \na: \n".as_slice()
-    );
     Ok(())
 }
 
@@ -134,21 +116,6 @@ fn a_full_output_ends_the_program(rt: HostRuntime) {
             "the output can't be written: failed to write whole buffer"
         ))
     );
-}
-
-#[test]
-fn a_text_without_a_head_leaves_the_output(rt: HostRuntime) {
-    let mut output = Refusing::new(usize::MAX);
-    for text in [
-        "",
-        "GET / HTTP/1.1\nHost: x\n",
-        "GET / HTTP/2.0\n\n",
-        "GET / HTTP/1.1\nAccept: x\n\n",
-    ] {
-        let ended = run(rt.alloc(), &[], text.as_bytes(), &mut output);
-        assert!(rt; matches!(ended, Err(RunFault::Head(_))));
-    }
-    assert!(rt; output.writes == 0);
 }
 
 #[test]

@@ -8,20 +8,6 @@ fn elected(votes: &[Name]) -> Option<Option<(Name, usize)>> {
     Some(winner(&tally::<2>(votes)?))
 }
 
-// How many votes a name has, or `None` if it has none or there are more than two names.
-fn votes_of(votes: &[Name], name: Name) -> Option<usize> {
-    tally::<2>(votes)?.get(&name).copied()
-}
-
-#[test]
-fn each_name_has_its_votes(rt: HostRuntime) {
-    assert!(rt; votes_of(&[7, 8, 7], 7) == Some(2));
-    assert!(rt; votes_of(&[7, 8, 7], 8) == Some(1));
-    assert!(rt; votes_of(&[7, 8, 7], 9).is_none());
-    assert!(rt; tally::<1>(&[7, 8, 7]).is_none());
-    assert!(rt; tally::<0>(&[]).is_some());
-}
-
 #[test]
 fn the_winner_has_the_most_votes(rt: HostRuntime) {
     assert!(rt; elected(&[]) == Some(None));
