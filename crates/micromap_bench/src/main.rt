@@ -2,8 +2,7 @@
 //! expected.
 #![tactic(auto)]
 
-pub use micromap_rows::run_rows;
-pub use micromap_testing::{Call, lockstep};
+pub use micromap_testing::{Call, lockstep, run_rows};
 use std::io;
 use std::process::ExitCode;
 

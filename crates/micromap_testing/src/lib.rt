@@ -1,7 +1,7 @@
 //! What the tests and the programs beside the library share: a key whose `==` reads one of its fields, with two probes,
 //! elements that count what is done with them, a writer that refuses a write, checks of a whole iterator, of a whole set
-//! and of a printed text, two maps under one list of keyed calls, and the lines that say of numbered rows whether they
-//! are ok.
+//! and of a printed text, two maps under one list of keyed calls, and the worked rows, with the lines that say whether
+//! they are ok.
 #![tactic(auto)]
 
 mod calls;
@@ -10,6 +10,7 @@ mod lists;
 mod marked;
 mod refusing;
 mod report;
+mod rows;
 mod texts;
 
 pub use calls::{Call, lockstep};
@@ -17,5 +18,5 @@ pub use counted::{Counted, Counts, counted_map, counted_set, drops_all};
 pub use lists::{gives, holds};
 pub use marked::{Digit, Id, Marked};
 pub use refusing::Refusing;
-pub use report::write_rows;
+pub use rows::run_rows;
 pub use texts::{debugs, displays};

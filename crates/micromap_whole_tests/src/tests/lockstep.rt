@@ -1,7 +1,6 @@
 //! Two maps under one list of calls, and the worked rows: they have their values, and a failed write ends their run.
 use micromap::Map;
-use micromap_rows::run_rows;
-use micromap_testing::{Call, Marked, Refusing, lockstep};
+use micromap_testing::{Call, Marked, Refusing, lockstep, run_rows};
 
 #[test]
 fn the_first_refused_write_ends_the_run(rt: HostRuntime) {

@@ -1,6 +1,6 @@
 //! The rows of putting, reading and taking by key, by probe and by entry.
+use crate::Marked;
 use micromap::{Map, Text};
-use micromap_testing::Marked;
 use std::alloc::{AllocError, Global};
 
 // The three outcomes of `checked_insert`.

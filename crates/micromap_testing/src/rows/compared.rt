@@ -1,6 +1,6 @@
 //! The rows of maps that are compared, and of maps under the same calls.
+use crate::{Call, lockstep};
 use micromap::Map;
-use micromap_testing::{Call, lockstep};
 
 // The order and the capacity of two maps don't matter.
 pub(super) fn row_4() -> bool {

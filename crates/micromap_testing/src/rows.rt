@@ -1,4 +1,10 @@
-//! The rows, each a function that returns whether every call of its row returned what was expected.
+//! Numbered examples of the library's calls, the rows. Each is a function that returns whether every call of its row
+//! returned what was expected.
+ghost use Rattle.std.specs.Prelude.{◌≡◌, ◌≤◌};
+ghost use Rattle.std.specs.Io.KnownBytes.{Appends};
+ghost use Rattle.std.specs.List.{flat_map};
+ghost use Rattle.micromap_testing.specs.Rows.{ok_line};
+
 mod built;
 mod compared;
 mod counted;
@@ -9,7 +15,9 @@ mod sets;
 mod streamed;
 mod walked;
 
+use crate::report::write_rows;
 use std::alloc::Global;
+use std::io::Write;
 
 /// The numbers of the rows.
 pub const NUMBERS: [usize; 32] = [
@@ -17,8 +25,18 @@ pub const NUMBERS: [usize; 32] = [
     27, 28, 29, 30, 31, 32,
 ];
 
-/// Returns whether the values of the row with this number came out. A row that finds no memory is wrong.
-pub fn is_ok(alloc: Global, number: usize) -> bool {
+/// Performs the rows in the order of their numbers, and writes `row <n>: ok` or `row <n>: wrong` for each.
+///
+/// The result is 0 if all are ok and every line was written, else 1. The first failed write ends the run.
+pub fn run_rows<W: Write>(alloc: Global, out: &mut W) -> u8
+    ensures bound { result ≤ 1 }
+    ensures lines { result ≡ 0 → Appends (W.contents out.old) (W.contents out.new) (flat_map ok_line NUMBERS) }
+{
+    write_rows(out, &NUMBERS, |number| is_ok(alloc, number))
+}
+
+// Returns whether the values of the row with this number came out. A row that finds no memory is wrong.
+fn is_ok(alloc: Global, number: usize) -> bool {
     match number {
         1 => keyed::row_1(),
         2 => keyed::row_2(),

@@ -1,6 +1,6 @@
 //! The rows of sets, and of texts.
+use crate::displays;
 use micromap::{Map, Overfull, Set};
-use micromap_testing::displays;
 use std::alloc::Global;
 use std::fmt::Display;
 
