@@ -1,5 +1,4 @@
-//! Tests of the calls on whole maps and sets: building, cloning, comparison, printing, streams and JSON; of the examples of
-//! doc comments; and of the example libraries.
+//! Tests of the examples: of the small libraries of `micromap_examples`, and of the examples of doc comments.
 #![tactic(auto)]
 
 #[cfg(test)]

@@ -2,9 +2,14 @@
 use micromap::Map;
 use std::process::Abort;
 
+mod clone;
 mod ctors;
+mod debug;
+mod display;
 mod drain;
 mod entry;
+mod eq;
+mod from;
 mod index;
 mod iterators;
 mod keys;

@@ -4,7 +4,12 @@ ghost use Rattle.micromap.specs.Items.{put_item_if_fits};
 ghost use Rattle.std.specs.List.{filter};
 
 mod bitand;
+mod debug;
 mod difference;
+mod display;
+mod eq;
+mod extend;
+mod from;
 mod intersection;
 mod methods;
 mod sub;

@@ -4,7 +4,7 @@ use Rattle.std.proofs.lemmas.Bool.{not-false}
 use Rattle.micromap.proofs.Laws.ComparisonLaws.{fair_where_fits}
 use Rattle.micromap.specs.Calls.{insert, remove}
 use Rattle.micromap.specs.Same.{is_same}
-use Rattle.micromap_whole_tests.proofs.tests.comparison.edit_both.Goals as goal
+use Rattle.micromap_map_tests.proofs.tests.comparison.edit_both.Goals as goal
 
 -- the edit is a fair list of calls, so the two lists stay the same
 pub returns : goal.returns

@@ -1,6 +1,6 @@
 use Rattle.std.proofs.Common.{subst, sym}
 use Rattle.micromap.specs.Json.{HasPairs}
-use Rattle.micromap_whole_tests.proofs.tests.json.map_by_text.Goals as goal
+use Rattle.micromap_set_tests.proofs.tests.json.map_by_text.Goals as goal
 
 pub returns : goal.returns
 returns g c =
