@@ -35,6 +35,11 @@ pub enum JsonFault {
 
 impl JsonFault {
     /// Returns the fault's number, from 1 in this order.
+    ///
+    /// ```
+    /// let read = set_from_json::<2>(alloc, "{}");
+    /// assert!(rt; read.is_err_and(|fault| fault.code() == 3));
+    /// ```
     pub fn code(&self) -> u8
         ensures { result ≡ code self.now }
     {

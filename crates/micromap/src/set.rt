@@ -31,6 +31,13 @@ pub use walk::{Drain, IntoIter, Iter};
 /// A contract sees it as the list of its items, from front to end. It is a map with the value `()`, and no call
 /// allocates memory of its own. A *scan* compares the items from the front, each at most once. How many are compared
 /// isn't proved.
+///
+/// ```
+/// let mut seen: Set<&str, 2> = Set::new();
+/// assert!(rt; seen.put("foo") && seen.put("bar") && seen.put("foo"));
+/// assert!(rt; !seen.put("qux"));
+/// assert!(rt; seen.contains(&"bar"));
+/// ```
 #[derive(Drop)]
 pub struct Set<T: Eq, const N: usize> {
     map: Map<T, (), N>,
@@ -56,6 +63,12 @@ impl<T: Eq, const N: usize> Model for Set<T, N> {
 
 impl<T: Eq, const N: usize> Set<T, N> {
     /// Creates an empty set.
+    ///
+    /// ```
+    /// let set: Set<u8, 4> = Set::new();
+    /// assert!(rt; set.is_empty());
+    /// assert_eq!(rt; set.capacity(), 4);
+    /// ```
     #[inline]
     pub fn new() -> Self
         ensures answer { result ≡ [] }
@@ -68,6 +81,13 @@ impl<T: Eq, const N: usize> Set<T, N> {
     ///
     /// The clause `content` states three facts of the set: no two items are equal, there are at most `N` items, and the
     /// equality of items is lawful (reflexive, symmetric and transitive).
+    ///
+    /// ```
+    /// let mut set: Set<u8, 4> = Set::new();
+    /// set.put(1);
+    /// set.put(1);
+    /// assert_eq!(rt; set.len(), 1);
+    /// ```
     #[inline]
     pub fn len(&self) -> usize
         ensures answer { result ≡ length self.now }
@@ -77,6 +97,13 @@ impl<T: Eq, const N: usize> Set<T, N> {
     }
 
     /// Returns `true` if the set has no items.
+    ///
+    /// ```
+    /// let mut set: Set<u8, 4> = Set::new();
+    /// assert!(rt; set.is_empty());
+    /// set.put(1);
+    /// assert!(rt; !set.is_empty());
+    /// ```
     #[inline]
     pub fn is_empty(&self) -> bool
         ensures answer { result ≡ (length self.now == 0) }
@@ -85,6 +112,12 @@ impl<T: Eq, const N: usize> Set<T, N> {
     }
 
     /// Returns the greatest number of items, which is `N`.
+    ///
+    /// ```
+    /// let mut set: Set<u8, 4> = Set::new();
+    /// set.put(1);
+    /// assert_eq!(rt; set.capacity(), 4);
+    /// ```
     #[inline]
     pub fn capacity(&self) -> usize
         ensures { result ≡ N }
@@ -95,6 +128,13 @@ impl<T: Eq, const N: usize> Set<T, N> {
 
 impl<T: Eq + Drop, const N: usize> Set<T, N> {
     /// Removes and drops every item.
+    ///
+    /// ```
+    /// let mut set = Set::from([1, 2]);
+    /// set.clear();
+    /// assert!(rt; set.is_empty());
+    /// assert!(rt; set.put(3));
+    /// ```
     pub fn clear(&mut self)
         ensures emptied { self.new ≡ [] }
         ensures content { AreItems T.eq N self.old self.new }
@@ -107,6 +147,11 @@ impl<T: Eq, const N: usize> Default for Set<T, N> {
     ghost is_default = { λ s. (s ≡ []) × IsItems T.eq N s };
 
     /// Creates an empty set.
+    ///
+    /// ```
+    /// let set: Set<u8, 4> = Set::default();
+    /// assert!(rt; set.is_empty());
+    /// ```
     fn default() -> Self {
         Set::new()
     }

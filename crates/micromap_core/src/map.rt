@@ -30,6 +30,13 @@ use std::marker::Model;
 /// A contract sees it as the list of its pairs, from front to end. All `N` slots are part of the value, so no call
 /// allocates memory of its own. A *scan* compares the keys from the front, each at most once. How many keys are compared
 /// isn't proved. What `get_counted` and `eq_with_counted` add to their counter is.
+///
+/// ```
+/// let mut ages: Map<&str, u8, 2> = Map::new();
+/// assert!(rt; ages.put("Ada", 36) && ages.put("Alan", 41));
+/// assert!(rt; !ages.put("Grace", 85));
+/// assert_eq!(rt; ages.get(&"Alan"), Some(&41));
+/// ```
 #[derive(Drop)]
 pub struct Map<K: Eq, V, const N: usize> {
     pairs: Columns<K, V, N>,
@@ -48,6 +55,12 @@ impl<K: Eq, V, const N: usize> Model for Map<K, V, N> {
 
 impl<K: Eq, V, const N: usize> Map<K, V, N> {
     /// Creates an empty map.
+    ///
+    /// ```
+    /// let map: Map<u8, char, 4> = Map::new();
+    /// assert!(rt; map.is_empty());
+    /// assert_eq!(rt; map.capacity(), 4);
+    /// ```
     #[inline]
     pub fn new() -> Self
         ensures answer { result ≡ [] }
@@ -59,6 +72,11 @@ impl<K: Eq, V, const N: usize> Map<K, V, N> {
     }
 
     /// Creates an empty map. Requires that `capacity` is `N`.
+    ///
+    /// ```
+    /// let map: Map<u8, char, 4> = Map::with_capacity(4);
+    /// assert!(rt; map.is_empty());
+    /// ```
     #[inline]
     pub fn with_capacity(capacity: usize) -> Self
         requires { capacity ≡ N }
@@ -74,6 +92,13 @@ impl<K: Eq, V, const N: usize> Map<K, V, N> {
     /// The clause `content` states three facts of the map: no two keys are equal, there are at most `N` pairs, and the
     /// equality of keys is lawful (reflexive, symmetric and transitive). A call that makes a map states them of the result,
     /// and one that changes the map itself of the map before and after.
+    ///
+    /// ```
+    /// let mut map: Map<u8, char, 4> = Map::new();
+    /// map.put(1, 'a');
+    /// map.put(1, 'b');
+    /// assert_eq!(rt; map.len(), 1);
+    /// ```
     #[inline]
     pub fn len(&self) -> usize
         ensures answer { result ≡ length self.now }
@@ -83,6 +108,13 @@ impl<K: Eq, V, const N: usize> Map<K, V, N> {
     }
 
     /// Returns `true` if the map has no pairs.
+    ///
+    /// ```
+    /// let mut map: Map<u8, char, 4> = Map::new();
+    /// assert!(rt; map.is_empty());
+    /// map.put(1, 'a');
+    /// assert!(rt; !map.is_empty());
+    /// ```
     #[inline]
     pub fn is_empty(&self) -> bool
         ensures answer { result ≡ (length self.now == 0) }
@@ -91,6 +123,12 @@ impl<K: Eq, V, const N: usize> Map<K, V, N> {
     }
 
     /// Returns the greatest number of pairs, which is `N`.
+    ///
+    /// ```
+    /// let mut map: Map<u8, char, 4> = Map::new();
+    /// map.put(1, 'a');
+    /// assert_eq!(rt; map.capacity(), 4);
+    /// ```
     #[inline]
     pub fn capacity(&self) -> usize
         ensures { result ≡ N }
@@ -101,6 +139,13 @@ impl<K: Eq, V, const N: usize> Map<K, V, N> {
 
 impl<K: Eq + Drop, V: Drop, const N: usize> Map<K, V, N> {
     /// Removes and drops every pair.
+    ///
+    /// ```
+    /// let mut map = Map::from([(1, 'a'), (2, 'b')]);
+    /// map.clear();
+    /// assert!(rt; map.is_empty());
+    /// assert!(rt; map.put(3, 'c'));
+    /// ```
     pub fn clear(&mut self)
         ensures emptied { self.new ≡ [] }
         ensures content { AreContents K.eq N self.old self.new }
@@ -113,6 +158,11 @@ impl<K: Eq, V, const N: usize> Default for Map<K, V, N> {
     ghost is_default = { λ m. (m ≡ []) × IsContent K.eq N m };
 
     /// Creates an empty map.
+    ///
+    /// ```
+    /// let map: Map<u8, char, 4> = Map::default();
+    /// assert!(rt; map.is_empty());
+    /// ```
     fn default() -> Self {
         Map::new()
     }

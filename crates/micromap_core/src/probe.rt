@@ -8,6 +8,11 @@ ghost use Rattle.micromap_core.specs.Probe.{alike, equal, is_str, is_text};
 ///
 /// An implementation says which keys it matches, and proves two laws: equal keys match alike, and two keys that match
 /// are equal. So at most one stored key matches, and a map's calls by probe act on that key.
+///
+/// ```
+/// assert!(rt; Text("Ada").matches(&"Ada"));
+/// assert!(rt; !Text("Ada").matches(&"ada"));
+/// ```
 pub trait Probe<K: Eq> {
     ghost matches: { Self → K → Bool };
 
@@ -36,6 +41,12 @@ impl<K: Eq> Probe<K> for K {
 
 /// A probe for keys that are texts, `String` or `&str`: it matches the key with the same text.
 /// It finds a `TextBuf` in the same way.
+///
+/// ```
+/// let ages = Map::from([("Ada", 36), ("Alan", 41)]);
+/// let name = TextBuf::new(alloc, "Alan")?;
+/// assert_eq!(rt; ages.get_by(&Text(name.as_str())), Some(&41));
+/// ```
 #[derive(Debug, Clone, Copy)]
 pub struct Text<'a>(pub &'a str);
 

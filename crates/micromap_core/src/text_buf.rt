@@ -19,6 +19,11 @@ use std::marker::Model;
 ///
 /// Its clone is the same value, so a map or a set of texts has the contracts of one of numbers. A call by probe finds it
 /// by `&Text(..)`.
+///
+/// ```
+/// let name: TextBuf = String::from_str(alloc, "Ada")?.into();
+/// assert!(rt; name.is("Ada"));
+/// ```
 #[derive(Drop)]
 pub struct TextBuf {
     text: String,
@@ -37,6 +42,11 @@ impl TextBuf {
     /// Returns a copy of a text.
     ///
     /// The result is `Err` only if memory is refused.
+    ///
+    /// ```
+    /// let name = TextBuf::new(alloc, "Ada")?;
+    /// assert_eq!(rt; name.as_str(), "Ada");
+    /// ```
     pub fn new(alloc: Global, text: &str) -> Result<TextBuf, AllocError>
         ensures { IfOk result (λ new. new ≡ text.now) }
     {
@@ -45,6 +55,11 @@ impl TextBuf {
     }
 
     /// Returns the text as a `&str`.
+    ///
+    /// ```
+    /// let name = TextBuf::new(alloc, "Ada")?;
+    /// assert!(rt; name.as_str().starts_with("A"));
+    /// ```
     pub fn as_str(&self) -> &str
         ensures { result.now ≡ self.now }
     {
@@ -52,6 +67,11 @@ impl TextBuf {
     }
 
     /// Returns the text as a `String`, without a copy.
+    ///
+    /// ```
+    /// let name = TextBuf::new(alloc, "Ada")?.into_string();
+    /// assert_eq!(rt; name.as_str(), "Ada");
+    /// ```
     pub fn into_string(self) -> String
         ensures { string_bytes result ≡ self }
     {
@@ -60,6 +80,11 @@ impl TextBuf {
     }
 
     /// Returns the number of bytes.
+    ///
+    /// ```
+    /// let text = TextBuf::new(alloc, "été")?;
+    /// assert_eq!(rt; text.len(), 5);
+    /// ```
     pub fn len(&self) -> usize
         ensures { result ≡ length self.now }
     {
@@ -67,6 +92,11 @@ impl TextBuf {
     }
 
     /// Returns `true` if the text is empty.
+    ///
+    /// ```
+    /// assert!(rt; TextBuf::new(alloc, "")?.is_empty());
+    /// assert!(rt; !TextBuf::new(alloc, "Ada")?.is_empty());
+    /// ```
     pub fn is_empty(&self) -> bool
         ensures { result ≡ (length self.now == 0) }
     {
@@ -74,6 +104,12 @@ impl TextBuf {
     }
 
     /// Returns `true` if this is the text.
+    ///
+    /// ```
+    /// let name = TextBuf::new(alloc, "Ada")?;
+    /// assert!(rt; name.is("Ada"));
+    /// assert!(rt; !name.is("ada"));
+    /// ```
     pub fn is(&self, text: &str) -> bool
         ensures { result ≡ bytes_eq self.now text.now }
     {

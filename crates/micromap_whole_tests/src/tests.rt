@@ -1,4 +1,5 @@
 //! Tests of examples. Each subject has a module.
 
+mod examples;
 mod readme;
 mod uses;

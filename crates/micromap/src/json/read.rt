@@ -23,6 +23,13 @@ use std::alloc::Global;
 /// The pairs are in the order of their names, compared as bytes. Of a repeated name the last value is read. Allocates
 /// memory for the values that are read, and never returns `Memory` for an empty text. Makes one scan for each member, up
 /// to the first that doesn't fit.
+///
+/// ```
+/// let ages: Map<String, i64, 2> = map_from_json(alloc, r#"{"Ada": 36, "Alan": 41}"#)?;
+/// assert_eq!(rt; ages.get_by(&Text("Alan")), Some(&41));
+/// let small = map_from_json::<1>(alloc, r#"{"Ada": 36, "Alan": 41}"#);
+/// assert!(rt; matches!(small, Err(JsonFault::TooMany)));
+/// ```
 pub fn map_from_json<const N: usize>(
     alloc: Global,
     text: &str,
@@ -45,6 +52,13 @@ pub fn map_from_json<const N: usize>(
 ///
 /// Each distinct text is stored as it first came, in that order. Allocates memory for the values that are read, and
 /// never returns `Memory` for an empty text. Makes one scan for each text, up to the first that doesn't fit.
+///
+/// ```
+/// let seen: Set<String, 2> = set_from_json(alloc, r#"["foo", "bar", "foo"]"#)?;
+/// assert!(rt; seen.contains_by(&Text("bar")));
+/// let wrong = set_from_json::<2>(alloc, r#"["foo", 1]"#);
+/// assert!(rt; matches!(wrong, Err(JsonFault::NotText)));
+/// ```
 pub fn set_from_json<const N: usize>(alloc: Global, text: &str) -> Result<Set<String, N>, JsonFault>
     ensures texts { IfOk result (λ set. texts_for N text.now ≡ Ok (item_texts set)) }
     ensures fault { IfErr result (IsFault (texts_for N text.now)) }

@@ -19,6 +19,12 @@ use std::alloc::Global;
 ///
 /// The members are in the order of their names, compared as bytes. Allocates memory for a copy of each key and for the
 /// text.
+///
+/// ```
+/// let mut ages: Map<String, i64, 2> = Map::new();
+/// ages.put(String::from_str(alloc, "Ada")?, 36);
+/// assert_eq!(rt; map_to_json(alloc, &ages)?.as_str(), r#"{"Ada":36}"#);
+/// ```
 pub fn map_to_json<const N: usize>(
     alloc: Global,
     map: &Map<String, i64, N>,
@@ -38,6 +44,12 @@ pub fn map_to_json<const N: usize>(
 /// Returns the array of the set's items, from front to end, as text with no white space between its parts.
 ///
 /// Allocates memory for a copy of each item and for the text.
+///
+/// ```
+/// let mut seen: Set<String, 2> = Set::new();
+/// seen.put(String::from_str(alloc, "foo")?);
+/// assert_eq!(rt; set_to_json(alloc, &seen)?.as_str(), r#"["foo"]"#);
+/// ```
 pub fn set_to_json<const N: usize>(alloc: Global, set: &Set<String, N>) -> Result<String, JsonFault>
     ensures array { IfOk result (λ text. read (string_bytes text) ≡ Some (array (elements set.now))) }
     ensures again { IfOk result (λ text. (M : ℕ) → length set.now ≤ M

@@ -119,6 +119,11 @@ impl<T: Eq + Drop, const N: usize> Set<T, N> {
     ///
     /// Requires that the iterator ends. A new item doesn't fit a full set: it is dropped, and the next ones are taken.
     /// Makes one scan for each item.
+    ///
+    /// ```
+    /// let set: Set<u8, 2> = Set::from_fitting([5, 6, 7, 5].into_iter());
+    /// assert!(rt; set.iter().eq(&[5, 6]));
+    /// ```
     pub fn from_fitting<I: Iterator<Item = T>>(items: I) -> Self
         requires can { I.can_next items }
         requires ends { IsFinite (I.remaining items) }
@@ -165,6 +170,12 @@ impl<T: Eq + Copy, const N: usize> From<[T; N]> for Set<T, N> {
     /// Creates a set of the items of an array: each distinct item as it first came.
     ///
     /// Every item fits. Makes one scan for each item.
+    ///
+    /// ```
+    /// let set = Set::from([2, 1, 2]);
+    /// assert_eq!(rt; set.capacity(), 3);
+    /// assert!(rt; set.iter().eq(&[2, 1]));
+    /// ```
     fn from(items: [T; N]) -> Self {
         let mut set = Set::new();
         for index in 0..N {

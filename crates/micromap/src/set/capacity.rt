@@ -9,6 +9,13 @@ impl<T: Eq + Drop, const N: usize> Set<T, N> {
     ///
     /// The result is `Err` exactly if there are more than `M` items. The error is this set, unchanged. Moves each item
     /// once, and compares none.
+    ///
+    /// ```
+    /// let large = Set::from([1, 2]).into_capacity::<3>();
+    /// assert!(rt; large.is_ok_and(|mut set| set.put(3)));
+    /// let small = Set::from([1, 2]).into_capacity::<1>();
+    /// assert!(rt; small.is_err_and(|set| set.len() == 2));
+    /// ```
     pub fn into_capacity<const M: usize>(self) -> Result<Set<T, M>, Self>
         ensures refuses { IsErr result ↔ (M < length self) }
         ensures items { IfOk result (λ set. set ≡ self) }

@@ -14,6 +14,14 @@ impl<T: Eq + Clone + Drop, const N: usize> Set<T, N> {
     ///
     /// Requires that an item's clone is equal to the item. The result is `Err` only if the clone of an item is; then
     /// the clones made so far are dropped. This set is unchanged in any case. Compares no item.
+    ///
+    /// ```
+    /// let mut names: Set<TextBuf, 2> = Set::new();
+    /// names.put(TextBuf::new(alloc, "Ada")?);
+    /// let clone = names.clone()?;
+    /// names.clear();
+    /// assert!(rt; clone.first().is_some_and(|name| name.is("Ada")));
+    /// ```
     pub fn clone(&self) -> Result<Self, AllocError>
         requires { ClonesAreEqual T.eq T.is_clone }
         ensures clones { IfOk result (AllZip T.is_clone self.now) }
@@ -30,6 +38,13 @@ impl<T: Eq + Copy, const N: usize> Set<T, N> {
     /// Returns a copy of this set: the same items, in the same order.
     ///
     /// Copies all items of a full set at once, of any other one after the other. Compares no item.
+    ///
+    /// ```
+    /// let mut set = Set::from([1, 2]);
+    /// let before = set.copied();
+    /// set.clear();
+    /// assert!(rt; before.iter().eq(&[1, 2]));
+    /// ```
     pub fn copied(&self) -> Self
         ensures answer { result ≡ self.now }
         ensures content { IsItems T.eq N result }

@@ -12,6 +12,12 @@ impl<T: Eq + Drop, const N: usize> Set<T, N> {
     ///
     /// The kept items stay in their order. `keep` is called on the items from front to end, once each. Moves each kept
     /// item at most once. Compares no item.
+    ///
+    /// ```
+    /// let mut set = Set::from([1, 2, 3]);
+    /// set.retain(|item| *item != 2);
+    /// assert!(rt; set.iter().eq(&[1, 3]));
+    /// ```
     pub fn retain<F: FnMut(&T) -> bool>(&mut self, mut keep: F)
         requires { MayRetainItems F.FnMut keep self.old }
         ensures items { IsFiltered (CalledAt F.FnMut) keep self.old self.new }

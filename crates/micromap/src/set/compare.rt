@@ -14,6 +14,12 @@ impl<T: Eq, const N: usize> Set<T, N> {
     /// `members` says here.
     ///
     /// Compares no item if the lengths differ. Else it costs what `is_subset` costs.
+    ///
+    /// ```
+    /// let set = Set::from([1, 2]);
+    /// assert!(rt; set.eq_with(&Set::from([2, 1, 2])));
+    /// assert!(rt; !set.eq_with(&Set::from([1])));
+    /// ```
     pub fn eq_with<const M: usize>(&self, other: &Set<T, M>) -> bool
         ensures answer { IsTrue result ↔ HaveEqualItems T.eq self.now other.now }
         ensures members { IsTrue result ↔ HaveEquals T.eq self.now other.now }
@@ -24,6 +30,11 @@ impl<T: Eq, const N: usize> Set<T, N> {
 }
 
 /// `==` is `eq_with` within one type.
+///
+/// ```
+/// assert!(rt; Set::from([1, 2]) == Set::from([2, 1]));
+/// assert!(rt; Set::from([1, 2]) != Set::from([1, 1]));
+/// ```
 impl<T: Eq, const N: usize> PartialEq for Set<T, N> {
     ghost eq = { have_equal_items T.eq };
 

@@ -12,6 +12,15 @@ impl<T: Eq + Drop, const N: usize> Set<T, N> {
     ///
     /// Requires that an equal item is stored or the set has room, which `fits` tests. A stored item stays. A new item
     /// goes last. Makes one scan.
+    ///
+    /// ```
+    /// let mut set: Set<u8, 1> = Set::new();
+    /// assert!(rt; set.insert(1));
+    /// if set.fits(&1) {
+    ///     assert!(rt; !set.insert(1));
+    /// }
+    /// assert!(rt; !set.fits(&2));
+    /// ```
     #[inline]
     pub fn insert(&mut self, item: T) -> bool
         requires { IsTrue (item_fits T.eq N self.old item) }
@@ -23,6 +32,13 @@ impl<T: Eq + Drop, const N: usize> Set<T, N> {
     }
 
     /// Inserts the item as `insert` does, with the same precondition. It is safe, and kept for ported code.
+    ///
+    /// ```
+    /// let mut set = Set::from([1, 2]);
+    /// if set.fits(&2) {
+    ///     assert!(rt; !set.insert_unchecked(2));
+    /// }
+    /// ```
     #[inline]
     pub fn insert_unchecked(&mut self, item: T) -> bool
         requires { IsTrue (item_fits T.eq N self.old item) }
@@ -36,6 +52,13 @@ impl<T: Eq + Drop, const N: usize> Set<T, N> {
     /// Inserts the item in the place of an equal one or last, and returns the one that was there, or `None`.
     ///
     /// Requires that an equal item is stored or the set has room, which `fits` tests. Makes one scan.
+    ///
+    /// ```
+    /// let mut set = Set::from([1, 2]);
+    /// if set.fits(&2) {
+    ///     assert_eq!(rt; set.replace(2), Some(2));
+    /// }
+    /// ```
     #[inline]
     pub fn replace(&mut self, item: T) -> Option<T>
         requires { IsTrue (item_fits T.eq N self.old item) }
@@ -73,6 +96,13 @@ impl<T: Eq + Drop, const N: usize> Set<T, N> {
     ///
     /// A stored item stays, and the one that was passed is dropped. A new item goes last. A new item doesn't fit a full
     /// set: then the set is unchanged, and the item is dropped. Makes one scan.
+    ///
+    /// ```
+    /// let mut set: Set<u8, 1> = Set::new();
+    /// assert!(rt; set.put(1));
+    /// assert!(rt; set.put(1));
+    /// assert!(rt; !set.put(2));
+    /// ```
     #[inline]
     pub fn put(&mut self, item: T) -> bool
         ensures answer { result ≡ item_fits T.eq N self.old item }

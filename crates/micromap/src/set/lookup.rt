@@ -8,6 +8,12 @@ use super::Set;
 
 impl<T: Eq, const N: usize> Set<T, N> {
     /// Returns a reference to the stored item that equals `item`, or `None` if there is none. Makes one scan.
+    ///
+    /// ```
+    /// let set = Set::from(["foo", "bar"]);
+    /// assert_eq!(rt; set.get(&"foo"), Some(&"foo"));
+    /// assert_eq!(rt; set.get(&"qux"), None);
+    /// ```
     #[inline]
     pub fn get(&self, item: &T) -> Option<&T>
         ensures answer { option_copied result ≡ find_item T.eq self.now item.now }
@@ -17,6 +23,13 @@ impl<T: Eq, const N: usize> Set<T, N> {
     }
 
     /// Returns a reference to the first item, or `None` if the set is empty. Compares no item.
+    ///
+    /// ```
+    /// let mut set = Set::from([2, 1]);
+    /// assert_eq!(rt; set.first(), Some(&2));
+    /// set.clear();
+    /// assert_eq!(rt; set.first(), None);
+    /// ```
     #[inline]
     pub fn first(&self) -> Option<&T>
         ensures answer { option_copied result ≡ slice_get self.now 0 }
@@ -26,6 +39,13 @@ impl<T: Eq, const N: usize> Set<T, N> {
     }
 
     /// Returns a reference to the last item, or `None` if the set is empty. Compares no item.
+    ///
+    /// ```
+    /// let mut set = Set::from([2, 1]);
+    /// assert_eq!(rt; set.last(), Some(&1));
+    /// set.clear();
+    /// assert_eq!(rt; set.last(), None);
+    /// ```
     #[inline]
     pub fn last(&self) -> Option<&T>
         ensures answer { option_copied result ≡ slice_get self.now (length self.now - 1) }
@@ -35,6 +55,12 @@ impl<T: Eq, const N: usize> Set<T, N> {
     }
 
     /// Returns `true` if a stored item equals `item`. Makes one scan.
+    ///
+    /// ```
+    /// let set = Set::from([1, 2]);
+    /// assert!(rt; set.contains(&2));
+    /// assert!(rt; !set.contains(&3));
+    /// ```
     #[inline]
     pub fn contains(&self, item: &T) -> bool
         ensures answer { result ≡ is_member T.eq self.now item.now }
@@ -45,6 +71,12 @@ impl<T: Eq, const N: usize> Set<T, N> {
     /// Returns `true` if the item can be inserted: an equal one is stored, or there is room.
     ///
     /// Compares no item if there is room. Else it makes one scan.
+    ///
+    /// ```
+    /// let full = Set::from([1, 2]);
+    /// assert!(rt; full.fits(&2));
+    /// assert!(rt; !full.fits(&3));
+    /// ```
     #[inline]
     pub fn fits(&self, item: &T) -> bool
         ensures answer { result ≡ item_fits T.eq N self.now item.now }

@@ -6,6 +6,11 @@ use std::fmt;
 
 /// `{a, b}`, from the front. Width and other flags are passed to the items. An error of the writer ends the printing
 /// and is returned.
+///
+/// ```
+/// let set = Set::from([2, 1]);
+/// assert_eq!(rt; set.to_string(alloc)?.as_str(), "{2, 1}");
+/// ```
 impl<T: Eq + fmt::Display, const N: usize> fmt::Display for Set<T, N> {
     ghost output = { set_text T.output };
 

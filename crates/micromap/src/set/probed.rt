@@ -11,6 +11,12 @@ use crate::Probe;
 
 impl<T: Eq, const N: usize> Set<T, N> {
     /// Returns a reference to the item that matches, or `None` if none does. Makes one scan.
+    ///
+    /// ```
+    /// let seen = Set::from(["foo", "bar"]);
+    /// assert_eq!(rt; seen.get_by(&Text("foo")), Some(&"foo"));
+    /// assert_eq!(rt; seen.get_by(&Text("qux")), None);
+    /// ```
     #[inline]
     pub fn get_by<P: Probe<T>>(&self, probe: &P) -> Option<&T>
         ensures answer { option_copied result ≡ find (P.matches probe.now) self.now }
@@ -20,6 +26,12 @@ impl<T: Eq, const N: usize> Set<T, N> {
     }
 
     /// Returns `true` if a stored item matches. Makes one scan.
+    ///
+    /// ```
+    /// let seen = Set::from(["foo", "bar"]);
+    /// assert!(rt; seen.contains_by(&Text("foo")));
+    /// assert!(rt; !seen.contains_by(&Text("qux")));
+    /// ```
     #[inline]
     pub fn contains_by<P: Probe<T>>(&self, probe: &P) -> bool
         ensures answer { result ≡ list_any (P.matches probe.now) self.now }
@@ -30,6 +42,13 @@ impl<T: Eq, const N: usize> Set<T, N> {
     /// Returns `true` if an item that matches can be inserted: a stored item matches, or there is room.
     ///
     /// No item need be made to ask. Compares no item if there is room. Else it makes one scan.
+    ///
+    /// ```
+    /// let mut seen: Set<TextBuf, 1> = Set::new();
+    /// seen.put(TextBuf::new(alloc, "foo")?);
+    /// assert!(rt; seen.fits_by(&Text("foo")));
+    /// assert!(rt; !seen.fits_by(&Text("bar")));
+    /// ```
     #[inline]
     pub fn fits_by<P: Probe<T>>(&self, probe: &P) -> bool
         ensures answer { result ≡ item_fits_by (P.matches probe.now) N self.now }
@@ -42,6 +61,14 @@ impl<T: Eq + Drop, const N: usize> Set<T, N> {
     /// Removes the item that matches, and returns it, or `None` if none does.
     ///
     /// The others keep their order: those behind it move up by one. After `None` the set is unchanged. Makes one scan.
+    ///
+    /// ```
+    /// let mut seen: Set<TextBuf, 4> = Set::new();
+    /// seen.put(TextBuf::new(alloc, "foo")?);
+    /// let taken = seen.take_by(&Text("foo"));
+    /// assert!(rt; taken.is_some_and(|word| word.is("foo")));
+    /// assert!(rt; seen.take_by(&Text("foo")).is_none());
+    /// ```
     #[inline]
     pub fn take_by<P: Probe<T>>(&mut self, probe: &P) -> Option<T>
         ensures answer { result ≡ find (P.matches probe.now) self.old }
@@ -54,6 +81,12 @@ impl<T: Eq + Drop, const N: usize> Set<T, N> {
     /// Removes the item that matches, and returns `true` if there was one.
     ///
     /// The others keep their order: those behind it move up by one. After `false` the set is unchanged. Makes one scan.
+    ///
+    /// ```
+    /// let mut seen = Set::from(["foo", "bar"]);
+    /// assert!(rt; seen.remove_by(&Text("foo")));
+    /// assert!(rt; !seen.remove_by(&Text("foo")));
+    /// ```
     #[inline]
     pub fn remove_by<P: Probe<T>>(&mut self, probe: &P) -> bool
         ensures answer { result ≡ is_some (find (P.matches probe.now) self.old) }

@@ -12,6 +12,12 @@ impl<T: Eq, const N: usize> Set<T, N> {
     ///
     /// Compares no item if this set has more items. Else it makes one scan of `other` for each item, up to the first
     /// that has no equal one.
+    ///
+    /// ```
+    /// let set = Set::from([1, 2]);
+    /// assert!(rt; set.is_subset(&Set::from([3, 2, 1])));
+    /// assert!(rt; !set.is_subset(&Set::from([1, 3])));
+    /// ```
     pub fn is_subset<const M: usize>(&self, other: &Set<T, M>) -> bool
         ensures answer { result ≡ list_all (is_member T.eq other.now) self.now }
         ensures members { IsTrue result ↔ IsSubset T.eq self.now other.now }
@@ -25,6 +31,12 @@ impl<T: Eq, const N: usize> Set<T, N> {
     }
 
     /// Returns `true` if each item of `other` has an equal one in this set. It is `other.is_subset(self)`.
+    ///
+    /// ```
+    /// let set = Set::from([1, 2]);
+    /// assert!(rt; set.is_superset(&Set::from([2])));
+    /// assert!(rt; !set.is_superset(&Set::from([3])));
+    /// ```
     pub fn is_superset<const M: usize>(&self, other: &Set<T, M>) -> bool
         ensures answer { result ≡ list_all (is_member T.eq self.now) other.now }
         ensures members { IsTrue result ↔ IsSubset T.eq other.now self.now }
@@ -36,6 +48,12 @@ impl<T: Eq, const N: usize> Set<T, N> {
     ///
     /// Makes one scan of the longer set for each item of the shorter, up to the first that has an equal one. If both
     /// are equally long, it takes the items of this set.
+    ///
+    /// ```
+    /// let set = Set::from([1, 2]);
+    /// assert!(rt; set.is_disjoint(&Set::from([3, 4])));
+    /// assert!(rt; !set.is_disjoint(&Set::from([2, 3])));
+    /// ```
     pub fn is_disjoint<const M: usize>(&self, other: &Set<T, M>) -> bool
         ensures answer { result ≡ list_all (λ x. not (is_member T.eq other.now x)) self.now }
         ensures swapped { result ≡ list_all (λ x. not (is_member T.eq self.now x)) other.now }

@@ -9,6 +9,13 @@ impl<T: Eq + Drop, const N: usize> Set<T, N> {
     /// Removes the item that equals `item`, and returns it, or `None` if there is none.
     ///
     /// The others keep their order: those behind it move up by one. After `None` the set is unchanged. Makes one scan.
+    ///
+    /// ```
+    /// let mut set = Set::from([1, 2, 3]);
+    /// assert_eq!(rt; set.take(&1), Some(1));
+    /// assert_eq!(rt; set.take(&1), None);
+    /// assert!(rt; set.iter().eq(&[2, 3]));
+    /// ```
     #[inline]
     pub fn take(&mut self, item: &T) -> Option<T>
         ensures answer { result ≡ find_item T.eq self.old item.now }
@@ -21,6 +28,12 @@ impl<T: Eq + Drop, const N: usize> Set<T, N> {
     /// Removes the item that equals `item`, and returns `true` if there was one.
     ///
     /// The others keep their order: those behind it move up by one. After `false` the set is unchanged. Makes one scan.
+    ///
+    /// ```
+    /// let mut set = Set::from([1, 2]);
+    /// assert!(rt; set.remove(&1));
+    /// assert!(rt; !set.remove(&1));
+    /// ```
     #[inline]
     pub fn remove(&mut self, item: &T) -> bool
         ensures answer { result ≡ is_member T.eq self.old item.now }
@@ -33,6 +46,13 @@ impl<T: Eq + Drop, const N: usize> Set<T, N> {
     /// Removes the first item, and returns it, or `None` if the set is empty.
     ///
     /// The others keep their order: each moves up by one. Compares no item.
+    ///
+    /// ```
+    /// let mut set = Set::from([2, 1]);
+    /// assert_eq!(rt; set.pop_first(), Some(2));
+    /// assert_eq!(rt; set.pop_first(), Some(1));
+    /// assert_eq!(rt; set.pop_first(), None);
+    /// ```
     #[inline]
     pub fn pop_first(&mut self) -> Option<T>
         ensures answer { result ≡ slice_get self.old 0 }
@@ -45,6 +65,13 @@ impl<T: Eq + Drop, const N: usize> Set<T, N> {
     /// Removes the last item, and returns it, or `None` if the set is empty.
     ///
     /// The others stay where they are. Compares no item.
+    ///
+    /// ```
+    /// let mut set = Set::from([2, 1]);
+    /// assert_eq!(rt; set.pop_last(), Some(1));
+    /// assert_eq!(rt; set.pop_last(), Some(2));
+    /// assert_eq!(rt; set.pop_last(), None);
+    /// ```
     #[inline]
     pub fn pop_last(&mut self) -> Option<T>
         ensures answer { result ≡ slice_get self.old (length self.old - 1) }

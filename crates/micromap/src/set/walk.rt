@@ -19,6 +19,11 @@ pub type Drain<T, const N: usize> = IntoIter<T, N>;
 
 impl<T: Eq, const N: usize> Set<T, N> {
     /// Returns an iterator over the items by reference, from the front.
+    ///
+    /// ```
+    /// let set = Set::from([2, 1, 2]);
+    /// assert!(rt; set.iter().eq(&[2, 1]));
+    /// ```
     #[inline]
     pub fn iter(&self) -> Iter<'_, T>
         ensures answer { result ≡ self.now }
@@ -35,6 +40,12 @@ impl<T: Eq + Drop, const N: usize> Set<T, N> {
     ///
     /// The set is empty as soon as the call returns. Items that aren't taken are dropped with the iterator. A caller that
     /// is generic in `T` requires `SetIntoIterFits T.row N.row`, or calls `pop_first`.
+    ///
+    /// ```
+    /// let mut set = Set::from([2, 1]);
+    /// assert_eq!(rt; set.drain().next(), Some(2));
+    /// assert!(rt; set.is_empty());
+    /// ```
     #[inline]
     pub fn drain(&mut self) -> Drain<T, N>
         ensures answer { result ≡ self.old }
@@ -57,6 +68,14 @@ impl<T: Eq + Drop, const N: usize> Set<T, N> {
 
 /// A loop over a set yields its items by value, from the front. Items that aren't taken are dropped with the iterator. A
 /// caller that is generic in `T` requires `SetIntoIterFits T.row N.row`.
+///
+/// ```
+/// let mut largest = 0;
+/// for item in Set::from([1, 3, 2]) {
+///     largest = item.max(largest);
+/// }
+/// assert_eq!(rt; largest, 3);
+/// ```
 impl<T: Eq + Drop, const N: usize> IntoIterator for Set<T, N> {
     type Item = T;
 
@@ -70,6 +89,13 @@ impl<T: Eq + Drop, const N: usize> IntoIterator for Set<T, N> {
 }
 
 /// A loop over a reference to a set yields references to its items, from the front.
+///
+/// ```
+/// let set = Set::from([1, 2]);
+/// for item in &set {
+///     assert!(rt; set.contains(item));
+/// }
+/// ```
 impl<'a, T: Eq, const N: usize> IntoIterator for &'a Set<T, N> {
     type Item = &'a T;
 

@@ -19,6 +19,12 @@ impl<K: Eq + Copy, V: Copy, const N: usize> From<[(K, V); N]> for Map<K, V, N> {
     /// Creates a map of the items of an array: each distinct key as it first came, with the value of its last item.
     ///
     /// Every item fits. Compares any two keys at most once. If some are equal, makes one scan for each item as well.
+    ///
+    /// ```
+    /// let map = Map::from([(1, 'a'), (2, 'b'), (1, 'c')]);
+    /// assert_eq!(rt; map.capacity(), 3);
+    /// assert!(rt; map.into_iter().eq([(1, 'c'), (2, 'b')]));
+    /// ```
     fn from(items: [(K, V); N]) -> Self {
         if !are_distinct(&items) {
             return from_repeated(items);
@@ -73,6 +79,13 @@ impl<K: Eq + Drop, V: Drop, const N: usize> Map<K, V, N> {
     ///
     /// Requires that the iterator ends, after fewer than `usize::MAX` items. After an `Err`, the map is full, and has all
     /// items before that position. The item at it is dropped, and no later item is taken. Makes one scan for each item.
+    ///
+    /// ```
+    /// let mut map: Map<u8, char, 2> = Map::new();
+    /// let ended = map.try_extend([(1, 'a'), (2, 'b'), (1, 'c'), (3, 'd')].into_iter());
+    /// assert_eq!(rt; ended, Err(Overfull { at: 3 }));
+    /// assert!(rt; map.into_iter().eq([(1, 'c'), (2, 'b')]));
+    /// ```
     pub fn try_extend<I: Iterator<Item = (K, V)>>(&mut self, items: I) -> Result<(), Overfull>
         requires can { I.can_next items }
         requires ends { UpTo (I.remaining items) most_items }
@@ -99,6 +112,14 @@ impl<K: Eq + Drop, V: Drop, const N: usize> Map<K, V, N> {
     /// Requires that the iterator ends, after fewer than `usize::MAX` items. The result is `Err` exactly if the items
     /// have more than `N` distinct keys. Then at least `N` items came before the one that didn't fit, and these and those
     /// left are dropped. Makes one scan for each item.
+    ///
+    /// ```
+    /// let items = [(1, 'a'), (2, 'b'), (1, 'c')];
+    /// let map: Result<Map<u8, char, 2>, Overfull> = Map::try_from_iter(items.into_iter());
+    /// assert!(rt; map.is_ok_and(|map| map.get(&1) == Some(&'c')));
+    /// let small: Result<Map<u8, char, 1>, Overfull> = Map::try_from_iter(items.into_iter());
+    /// assert!(rt; matches!(small, Err(Overfull { at: 1 })));
+    /// ```
     pub fn try_from_iter<I: Iterator<Item = (K, V)>>(items: I) -> Result<Self, Overfull>
         requires can { I.can_next items }
         requires ends { UpTo (I.remaining items) most_items }
@@ -140,6 +161,14 @@ impl<K: Eq + Drop, V: Drop, const N: usize> Map<K, V, N> {
     ///
     /// Requires that the iterator ends. Takes every item, even after one that doesn't fit. The result is `None` exactly
     /// if the items have more than `N` distinct keys: then all are dropped. Makes one scan for each item.
+    ///
+    /// ```
+    /// let items = [(1, 'a'), (2, 'b'), (1, 'c')];
+    /// let map: Option<Map<u8, char, 2>> = Map::from_all(items.into_iter());
+    /// assert!(rt; map.is_some_and(|map| map.get(&1) == Some(&'c')));
+    /// let small: Option<Map<u8, char, 1>> = Map::from_all(items.into_iter());
+    /// assert!(rt; small.is_none());
+    /// ```
     pub fn from_all<I: Iterator<Item = (K, V)>>(items: I) -> Option<Self>
         requires can { I.can_next items }
         requires ends { IsFinite (I.remaining items) }
@@ -159,6 +188,12 @@ impl<K: Eq + Drop, V: Drop, const N: usize> Map<K, V, N> {
     ///
     /// Requires that the iterator ends. An item with a new key doesn't fit a full map: it is dropped, and the next ones
     /// are taken. Makes one scan for each item.
+    ///
+    /// ```
+    /// let items = [(1, 'a'), (2, 'b'), (1, 'c')];
+    /// let map: Map<u8, char, 1> = Map::from_fitting(items.into_iter());
+    /// assert!(rt; map.into_iter().eq([(1, 'c')]));
+    /// ```
     pub fn from_fitting<I: Iterator<Item = (K, V)>>(items: I) -> Self
         requires can { I.can_next items }
         requires ends { IsFinite (I.remaining items) }

@@ -9,6 +9,13 @@ impl<K: Eq + Drop, V: Drop, const N: usize> Map<K, V, N> {
     ///
     /// The result is `Err` exactly if there are more than `M` pairs. The error is this map, unchanged. Moves each pair
     /// once, and compares no key.
+    ///
+    /// ```
+    /// let large = Map::from([(1, 'a'), (2, 'b')]).into_capacity::<3>();
+    /// assert!(rt; large.is_ok_and(|mut map| map.put(3, 'c')));
+    /// let small = Map::from([(1, 'a'), (2, 'b')]).into_capacity::<1>();
+    /// assert!(rt; small.is_err_and(|map| map.len() == 2));
+    /// ```
     pub fn into_capacity<const M: usize>(self) -> Result<Map<K, V, M>, Self>
         ensures refuses { IsErr result ↔ (M < length self) }
         ensures pairs { IfOk result (λ map. map ≡ self) }

@@ -16,6 +16,14 @@ impl<K: Eq + Clone + Drop, V: Clone + Drop, const N: usize> Map<K, V, N> {
     ///
     /// Requires that a key's clone is equal to the key. The result is `Err` only if the clone of a key or a value is;
     /// then the clones made so far are dropped. This map is unchanged in any case. Compares no key.
+    ///
+    /// ```
+    /// let mut names: Map<u8, TextBuf, 2> = Map::new();
+    /// names.put(1, TextBuf::new(alloc, "Ada")?);
+    /// let mut clone = names.clone()?;
+    /// names.clear();
+    /// assert!(rt; clone.remove(&1).is_some_and(|name| name.is("Ada")));
+    /// ```
     pub fn clone(&self) -> Result<Self, AllocError>
         requires { ClonesAreEqual K.eq K.is_clone }
         ensures clones { IfOk result (AllZip (IsPairClone K.is_clone V.is_clone) self.now) }
@@ -94,6 +102,13 @@ impl<K: Eq + Copy, V: Copy, const N: usize> Map<K, V, N> {
     /// Returns a copy of this map: the same pairs, in the same order.
     ///
     /// Copies all keys of a full map at once, and then all values; of any other, pair after pair. Compares no key.
+    ///
+    /// ```
+    /// let mut map = Map::from([(1, 'a'), (2, 'b')]);
+    /// let before = map.copied();
+    /// map.clear();
+    /// assert!(rt; before.keys().eq(&[1, 2]));
+    /// ```
     pub fn copied(&self) -> Self
         ensures answer { result ≡ self.now }
         ensures content { IsContent K.eq N result }

@@ -16,6 +16,12 @@ impl<K: Eq + Drop, V: Drop, const N: usize> Map<K, V, N> {
     ///
     /// The kept pairs stay in their order, with the values that `keep` left. `keep` is called on the pairs from front
     /// to end, once each. Moves each kept pair at most once. Compares no key.
+    ///
+    /// ```
+    /// let mut map = Map::from([(1, 10), (2, 20), (3, 30)]);
+    /// map.retain(|key, value| *key == 1 || *value == 30);
+    /// assert!(rt; map.keys().eq(&[1, 3]));
+    /// ```
     pub fn retain<F: FnMut(&K, &mut V) -> bool>(&mut self, keep: F)
         requires { CallableOnEachPair (CalledOnPair F.FnMut) (AcceptsPair F.FnMut) keep self.old }
         ensures pairs { RetainsPairs (CalledOnPair F.FnMut) keep self.old self.new }
@@ -31,6 +37,12 @@ impl<K: Eq, V, const N: usize> Map<K, V, N> {
     /// Calls `update` on each key and its value, from front to end.
     ///
     /// Keys, order and length stay. Compares no key.
+    ///
+    /// ```
+    /// let mut map: Map<u8, u8, 2> = Map::from([(1, 10), (2, 20)]);
+    /// map.update_all(|key, value| *value = value.saturating_sub(*key));
+    /// assert!(rt; map.values().eq(&[9, 18]));
+    /// ```
     pub fn update_all<F: FnMut(&K, &mut V)>(&mut self, update: F)
         requires { MayUpdateAll F.FnMut update self.old }
         ensures pairs { UpdatesAll F.FnMut update self.old self.new }

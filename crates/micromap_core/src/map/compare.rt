@@ -24,6 +24,12 @@ impl<K: Eq, V: Eq, const N: usize> Map<K, V, N> {
     /// Compares no key if the lengths differ. Else it makes one scan of `other` for each key of this map, up to and
     /// including the first that `other` lacks or has with an unequal value. At most as many keys are compared as the
     /// length times itself. `eq_with_counted` counts its comparisons; only what it adds to the counter is proved.
+    ///
+    /// ```
+    /// let map = Map::from([(1, 'a'), (2, 'b')]);
+    /// assert!(rt; map.eq_with(&Map::from([(2, 'b'), (1, 'a'), (1, 'a')])));
+    /// assert!(rt; !map.eq_with(&Map::from([(1, 'a')])));
+    /// ```
     pub fn eq_with<const M: usize>(&self, other: &Map<K, V, M>) -> bool
         ensures answer { IsTrue result ↔ Same K.eq V.eq self.now other.now }
         ensures each { IsTrue result ↔ ((k : K) → IsTrue (same_at K.eq V.eq self.now other.now k)) }
@@ -102,6 +108,11 @@ impl<K: Eq, V: Eq, const N: usize> Map<K, V, N> {
 }
 
 /// `==` is `eq_with` within one type.
+///
+/// ```
+/// assert!(rt; Map::from([(1, 'a'), (2, 'b')]) == Map::from([(2, 'b'), (1, 'a')]));
+/// assert!(rt; Map::from([(1, 'a')]) != Map::from([(1, 'b')]));
+/// ```
 impl<K: Eq, V: Eq, const N: usize> PartialEq for Map<K, V, N> {
     ghost eq = { is_same K.eq V.eq };
 

@@ -16,6 +16,13 @@ impl<K: Eq, V, const N: usize> Map<K, V, N> {
     ///
     /// Requires `steps.count() + len() < 2^128`. Adds the index of the key plus one, or the length if the key is
     /// missing.
+    ///
+    /// ```
+    /// let map = Map::from([(1, 'a'), (2, 'b'), (3, 'c')]);
+    /// let mut steps = Steps::new();
+    /// assert_eq!(rt; map.get_counted(&2, &mut steps), Some(&'b'));
+    /// assert_eq!(rt; steps.count(), 2);
+    /// ```
     pub fn get_counted(&self, key: &K, steps: &mut Steps) -> Option<&V>
         requires { steps.old + length self.now < 2 ^ 128 }
         ensures answer { option_copied result ≡ at K.eq self.now key.now }

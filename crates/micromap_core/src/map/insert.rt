@@ -13,6 +13,15 @@ impl<K: Eq + Drop, V: Drop, const N: usize> Map<K, V, N> {
     ///
     /// Requires that an equal key is stored or the map has room, which `fits` tests. A stored key stays, and its value
     /// is replaced. A new pair goes last. Makes one scan.
+    ///
+    /// ```
+    /// let mut map: Map<u8, char, 1> = Map::new();
+    /// assert_eq!(rt; map.insert(1, 'a'), None);
+    /// if map.fits(&1) {
+    ///     assert_eq!(rt; map.insert(1, 'b'), Some('a'));
+    /// }
+    /// assert!(rt; !map.fits(&2));
+    /// ```
     #[inline]
     pub fn insert(&mut self, key: K, value: V) -> Option<V>
         requires { IsTrue (fits K.eq N self.old key) }
@@ -30,6 +39,13 @@ impl<K: Eq + Drop, V: Drop, const N: usize> Map<K, V, N> {
     }
 
     /// Inserts the pair as `insert` does, with the same precondition. It is safe, and kept for ported code.
+    ///
+    /// ```
+    /// let mut map = Map::from([(1, 'a'), (2, 'b')]);
+    /// if map.fits(&2) {
+    ///     assert_eq!(rt; map.insert_unchecked(2, 'c'), Some('b'));
+    /// }
+    /// ```
     #[inline]
     pub fn insert_unchecked(&mut self, key: K, value: V) -> Option<V>
         requires { IsTrue (fits K.eq N self.old key) }
@@ -44,6 +60,13 @@ impl<K: Eq + Drop, V: Drop, const N: usize> Map<K, V, N> {
     ///
     /// Requires that an equal key is stored or the map has room, which `fits` tests. A stored pair is replaced, with
     /// its key. A new pair goes last. Makes one scan.
+    ///
+    /// ```
+    /// let mut map = Map::from([(1, 'a'), (2, 'b')]);
+    /// if map.fits(&2) {
+    ///     assert_eq!(rt; map.insert_key_value(2, 'c'), Some((2, 'b')));
+    /// }
+    /// ```
     #[inline]
     pub fn insert_key_value(&mut self, key: K, value: V) -> Option<(K, V)>
         requires { IsTrue (fits K.eq N self.old key) }
@@ -92,6 +115,14 @@ impl<K: Eq + Drop, V: Drop, const N: usize> Map<K, V, N> {
     ///
     /// A stored key stays, and its value is replaced, in a full map too. A new pair goes last. A pair with a new key
     /// doesn't fit a full map: then the map is unchanged, and the key and the value are dropped. Makes one scan.
+    ///
+    /// ```
+    /// let mut map: Map<u8, char, 1> = Map::new();
+    /// assert!(rt; map.put(1, 'a'));
+    /// assert!(rt; map.put(1, 'b'));
+    /// assert!(rt; !map.put(2, 'c'));
+    /// assert_eq!(rt; map.get(&1), Some(&'b'));
+    /// ```
     #[inline]
     pub fn put(&mut self, key: K, value: V) -> bool
         ensures answer { result ≡ fits K.eq N self.old key }

@@ -16,6 +16,12 @@ impl<K: Eq, V, const N: usize> Map<K, V, N> {
     ///
     /// Makes one scan. It compares as many keys as the index of the key plus one, or as the length if the key is
     /// missing. `get_counted` counts its comparisons; only what it adds to the counter is proved.
+    ///
+    /// ```
+    /// let map = Map::from([(1, 'a'), (2, 'b')]);
+    /// assert_eq!(rt; map.get(&2), Some(&'b'));
+    /// assert_eq!(rt; map.get(&3), None);
+    /// ```
     #[inline]
     pub fn get(&self, key: &K) -> Option<&V>
         ensures answer { option_copied result ≡ at K.eq self.now key.now }
@@ -27,6 +33,14 @@ impl<K: Eq, V, const N: usize> Map<K, V, N> {
     /// Returns a mutable reference to the value of `key`, or `None` if the key is missing.
     ///
     /// After the borrow ends the map has what was written, and all else is unchanged. Makes one scan.
+    ///
+    /// ```
+    /// let mut map = Map::from([(1, 'a'), (2, 'b')]);
+    /// if let Some(value) = map.get_mut(&2) {
+    ///     *value = 'c';
+    /// }
+    /// assert_eq!(rt; map.get(&2), Some(&'c'));
+    /// ```
     #[inline]
     pub fn get_mut(&mut self, key: &K) -> Option<&mut V>
         ensures* writes_back { sem 𝓛 (lends_at_if K.row V.row N.row K.eq self.entry key.now result) }
@@ -39,6 +53,12 @@ impl<K: Eq, V, const N: usize> Map<K, V, N> {
     }
 
     /// Returns references to the stored key and its value, or `None` if the key is missing. Makes one scan.
+    ///
+    /// ```
+    /// let map = Map::from([(1, 'a'), (2, 'b')]);
+    /// assert_eq!(rt; map.get_key_value(&2), Some((&2, &'b')));
+    /// assert_eq!(rt; map.get_key_value(&3), None);
+    /// ```
     #[inline]
     pub fn get_key_value(&self, key: &K) -> Option<(&K, &V)>
         ensures answer { option_map deref_pair result ≡ pair K.eq self.now key.now }
@@ -48,6 +68,13 @@ impl<K: Eq, V, const N: usize> Map<K, V, N> {
     }
 
     /// Returns references to the first key and its value, or `None` if the map is empty. Compares no key.
+    ///
+    /// ```
+    /// let mut map = Map::from([(2, 'b'), (1, 'a')]);
+    /// assert_eq!(rt; map.first(), Some((&2, &'b')));
+    /// map.clear();
+    /// assert_eq!(rt; map.first(), None);
+    /// ```
     #[inline]
     pub fn first(&self) -> Option<(&K, &V)>
         ensures answer { option_map deref_pair result ≡ slice_get self.now 0 }
@@ -59,6 +86,13 @@ impl<K: Eq, V, const N: usize> Map<K, V, N> {
     }
 
     /// Returns references to the last key and its value, or `None` if the map is empty. Compares no key.
+    ///
+    /// ```
+    /// let mut map = Map::from([(2, 'b'), (1, 'a')]);
+    /// assert_eq!(rt; map.last(), Some((&1, &'a')));
+    /// map.clear();
+    /// assert_eq!(rt; map.last(), None);
+    /// ```
     #[inline]
     pub fn last(&self) -> Option<(&K, &V)>
         ensures answer { option_map deref_pair result ≡ slice_get self.now (length self.now - 1) }
@@ -70,6 +104,12 @@ impl<K: Eq, V, const N: usize> Map<K, V, N> {
     }
 
     /// Returns `true` if a stored key equals `key`. Makes one scan.
+    ///
+    /// ```
+    /// let map = Map::from([(1, 'a'), (2, 'b')]);
+    /// assert!(rt; map.contains_key(&2));
+    /// assert!(rt; !map.contains_key(&3));
+    /// ```
     #[inline]
     pub fn contains_key(&self, key: &K) -> bool
         ensures answer { result ≡ has K.eq self.now key.now }
@@ -80,6 +120,12 @@ impl<K: Eq, V, const N: usize> Map<K, V, N> {
     /// Returns `true` if a pair with this key can be inserted: an equal key is stored, or there is room.
     ///
     /// Compares no key if there is room. Else it makes one scan.
+    ///
+    /// ```
+    /// let full = Map::from([(1, 'a'), (2, 'b')]);
+    /// assert!(rt; full.fits(&2));
+    /// assert!(rt; !full.fits(&3));
+    /// ```
     #[inline]
     pub fn fits(&self, key: &K) -> bool
         ensures answer { result ≡ fits K.eq N self.now key.now }
@@ -90,6 +136,13 @@ impl<K: Eq, V, const N: usize> Map<K, V, N> {
     /// Returns a reference to the value of `key`.
     ///
     /// Requires that the key is stored, which `contains_key` tests. Makes one scan.
+    ///
+    /// ```
+    /// let map = Map::from([(1, 'a'), (2, 'b')]);
+    /// if map.contains_key(&2) {
+    ///     assert_eq!(rt; *map.index(&2), 'b');
+    /// }
+    /// ```
     #[inline]
     pub fn index(&self, key: &K) -> &V
         requires { IsTrue (has K.eq self.now key.now) }
@@ -105,6 +158,14 @@ impl<K: Eq, V, const N: usize> Map<K, V, N> {
     ///
     /// Requires that the key is stored, which `contains_key` tests. After the borrow ends the map has what was written,
     /// and all else is unchanged. Makes one scan.
+    ///
+    /// ```
+    /// let mut map = Map::from([(1, 'a'), (2, 'b')]);
+    /// if map.contains_key(&2) {
+    ///     *map.index_mut(&2) = 'c';
+    /// }
+    /// assert_eq!(rt; map.get(&2), Some(&'c'));
+    /// ```
     #[inline]
     pub fn index_mut(&mut self, key: &K) -> &mut V
         requires { IsTrue (has K.eq self.old key.now) }
@@ -120,6 +181,12 @@ impl<K: Eq, V, const N: usize> Map<K, V, N> {
 
 impl<K: Eq, V: Copy, const N: usize> Map<K, V, N> {
     /// Returns a copy of the value of `key`, or `default` if the key is missing. Makes one scan.
+    ///
+    /// ```
+    /// let counts = Map::from([("foo", 3), ("bar", 1)]);
+    /// assert_eq!(rt; counts.get_or(&"foo", 0), 3);
+    /// assert_eq!(rt; counts.get_or(&"qux", 0), 0);
+    /// ```
     #[inline]
     pub fn get_or(&self, key: &K, default: V) -> V
         ensures answer { result ≡ unwrap_or (at K.eq self.now key.now) default }
@@ -129,6 +196,13 @@ impl<K: Eq, V: Copy, const N: usize> Map<K, V, N> {
 }
 
 /// `map[&key]` is the value of a key. Requires that the key is stored, which `contains_key` tests. Makes one scan.
+///
+/// ```
+/// let map = Map::from([(1, 'a'), (2, 'b')]);
+/// if map.contains_key(&2) {
+///     assert_eq!(rt; map[&2], 'b');
+/// }
+/// ```
 impl<'k, K: Eq, V, const N: usize> Index<&'k K> for Map<K, V, N> {
     type Output = V;
 
@@ -143,6 +217,14 @@ impl<'k, K: Eq, V, const N: usize> Index<&'k K> for Map<K, V, N> {
 }
 
 /// `map[&key]` can be written too, as by `index_mut`.
+///
+/// ```
+/// let mut map = Map::from([(1, 'a'), (2, 'b')]);
+/// if map.contains_key(&2) {
+///     map[&2] = 'c';
+/// }
+/// assert_eq!(rt; map.get(&2), Some(&'c'));
+/// ```
 impl<'k, K: Eq, V, const N: usize> IndexMut<&'k K> for Map<K, V, N> {
     #[inline]
     fn index_mut(&mut self, key: &'k K) -> &mut V

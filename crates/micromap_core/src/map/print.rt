@@ -7,6 +7,11 @@ use std::fmt::Write;
 
 /// `{k: v, k: v}`, from the front. Width and other flags are ignored. An error of the writer ends the printing and is
 /// returned.
+///
+/// ```
+/// let map = Map::from([(2, 'b'), (1, 'a')]);
+/// assert_eq!(rt; map.to_string(alloc)?.as_str(), "{2: b, 1: a}");
+/// ```
 impl<K: Eq + fmt::Display, V: fmt::Display, const N: usize> fmt::Display for Map<K, V, N> {
     ghost output = { map_text K.output V.output };
 

@@ -10,6 +10,13 @@ impl<K: Eq + Drop, V: Drop, const N: usize> Map<K, V, N> {
     /// Removes the pair of `key`, and returns its value, or `None` if the key is missing.
     ///
     /// The others keep their order: those behind it move up by one. After `None` the map is unchanged. Makes one scan.
+    ///
+    /// ```
+    /// let mut map = Map::from([(1, 'a'), (2, 'b'), (3, 'c')]);
+    /// assert_eq!(rt; map.remove(&1), Some('a'));
+    /// assert_eq!(rt; map.remove(&1), None);
+    /// assert!(rt; map.keys().eq(&[2, 3]));
+    /// ```
     #[inline]
     #[tactic(auto, unfolding(crate::specs::Pairs::take_out))]
     pub fn remove(&mut self, key: &K) -> Option<V>
@@ -24,6 +31,12 @@ impl<K: Eq + Drop, V: Drop, const N: usize> Map<K, V, N> {
     /// Removes the pair of `key`, and returns the stored key and its value, or `None` if the key is missing.
     ///
     /// The others keep their order: those behind it move up by one. After `None` the map is unchanged. Makes one scan.
+    ///
+    /// ```
+    /// let mut map = Map::from([(1, 'a'), (2, 'b')]);
+    /// assert_eq!(rt; map.remove_entry(&1), Some((1, 'a')));
+    /// assert_eq!(rt; map.remove_entry(&1), None);
+    /// ```
     #[inline]
     #[tactic(auto, unfolding(crate::specs::Pairs::take_out))]
     pub fn remove_entry(&mut self, key: &K) -> Option<(K, V)>
@@ -37,6 +50,13 @@ impl<K: Eq + Drop, V: Drop, const N: usize> Map<K, V, N> {
     /// Removes the first pair, and returns it, or `None` if the map is empty.
     ///
     /// The others keep their order: each moves up by one. Compares no key.
+    ///
+    /// ```
+    /// let mut map = Map::from([(2, 'b'), (1, 'a')]);
+    /// assert_eq!(rt; map.pop_first(), Some((2, 'b')));
+    /// assert_eq!(rt; map.pop_first(), Some((1, 'a')));
+    /// assert_eq!(rt; map.pop_first(), None);
+    /// ```
     #[inline]
     #[tactic(auto, unfolding(crate::specs::Pairs::without_at))]
     pub fn pop_first(&mut self) -> Option<(K, V)>
@@ -53,6 +73,13 @@ impl<K: Eq + Drop, V: Drop, const N: usize> Map<K, V, N> {
     /// Removes the last pair, and returns it, or `None` if the map is empty.
     ///
     /// The others stay where they are. Compares no key.
+    ///
+    /// ```
+    /// let mut map = Map::from([(2, 'b'), (1, 'a')]);
+    /// assert_eq!(rt; map.pop_last(), Some((1, 'a')));
+    /// assert_eq!(rt; map.pop_last(), Some((2, 'b')));
+    /// assert_eq!(rt; map.pop_last(), None);
+    /// ```
     #[inline]
     pub fn pop_last(&mut self) -> Option<(K, V)>
         ensures answer { result ≡ slice_get self.old (length self.old - 1) }

@@ -10,6 +10,13 @@ impl<K: Eq, V, const N: usize> Map<K, V, N> {
     /// Writes the pairs to the sink, from the front, up to the sink's first error, which is returned.
     ///
     /// Requires `sink.faults() < u128::MAX`. Compares nothing.
+    ///
+    /// ```
+    /// let map = Map::from([(1, 'a'), (2, 'b')]);
+    /// let mut sink = VecSink::new(alloc);
+    /// map.write_entries(&mut sink)?;
+    /// assert!(rt; sink.entries() == [(1, 'a'), (2, 'b')].as_slice());
+    /// ```
     pub fn write_entries<S: EntrySink<K, V>>(&self, sink: &mut S) -> Result<(), S::Error>
         requires { S.faults sink.old < most_faults }
         ensures whole { OnOk result (S.taken sink.new ≡ S.taken sink.old ++ self.now) }
@@ -31,6 +38,14 @@ impl<K: Eq + Drop, V: Drop, const N: usize> Map<K, V, N> {
     /// Each has the value of its last pair. Reading ends at the end of the source, at its first error, or at the first
     /// pair that doesn't fit. Nothing after that is taken. After an `Err` the pairs taken are dropped. Makes one scan
     /// for each pair.
+    ///
+    /// ```
+    /// let pairs = [(1, 'a'), (1, 'b'), (2, 'c')];
+    /// let map: Result<Map<u8, char, 2>, _> = Map::read_entries(&mut SliceSource::over(&pairs));
+    /// assert!(rt; map.is_ok_and(|map| map.get(&1) == Some(&'b')));
+    /// let small: Result<Map<u8, char, 1>, _> = Map::read_entries(&mut SliceSource::over(&pairs));
+    /// assert!(rt; matches!(small, Err(ReadFault::TooMany)));
+    /// ```
     pub fn read_entries<S: EntrySource<K, V>>(source: &mut S) -> Result<Self, ReadFault<S::Error>>
         requires { S.faults source.old < most_faults }
         ensures reads { let stream = stream_of S.left S.faults S.last_fault in

@@ -15,6 +15,11 @@ use std::mem;
 
 impl<K: Eq, V, const N: usize> Map<K, V, N> {
     /// Returns an iterator over the pairs by reference, from the front.
+    ///
+    /// ```
+    /// let map = Map::from([(2, 'b'), (1, 'a')]);
+    /// assert!(rt; map.iter().eq([(&2, &'b'), (&1, &'a')]));
+    /// ```
     #[inline]
     pub fn iter(&self) -> Iter<'_, K, V>
         ensures answer { result ≡ self.now }
@@ -26,6 +31,11 @@ impl<K: Eq, V, const N: usize> Map<K, V, N> {
     }
 
     /// Returns an iterator over the keys by reference, from the front.
+    ///
+    /// ```
+    /// let map = Map::from([(2, 'b'), (1, 'a')]);
+    /// assert!(rt; map.keys().eq(&[2, 1]));
+    /// ```
     #[inline]
     pub fn keys(&self) -> Keys<'_, K, V>
         ensures answer { result ≡ keys_of self.now }
@@ -36,6 +46,11 @@ impl<K: Eq, V, const N: usize> Map<K, V, N> {
     }
 
     /// Returns an iterator over the values by reference, from the front.
+    ///
+    /// ```
+    /// let map = Map::from([(2, 'b'), (1, 'a')]);
+    /// assert!(rt; map.values().eq(&['b', 'a']));
+    /// ```
     #[inline]
     pub fn values(&self) -> Values<'_, K, V>
         ensures answer { result ≡ values_of self.now }
@@ -48,6 +63,11 @@ impl<K: Eq, V, const N: usize> Map<K, V, N> {
     /// Returns an iterator over the keys by value, from the front.
     ///
     /// A caller that is generic in `K` and `V` requires `IntoKeysFits K.row V.row N.row`.
+    ///
+    /// ```
+    /// let map = Map::from([(2, 'b'), (1, 'a')]);
+    /// assert!(rt; map.into_keys().eq([2, 1]));
+    /// ```
     #[inline]
     pub fn into_keys(self) -> IntoKeys<K, V, N>
         ensures answer { result ≡ keys_of self }
@@ -62,6 +82,11 @@ impl<K: Eq, V, const N: usize> Map<K, V, N> {
     /// Returns an iterator over the values by value, from the front.
     ///
     /// A caller that is generic in `K` and `V` requires `IntoValuesFits K.row V.row N.row`.
+    ///
+    /// ```
+    /// let map = Map::from([(2, 'b'), (1, 'a')]);
+    /// assert!(rt; map.into_values().eq(['b', 'a']));
+    /// ```
     #[inline]
     pub fn into_values(self) -> IntoValues<K, V, N>
         ensures answer { result ≡ values_of self }
@@ -79,6 +104,12 @@ impl<K: Eq + Drop, V: Drop, const N: usize> Map<K, V, N> {
     ///
     /// The map is empty as soon as the call returns. Pairs that aren't taken are dropped with the iterator. A caller that
     /// is generic in `K` and `V` requires `IntoIterFits K.row V.row N.row`.
+    ///
+    /// ```
+    /// let mut map = Map::from([(2, 'b'), (1, 'a')]);
+    /// assert_eq!(rt; map.drain().next(), Some((2, 'b')));
+    /// assert!(rt; map.is_empty());
+    /// ```
     #[inline]
     pub fn drain(&mut self) -> Drain<K, V, N>
         ensures answer { result ≡ self.old }
@@ -102,6 +133,14 @@ impl<K: Eq + Drop, V: Drop, const N: usize> Map<K, V, N> {
 
 /// A loop over a map yields its pairs by value, from the front. A caller that is generic in `K` and `V` requires
 /// `IntoIterFits K.row V.row N.row`.
+///
+/// ```
+/// let mut largest = 0;
+/// for (_, value) in Map::from([(1, 10), (2, 20)]) {
+///     largest = value.max(largest);
+/// }
+/// assert_eq!(rt; largest, 20);
+/// ```
 impl<K: Eq + Drop, V: Drop, const N: usize> IntoIterator for Map<K, V, N> {
     type Item = (K, V);
 
@@ -115,6 +154,13 @@ impl<K: Eq + Drop, V: Drop, const N: usize> IntoIterator for Map<K, V, N> {
 }
 
 /// A loop over a reference to a map yields references to its keys and values, from the front.
+///
+/// ```
+/// let map = Map::from([(1, 'a'), (2, 'b')]);
+/// for (key, value) in &map {
+///     assert_eq!(rt; map.get(key), Some(value));
+/// }
+/// ```
 impl<'a, K: Eq, V, const N: usize> IntoIterator for &'a Map<K, V, N> {
     type Item = (&'a K, &'a V);
 

@@ -25,6 +25,12 @@ impl<'a, K, V> Model for SliceSource<'a, K, V> {
 
 impl<'a, K, V> SliceSource<'a, K, V> {
     /// Creates a source over the pairs of `entries`.
+    ///
+    /// ```
+    /// let mut source = SliceSource::over(&[(1, 'a')]);
+    /// assert!(rt; source.next_entry() == Ok(Some((1, 'a'))));
+    /// assert!(rt; source.next_entry() == Ok(None));
+    /// ```
     pub fn over(entries: &'a [(K, V)]) -> Self
         ensures { result ≡ entries.now }
     {
@@ -34,6 +40,12 @@ impl<'a, K, V> SliceSource<'a, K, V> {
     }
 
     /// Returns the pairs left.
+    ///
+    /// ```
+    /// let mut source = SliceSource::over(&[(1, 'a'), (2, 'b')]);
+    /// assert!(rt; source.next_entry().is_ok());
+    /// assert!(rt; source.left() == [(2, 'b')].as_slice());
+    /// ```
     pub fn left(&self) -> &[(K, V)]
         ensures { result.now ≡ self.now }
     {

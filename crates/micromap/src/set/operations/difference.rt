@@ -99,6 +99,12 @@ impl<T: Eq, const N: usize> Set<T, N> {
     /// Returns an iterator over the items of this set that have no equal one in `other`, in their order.
     ///
     /// Making it compares nothing. All calls of `next` together make one scan of `other` for each item of this set.
+    ///
+    /// ```
+    /// let first = Set::from([1, 2, 3]);
+    /// let second = Set::from([2, 4]);
+    /// assert!(rt; first.difference(&second).eq(&[1, 3]));
+    /// ```
     #[tactic(auto, unfolding(crate::specs::Operations::difference_remaining))]
     pub fn difference<'a, 'b, const M: usize>(
         &'a self,

@@ -87,6 +87,12 @@ impl<'a, T: Eq, const N: usize> Set<&'a T, N> {
     ///
     /// The references live as long as the items, and may outlive both sets. Making the iterator compares nothing. All
     /// calls of `next` together make one scan of `other` for each reference of this set.
+    ///
+    /// ```
+    /// let first = Set::from([&1, &2, &3]);
+    /// let second = Set::from([&2, &4]);
+    /// assert!(rt; first.difference_ref(&second).eq(&[1, 3]));
+    /// ```
     pub fn difference_ref<'s, const M: usize>(
         &'s self,
         other: &'s Set<&'a T, M>,

@@ -98,6 +98,12 @@ impl<T: Eq, const N: usize> Set<T, N> {
     /// Returns an iterator over the items of this set that have an equal one in `other`, in their order.
     ///
     /// Making it compares nothing. All calls of `next` together make one scan of `other` for each item of this set.
+    ///
+    /// ```
+    /// let first = Set::from([1, 2, 3]);
+    /// let second = Set::from([3, 4, 2]);
+    /// assert!(rt; first.intersection(&second).eq(&[2, 3]));
+    /// ```
     #[tactic(auto, unfolding(crate::specs::Operations::intersection_remaining))]
     pub fn intersection<'a, const M: usize>(
         &'a self,

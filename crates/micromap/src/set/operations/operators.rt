@@ -16,6 +16,12 @@ impl<T: Eq + Clone + Drop, const N: usize> Set<T, N> {
     /// Requires that an item's clone is equal to the item. The result is `Err` only if the clone of a member is; then
     /// the clones made so far are dropped. It costs what `intersection` costs, and for each member one scan of those before
     /// it.
+    ///
+    /// ```
+    /// let first = Set::from([1, 2, 3]);
+    /// let both = first.bitand(&Set::from([3, 4, 2]))?;
+    /// assert!(rt; both.iter().eq(&[2, 3]));
+    /// ```
     pub fn bitand<const M: usize>(&self, other: &Set<T, M>) -> Result<Self, AllocError>
         requires { ClonesAreEqual T.eq T.is_clone }
         ensures clones { IfOk result (AllZip T.is_clone (intersection T.eq self.now other.now)) }
@@ -31,6 +37,12 @@ impl<T: Eq + Clone + Drop, const N: usize> Set<T, N> {
     ///
     /// Requires that an item's clone is equal to the item. The result is `Err` only if the clone of a member is; then
     /// the clones made so far are dropped. It costs what `difference` costs, and for each member one scan of those before it.
+    ///
+    /// ```
+    /// let first = Set::from([1, 2, 3]);
+    /// let rest = first.sub(&Set::from([2, 4]))?;
+    /// assert!(rt; rest.iter().eq(&[1, 3]));
+    /// ```
     pub fn sub<const M: usize>(&self, other: &Set<T, M>) -> Result<Self, AllocError>
         requires { ClonesAreEqual T.eq T.is_clone }
         ensures clones { IfOk result (AllZip T.is_clone (difference T.eq self.now other.now)) }

@@ -98,6 +98,12 @@ impl<T: Eq, const N: usize> Set<T, N> {
     /// that have none in this set, each in their order.
     ///
     /// Making it compares nothing. All calls of `next` together make one scan of each set for each item of the other.
+    ///
+    /// ```
+    /// let first = Set::from([1, 2, 3]);
+    /// let second = Set::from([2, 4]);
+    /// assert!(rt; first.symmetric_difference(&second).eq(&[1, 3, 4]));
+    /// ```
     #[tactic(auto, unfolding(crate::specs::Operations::symmetric_difference, crate::specs::Operations::symmetric_remaining))]
     pub fn symmetric_difference<'a, const M: usize>(
         &'a self,

@@ -38,6 +38,12 @@ impl<K: Eq, V, const N: usize> Map<K, V, N> {
 
 impl<'a, K: Eq, V, const N: usize> EntryIn<'a, K, Map<K, V, N>> {
     /// Returns a reference to the stored key, or to the held key if the entry is vacant.
+    ///
+    /// ```
+    /// let mut map = Map::from([(1, 'a')]);
+    /// assert_eq!(rt; *map.entry(1).key(), 1);
+    /// assert_eq!(rt; *map.entry(2).key(), 2);
+    /// ```
     pub fn key(&self) -> &K
         requires { IsSound K.eq self.now }
         ensures { entry_key self.now ≡ Some result.now }
@@ -49,6 +55,12 @@ impl<'a, K: Eq, V, const N: usize> EntryIn<'a, K, Map<K, V, N>> {
     }
 
     /// Returns `true` if the entry is occupied or the map has room.
+    ///
+    /// ```
+    /// let mut full = Map::from([(1, 'a')]);
+    /// assert!(rt; full.entry(1).has_room());
+    /// assert!(rt; !full.entry(2).has_room());
+    /// ```
     pub fn has_room(&self) -> bool
         ensures { result ≡ entry_has_room N self.now }
     {
@@ -59,6 +71,13 @@ impl<'a, K: Eq, V, const N: usize> EntryIn<'a, K, Map<K, V, N>> {
     }
 
     /// Calls `f` on the value of an occupied entry, and returns the entry.
+    ///
+    /// ```
+    /// let mut map = Map::from([(1, 'a')]);
+    /// map.entry(1).and_modify(|value| *value = 'b');
+    /// map.entry(2).and_modify(|value| *value = 'c');
+    /// assert!(rt; map.into_iter().eq([(1, 'b')]));
+    /// ```
     pub fn and_modify<F: FnOnce(&mut V)>(self, f: F) -> Self
         requires sound { IsSound K.eq self }
         requires callable { (p : MutBor V) → entry_value self ≡ Some p.now → F.pre f p }
@@ -78,6 +97,15 @@ impl<'a, K: Eq + Drop, V: Drop, const N: usize> EntryIn<'a, K, Map<K, V, N>> {
     /// Inserts `default` if the entry is vacant, and returns a mutable reference to the value.
     ///
     /// Requires that the entry is occupied or the map has room, which `has_room` tests. A new pair goes last.
+    ///
+    /// ```
+    /// let mut map: Map<u8, char, 1> = Map::new();
+    /// for default in ['a', 'b'] {
+    ///     if map.fits(&1) {
+    ///         assert_eq!(rt; *map.entry(1).or_insert(default), 'a');
+    ///     }
+    /// }
+    /// ```
     pub fn or_insert(self, default: V) -> &'a mut V
         requires sound { IsSound K.eq self }
         requires room { IsTrue (entry_has_room N self) }
@@ -91,6 +119,13 @@ impl<'a, K: Eq + Drop, V: Drop, const N: usize> EntryIn<'a, K, Map<K, V, N>> {
     ///
     /// Requires that the entry is occupied or the map has room, which `has_room` tests. `default` is called only for a
     /// vacant entry. A new pair goes last.
+    ///
+    /// ```
+    /// let mut map: Map<u8, char, 1> = Map::new();
+    /// if map.fits(&1) {
+    ///     assert_eq!(rt; *map.entry(1).or_insert_with(|| 'a'), 'a');
+    /// }
+    /// ```
     pub fn or_insert_with<F: FnOnce() -> V>(self, default: F) -> &'a mut V
         requires sound { IsSound K.eq self }
         requires room { IsTrue (entry_has_room N self) }
@@ -106,6 +141,14 @@ impl<'a, K: Eq + Drop, V: Drop, const N: usize> EntryIn<'a, K, Map<K, V, N>> {
     ///
     /// Requires that the entry is occupied or the map has room, which `has_room` tests. `default` is called only for a
     /// vacant entry. A new pair goes last.
+    ///
+    /// ```
+    /// let mut lengths: Map<&str, usize, 1> = Map::new();
+    /// if lengths.fits(&"foo") {
+    ///     let length = lengths.entry("foo").or_insert_with_key(|word| word.len());
+    ///     assert_eq!(rt; *length, 3);
+    /// }
+    /// ```
     pub fn or_insert_with_key<F: FnOnce(&K) -> V>(self, default: F) -> &'a mut V
         requires sound { IsSound K.eq self }
         requires room { IsTrue (entry_has_room N self) }
@@ -127,6 +170,13 @@ impl<'a, K: Eq + Drop, V: Drop, const N: usize> EntryIn<'a, K, Map<K, V, N>> {
     /// Inserts a default value if the entry is vacant, and returns a mutable reference to the value.
     ///
     /// Requires that the entry is occupied or the map has room, which `has_room` tests. A new pair goes last.
+    ///
+    /// ```
+    /// let mut counts: Map<char, u8, 1> = Map::new();
+    /// if counts.fits(&'a') {
+    ///     assert_eq!(rt; *counts.entry('a').or_default(), 0);
+    /// }
+    /// ```
     pub fn or_default(self) -> &'a mut V
     where
         V: Default,
@@ -142,6 +192,13 @@ impl<'a, K: Eq + Drop, V: Drop, const N: usize> EntryIn<'a, K, Map<K, V, N>> {
     ///
     /// Requires that the entry is occupied or the map has room, which `has_room` tests. A stored key stays. Else the
     /// held key and the value go last.
+    ///
+    /// ```
+    /// let mut map = Map::from([(1, 'a')]);
+    /// if map.fits(&1) {
+    ///     assert_eq!(rt; *map.entry(1).insert_entry('b').get(), 'b');
+    /// }
+    /// ```
     pub fn insert_entry(self, value: V) -> OccupiedEntry<'a, K, V, N>
         requires sound { IsSound K.eq self }
         requires room { IsTrue (entry_has_room N self) }

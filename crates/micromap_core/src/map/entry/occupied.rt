@@ -8,6 +8,13 @@ use crate::Map;
 
 impl<'a, K: Eq, V, const N: usize> OccupiedIn<'a, Map<K, V, N>> {
     /// Returns a reference to the stored key.
+    ///
+    /// ```
+    /// let mut map = Map::from([(1, 'a')]);
+    /// if let Entry::Occupied(entry) = map.entry(1) {
+    ///     assert_eq!(rt; *entry.key(), 1);
+    /// }
+    /// ```
     pub fn key(&self) -> &K
         requires { IsSound K.eq (Occupied self.now) }
         ensures { entry_key (Occupied self.now) ≡ Some result.now }
@@ -16,6 +23,13 @@ impl<'a, K: Eq, V, const N: usize> OccupiedIn<'a, Map<K, V, N>> {
     }
 
     /// Returns a reference to the value.
+    ///
+    /// ```
+    /// let mut map = Map::from([(1, 'a')]);
+    /// if let Entry::Occupied(entry) = map.entry(1) {
+    ///     assert_eq!(rt; *entry.get(), 'a');
+    /// }
+    /// ```
     pub fn get(&self) -> &V
         requires { IsSound K.eq (Occupied self.now) }
         ensures { entry_value (Occupied self.now) ≡ Some result.now }
@@ -24,6 +38,14 @@ impl<'a, K: Eq, V, const N: usize> OccupiedIn<'a, Map<K, V, N>> {
     }
 
     /// Returns a mutable reference to the value, which borrows the entry.
+    ///
+    /// ```
+    /// let mut map = Map::from([(1, 'a')]);
+    /// if let Entry::Occupied(mut entry) = map.entry(1) {
+    ///     *entry.get_mut() = 'b';
+    ///     assert_eq!(rt; *entry.get(), 'b');
+    /// }
+    /// ```
     #[tactic(auto, unfolding(crate::specs::Entry::entry_put))]
     pub fn get_mut(&mut self) -> &mut V
         requires { IsSound K.eq (Occupied self.old) }
@@ -35,6 +57,14 @@ impl<'a, K: Eq, V, const N: usize> OccupiedIn<'a, Map<K, V, N>> {
     }
 
     /// Converts the entry into a mutable reference to the value, which lives as long as the map's borrow.
+    ///
+    /// ```
+    /// let mut map = Map::from([(1, 'a')]);
+    /// if let Entry::Occupied(entry) = map.entry(1) {
+    ///     *entry.into_mut() = 'b';
+    /// }
+    /// assert_eq!(rt; map.get(&1), Some(&'b'));
+    /// ```
     #[tactic(auto, unfolding(crate::specs::Entry::entry_put))]
     pub fn into_mut(self) -> &'a mut V
         requires { IsSound K.eq (Occupied self) }
@@ -46,6 +76,13 @@ impl<'a, K: Eq, V, const N: usize> OccupiedIn<'a, Map<K, V, N>> {
     }
 
     /// Sets the value, and returns the old value.
+    ///
+    /// ```
+    /// let mut map = Map::from([(1, 'a')]);
+    /// if let Entry::Occupied(mut entry) = map.entry(1) {
+    ///     assert_eq!(rt; entry.insert('b'), 'a');
+    /// }
+    /// ```
     pub fn insert(&mut self, value: V) -> V
         requires { IsSound K.eq (Occupied self.old) }
         ensures old { entry_value (Occupied self.old) ≡ Some result }
@@ -58,6 +95,14 @@ impl<'a, K: Eq, V, const N: usize> OccupiedIn<'a, Map<K, V, N>> {
 
 impl<'a, K: Eq + Drop, V: Drop, const N: usize> OccupiedIn<'a, Map<K, V, N>> {
     /// Removes the pair, and returns its value. The others keep their order: those behind it move up by one.
+    ///
+    /// ```
+    /// let mut map = Map::from([(1, 'a'), (2, 'b')]);
+    /// if let Entry::Occupied(entry) = map.entry(1) {
+    ///     assert_eq!(rt; entry.remove(), 'a');
+    /// }
+    /// assert!(rt; map.keys().eq(&[2]));
+    /// ```
     pub fn remove(self) -> V
         requires { IsSound K.eq (Occupied self) }
         ensures answer { entry_value (Occupied self.entry) ≡ Some result }
@@ -69,6 +114,13 @@ impl<'a, K: Eq + Drop, V: Drop, const N: usize> OccupiedIn<'a, Map<K, V, N>> {
     }
 
     /// Removes the pair, and returns the stored key and its value. The others keep their order, as after `remove`.
+    ///
+    /// ```
+    /// let mut map = Map::from([(1, 'a'), (2, 'b')]);
+    /// if let Entry::Occupied(entry) = map.entry(1) {
+    ///     assert_eq!(rt; entry.remove_entry(), (1, 'a'));
+    /// }
+    /// ```
     pub fn remove_entry(self) -> (K, V)
         requires { IsSound K.eq (Occupied self) }
         ensures key { entry_key (Occupied self.entry) ≡ Some result.0 }

@@ -8,6 +8,13 @@ use crate::Map;
 
 impl<'a, K: Eq, V, const N: usize> VacantIn<'a, K, Map<K, V, N>> {
     /// Returns a reference to the held key.
+    ///
+    /// ```
+    /// let mut map: Map<u8, char, 1> = Map::new();
+    /// if let Entry::Vacant(entry) = map.entry(1) {
+    ///     assert_eq!(rt; *entry.key(), 1);
+    /// }
+    /// ```
     pub fn key(&self) -> &K
         ensures { entry_key (Vacant self.now) ≡ Some result.now }
     {
@@ -15,6 +22,14 @@ impl<'a, K: Eq, V, const N: usize> VacantIn<'a, K, Map<K, V, N>> {
     }
 
     /// Returns the held key by value. The map is unchanged.
+    ///
+    /// ```
+    /// let mut map: Map<u8, char, 1> = Map::new();
+    /// if let Entry::Vacant(entry) = map.entry(1) {
+    ///     assert_eq!(rt; entry.into_key(), 1);
+    /// }
+    /// assert!(rt; map.is_empty());
+    /// ```
     pub fn into_key(self) -> K
         ensures answer { entry_key (Vacant self.entry) ≡ Some result }
         ensures pairs { self.exit.0.now ≡ entry_pairs (Vacant self.entry) }
@@ -24,6 +39,13 @@ impl<'a, K: Eq, V, const N: usize> VacantIn<'a, K, Map<K, V, N>> {
     }
 
     /// Returns `true` if the map has room.
+    ///
+    /// ```
+    /// let mut full = Map::from([(1, 'a')]);
+    /// if let Entry::Vacant(entry) = full.entry(2) {
+    ///     assert!(rt; !entry.has_room());
+    /// }
+    /// ```
     pub fn has_room(&self) -> bool
         ensures { result ≡ entry_has_room N (Vacant self.now) }
     {
@@ -35,6 +57,15 @@ impl<'a, K: Eq + Drop, V: Drop, const N: usize> VacantIn<'a, K, Map<K, V, N>> {
     /// Inserts the held key with `value`, and returns a mutable reference to the value.
     ///
     /// Requires room, which `has_room` tests. The pair goes last.
+    ///
+    /// ```
+    /// let mut map: Map<u8, char, 1> = Map::new();
+    /// if let Entry::Vacant(entry) = map.entry(1) {
+    ///     if entry.has_room() {
+    ///         assert_eq!(rt; *entry.insert('a'), 'a');
+    ///     }
+    /// }
+    /// ```
     pub fn insert(self, value: V) -> &'a mut V
         requires sound { IsSound K.eq (Vacant self) }
         requires room { IsTrue (entry_has_room N (Vacant self)) }
@@ -50,6 +81,15 @@ impl<'a, K: Eq + Drop, V: Drop, const N: usize> VacantIn<'a, K, Map<K, V, N>> {
     /// Inserts the held key with `value`, and returns its occupied entry.
     ///
     /// Requires room, which `has_room` tests. The pair goes last.
+    ///
+    /// ```
+    /// let mut map: Map<u8, char, 1> = Map::new();
+    /// if let Entry::Vacant(entry) = map.entry(1) {
+    ///     if entry.has_room() {
+    ///         assert_eq!(rt; *entry.insert_entry('a').key(), 1);
+    ///     }
+    /// }
+    /// ```
     pub fn insert_entry(self, value: V) -> OccupiedEntry<'a, K, V, N>
         requires sound { IsSound K.eq (Vacant self) }
         requires room { IsTrue (entry_has_room N (Vacant self)) }

@@ -1,0 +1,168 @@
+//! The entries of a map.
+use micromap::Map;
+use micromap::map::Entry;
+
+#[test]
+fn an_entry_has_a_key_and_may_have_room(rt: HostRuntime) {
+    {
+        let mut map = Map::from([(1, 'a')]);
+        assert_eq!(rt; *map.entry(1).key(), 1);
+        assert_eq!(rt; *map.entry(2).key(), 2);
+    }
+    {
+        let mut full = Map::from([(1, 'a')]);
+        assert!(rt; full.entry(1).has_room());
+        assert!(rt; !full.entry(2).has_room());
+    }
+}
+
+#[test]
+fn an_entry_is_modified(rt: HostRuntime) {
+    let mut map = Map::from([(1, 'a')]);
+    map.entry(1).and_modify(|value| *value = 'b');
+    map.entry(2).and_modify(|value| *value = 'c');
+    assert!(rt; map.into_iter().eq([(1, 'b')]));
+}
+
+#[test]
+fn an_entry_gets_a_value(rt: HostRuntime) {
+    let mut map: Map<u8, char, 1> = Map::new();
+    for default in ['a', 'b'] {
+        if map.fits(&1) {
+            assert_eq!(rt; *map.entry(1).or_insert(default), 'a');
+        }
+    }
+}
+
+#[test]
+fn an_entry_gets_a_result(rt: HostRuntime) {
+    {
+        let mut map: Map<u8, char, 1> = Map::new();
+        if map.fits(&1) {
+            assert_eq!(rt; *map.entry(1).or_insert_with(|| 'a'), 'a');
+        }
+    }
+    {
+        let mut lengths: Map<&str, usize, 1> = Map::new();
+        if lengths.fits(&"foo") {
+            let length = lengths.entry("foo").or_insert_with_key(|word| word.len());
+            assert_eq!(rt; *length, 3);
+        }
+    }
+}
+
+#[test]
+fn an_entry_gets_a_default(rt: HostRuntime) {
+    {
+        let mut counts: Map<char, u8, 1> = Map::new();
+        if counts.fits(&'a') {
+            assert_eq!(rt; *counts.entry('a').or_default(), 0);
+        }
+    }
+    {
+        let mut map = Map::from([(1, 'a')]);
+        if map.fits(&1) {
+            assert_eq!(rt; *map.entry(1).insert_entry('b').get(), 'b');
+        }
+    }
+}
+
+#[test]
+fn an_occupied_entry_is_read(rt: HostRuntime) {
+    {
+        let mut map = Map::from([(1, 'a')]);
+        if let Entry::Occupied(entry) = map.entry(1) {
+            assert_eq!(rt; *entry.key(), 1);
+        }
+    }
+    {
+        let mut map = Map::from([(1, 'a')]);
+        if let Entry::Occupied(entry) = map.entry(1) {
+            assert_eq!(rt; *entry.get(), 'a');
+        }
+    }
+}
+
+#[test]
+fn an_occupied_entry_is_written_to(rt: HostRuntime) {
+    {
+        let mut map = Map::from([(1, 'a')]);
+        if let Entry::Occupied(mut entry) = map.entry(1) {
+            *entry.get_mut() = 'b';
+            assert_eq!(rt; *entry.get(), 'b');
+        }
+    }
+    {
+        let mut map = Map::from([(1, 'a')]);
+        if let Entry::Occupied(entry) = map.entry(1) {
+            *entry.into_mut() = 'b';
+        }
+        assert_eq!(rt; map.get(&1), Some(&'b'));
+    }
+    {
+        let mut map = Map::from([(1, 'a')]);
+        if let Entry::Occupied(mut entry) = map.entry(1) {
+            assert_eq!(rt; entry.insert('b'), 'a');
+        }
+    }
+}
+
+#[test]
+fn an_occupied_entry_is_removed(rt: HostRuntime) {
+    {
+        let mut map = Map::from([(1, 'a'), (2, 'b')]);
+        if let Entry::Occupied(entry) = map.entry(1) {
+            assert_eq!(rt; entry.remove(), 'a');
+        }
+        assert!(rt; map.keys().eq(&[2]));
+    }
+    {
+        let mut map = Map::from([(1, 'a'), (2, 'b')]);
+        if let Entry::Occupied(entry) = map.entry(1) {
+            assert_eq!(rt; entry.remove_entry(), (1, 'a'));
+        }
+    }
+}
+
+#[test]
+fn a_vacant_entry_has_its_key(rt: HostRuntime) {
+    {
+        let mut map: Map<u8, char, 1> = Map::new();
+        if let Entry::Vacant(entry) = map.entry(1) {
+            assert_eq!(rt; *entry.key(), 1);
+        }
+    }
+    {
+        let mut map: Map<u8, char, 1> = Map::new();
+        if let Entry::Vacant(entry) = map.entry(1) {
+            assert_eq!(rt; entry.into_key(), 1);
+        }
+        assert!(rt; map.is_empty());
+    }
+    {
+        let mut full = Map::from([(1, 'a')]);
+        if let Entry::Vacant(entry) = full.entry(2) {
+            assert!(rt; !entry.has_room());
+        }
+    }
+}
+
+#[test]
+fn a_vacant_entry_is_filled(rt: HostRuntime) {
+    {
+        let mut map: Map<u8, char, 1> = Map::new();
+        if let Entry::Vacant(entry) = map.entry(1) {
+            if entry.has_room() {
+                assert_eq!(rt; *entry.insert('a'), 'a');
+            }
+        }
+    }
+    {
+        let mut map: Map<u8, char, 1> = Map::new();
+        if let Entry::Vacant(entry) = map.entry(1) {
+            if entry.has_room() {
+                assert_eq!(rt; *entry.insert_entry('a').key(), 1);
+            }
+        }
+    }
+}

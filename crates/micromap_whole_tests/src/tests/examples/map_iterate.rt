@@ -1,0 +1,54 @@
+//! The iterators over a map.
+use micromap::Map;
+
+#[test]
+fn by_reference(rt: HostRuntime) {
+    {
+        let map = Map::from([(2, 'b'), (1, 'a')]);
+        assert!(rt; map.iter().eq([(&2, &'b'), (&1, &'a')]));
+    }
+    {
+        let map = Map::from([(2, 'b'), (1, 'a')]);
+        assert!(rt; map.keys().eq(&[2, 1]));
+    }
+    {
+        let map = Map::from([(2, 'b'), (1, 'a')]);
+        assert!(rt; map.values().eq(&['b', 'a']));
+    }
+}
+
+#[test]
+fn by_value(rt: HostRuntime) {
+    {
+        let map = Map::from([(2, 'b'), (1, 'a')]);
+        assert!(rt; map.into_keys().eq([2, 1]));
+    }
+    {
+        let map = Map::from([(2, 'b'), (1, 'a')]);
+        assert!(rt; map.into_values().eq(['b', 'a']));
+    }
+}
+
+#[test]
+fn emptied_at_once(rt: HostRuntime) {
+    let mut map = Map::from([(2, 'b'), (1, 'a')]);
+    assert_eq!(rt; map.drain().next(), Some((2, 'b')));
+    assert!(rt; map.is_empty());
+}
+
+#[test]
+fn in_a_loop(rt: HostRuntime) {
+    {
+        let mut largest = 0;
+        for (_, value) in Map::from([(1, 10), (2, 20)]) {
+            largest = value.max(largest);
+        }
+        assert_eq!(rt; largest, 20);
+    }
+    {
+        let map = Map::from([(1, 'a'), (2, 'b')]);
+        for (key, value) in &map {
+            assert_eq!(rt; map.get(key), Some(value));
+        }
+    }
+}
