@@ -26,6 +26,7 @@ OF_EACH = {
 OTHERS = {
     "Entries": "Map::entry, Entry, OccupiedEntry, VacantEntry",
     "Probes": "Probe, Text",
+    "Keys that are cloned": "EqualClone",
     "Owned texts": "TextBuf",
     "Streams": "Map::write_entries, Map::read_entries, Set::write_entries, Set::read_entries, EntrySink, EntrySource, "
     "VecSink, SliceSource",

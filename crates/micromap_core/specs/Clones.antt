@@ -1,7 +1,6 @@
 -- When two pairs are clones, and when clones are identical. C and D say what a clone of a key, or of a value, may be.
 use Rattle.std.specs.Prelude.{◌≡◌, Bool, IsTrue}
 use Rattle.std.specs.Cmp.{IsEquivalence}
-use Rattle.std.specs.Set.{ClonesAreEqual}
 
 -- a clone is the very same value
 abbrev pub AreIdentical : {X : Type 0} → (X → X → Type 0) → Type 0
@@ -15,6 +14,7 @@ IsPairClone C D p q = C p.0 q.0 × D p.1 q.1
 abbrev pub IsEqualClone : {K : Type 0} → (K → K → Bool) → (K → K → Type 0) → K → K → Type 0
 IsEqualClone eq C k q = C k q × IsTrue (eq k q)
 
--- a copy is equal
-pub copies_are_equal : {K : Type 0} {eq : K → K → Bool} → IsEquivalence eq → ClonesAreEqual eq (λ key new. new ≡ key)
-copies_are_equal laws key new copy = rw copy (laws.refl key)
+module _ {K : Type 0} {eq : K → K → Bool} (laws : IsEquivalence eq) where
+  -- a copy is equal
+  pub copies_are_equal : (key new : K) → new ≡ key → IsTrue (eq key new)
+  copies_are_equal key new copy = rw copy (laws.refl key)

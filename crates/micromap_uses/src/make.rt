@@ -106,7 +106,7 @@ pub fn parted(pairs: &Map<u8, u32, 16>, limit: u32) -> (Map<u8, u32, 16>, Map<u8
 
 /// Copies the pairs that pass into a map of another capacity, or returns an error exactly if they don't all fit.
 /// The error is the copy in the old capacity, of which the contract says nothing. Into a capacity that is known to
-/// be enough the search proves that there is none, as in `outgrow` of `micromap_whole_tests/src/tests/capacity.rt`.
+/// be enough the search proves that there is none, as in `outgrow` of `micromap_map_tests/src/tests/capacity.rt`.
 pub fn above_in(pairs: &Map<u8, u32, 32>) -> Result<Map<u8, u32, 8>, Map<u8, u32, 32>>
     ensures made { IfOk result (λ m. m ≡ filter (λ p. nat_lt 9 p.1) pairs.now) }
     ensures refused { IsErr result ↔ (8 < length (filter (λ p. nat_lt 9 p.1) pairs.now)) }

@@ -17,9 +17,8 @@ impl<K: Eq, V: Eq, const N: usize> Map<K, V, N> {
     /// The result is `true` exactly if no fair list of keyed calls tells the two maps apart. After `true`, every fair
     /// list of calls has results that agree, and leaves the two maps the same. A list is fair if none of its calls
     /// inserts a key that neither map has while only one of them has room. A proof that two maps stay the same cites
-    /// the clause `outlasts` and the law `fair_where_fits`, as `edit_both` of
-    /// `micromap_whole_tests/src/tests/comparison.rt` does, or `same_put`, `same_put_key` or `same_take_out` of a
-    /// single change, which the ruleset `comparison` has for a search.
+    /// the clause `outlasts` and the law `fair_where_fits`, or for a single change `same_put`, `same_put_key` or
+    /// `same_take_out`, which the ruleset `comparison` has for a search.
     ///
     /// Compares no key if the lengths differ. Else it makes one scan of `other` for each key of this map, up to and
     /// including the first that `other` lacks or has with an unequal value. At most as many keys are compared as the
