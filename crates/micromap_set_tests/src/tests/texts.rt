@@ -71,25 +71,3 @@ fn a_map_of_sets_of_texts_is_cloned(rt: HostRuntime) -> Result<(), AllocError> {
     );
     Ok(())
 }
-
-// A ticket whose clone has the next number.
-#[derive(Debug, PartialEq, Eq, Drop)]
-struct Ticket(u8);
-
-impl Clone for Ticket {
-    fn clone(&self) -> Result<Ticket, AllocError> {
-        Ok(Ticket(self.0.wrapping_add(1)))
-    }
-}
-
-#[test]
-fn the_trait_refuses_a_key_whose_clone_differs(rt: HostRuntime) {
-    let mut tickets: Map<Ticket, u8, 2> = Map::new();
-    tickets.checked_insert(Ticket(7), 1);
-    assert!(rt; Clone::clone(&tickets).is_err());
-    let mut seen: Set<Ticket, 2> = Set::new();
-    assert!(rt; Clone::clone(&seen).is_ok());
-    seen.checked_insert(Ticket(7));
-    assert!(rt; Clone::clone(&seen).is_err());
-    assert!(rt; tickets.len() == 1 && seen.len() == 1);
-}
