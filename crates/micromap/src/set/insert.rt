@@ -16,10 +16,10 @@ impl<T: Eq + Drop, const N: usize> Set<T, N> {
     /// ```
     /// let mut set: Set<u8, 1> = Set::new();
     /// assert!(rt; set.insert(1));
-    /// if set.fits(&1) {
-    ///     assert!(rt; !set.insert(1));
+    /// if set.fits(&2) {
+    ///     set.insert(2);
     /// }
-    /// assert!(rt; !set.fits(&2));
+    /// assert!(rt; !set.contains(&2));
     /// ```
     #[inline]
     pub fn insert(&mut self, item: T) -> bool
@@ -35,9 +35,8 @@ impl<T: Eq + Drop, const N: usize> Set<T, N> {
     ///
     /// ```
     /// let mut set = Set::from([1, 2]);
-    /// if set.fits(&2) {
-    ///     assert!(rt; !set.insert_unchecked(2));
-    /// }
+    /// assert!(rt; set.fits(&2));
+    /// assert!(rt; !set.insert_unchecked(2));
     /// ```
     #[inline]
     pub fn insert_unchecked(&mut self, item: T) -> bool
@@ -55,9 +54,8 @@ impl<T: Eq + Drop, const N: usize> Set<T, N> {
     ///
     /// ```
     /// let mut set = Set::from([1, 2]);
-    /// if set.fits(&2) {
-    ///     assert_eq!(rt; set.replace(2), Some(2));
-    /// }
+    /// assert!(rt; set.fits(&2));
+    /// assert_eq!(rt; set.replace(2), Some(2));
     /// ```
     #[inline]
     pub fn replace(&mut self, item: T) -> Option<T>

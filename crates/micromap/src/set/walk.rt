@@ -72,7 +72,7 @@ impl<T: Eq + Drop, const N: usize> Set<T, N> {
 /// ```
 /// let mut largest = 0;
 /// for item in Set::from([1, 3, 2]) {
-///     largest = item.max(largest);
+///     largest = largest.max(item);
 /// }
 /// assert_eq!(rt; largest, 3);
 /// ```
@@ -91,10 +91,12 @@ impl<T: Eq + Drop, const N: usize> IntoIterator for Set<T, N> {
 /// A loop over a reference to a set yields references to its items, from the front.
 ///
 /// ```
-/// let set = Set::from([1, 2]);
+/// let set = Set::from([1, 3, 2]);
+/// let mut largest = 0;
 /// for item in &set {
-///     assert!(rt; set.contains(item));
+///     largest = largest.max(*item);
 /// }
+/// assert!(rt; set.contains(&largest));
 /// ```
 impl<'a, T: Eq, const N: usize> IntoIterator for &'a Set<T, N> {
     type Item = &'a T;

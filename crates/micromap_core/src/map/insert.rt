@@ -20,7 +20,7 @@ impl<K: Eq + Drop, V: Drop, const N: usize> Map<K, V, N> {
     /// if map.fits(&1) {
     ///     assert_eq!(rt; map.insert(1, 'b'), Some('a'));
     /// }
-    /// assert!(rt; !map.fits(&2));
+    /// assert_eq!(rt; map.get(&1), Some(&'b'));
     /// ```
     #[inline]
     pub fn insert(&mut self, key: K, value: V) -> Option<V>
@@ -42,9 +42,8 @@ impl<K: Eq + Drop, V: Drop, const N: usize> Map<K, V, N> {
     ///
     /// ```
     /// let mut map = Map::from([(1, 'a'), (2, 'b')]);
-    /// if map.fits(&2) {
-    ///     assert_eq!(rt; map.insert_unchecked(2, 'c'), Some('b'));
-    /// }
+    /// assert!(rt; map.fits(&2));
+    /// assert_eq!(rt; map.insert_unchecked(2, 'c'), Some('b'));
     /// ```
     #[inline]
     pub fn insert_unchecked(&mut self, key: K, value: V) -> Option<V>
@@ -63,9 +62,8 @@ impl<K: Eq + Drop, V: Drop, const N: usize> Map<K, V, N> {
     ///
     /// ```
     /// let mut map = Map::from([(1, 'a'), (2, 'b')]);
-    /// if map.fits(&2) {
-    ///     assert_eq!(rt; map.insert_key_value(2, 'c'), Some((2, 'b')));
-    /// }
+    /// assert!(rt; map.fits(&2));
+    /// assert_eq!(rt; map.insert_key_value(2, 'c'), Some((2, 'b')));
     /// ```
     #[inline]
     pub fn insert_key_value(&mut self, key: K, value: V) -> Option<(K, V)>

@@ -139,9 +139,8 @@ impl<K: Eq, V, const N: usize> Map<K, V, N> {
     ///
     /// ```
     /// let map = Map::from([(1, 'a'), (2, 'b')]);
-    /// if map.contains_key(&2) {
-    ///     assert_eq!(rt; *map.index(&2), 'b');
-    /// }
+    /// assert!(rt; map.contains_key(&2));
+    /// assert_eq!(rt; *map.index(&2), 'b');
     /// ```
     #[inline]
     pub fn index(&self, key: &K) -> &V
@@ -199,9 +198,8 @@ impl<K: Eq, V: Copy, const N: usize> Map<K, V, N> {
 ///
 /// ```
 /// let map = Map::from([(1, 'a'), (2, 'b')]);
-/// if map.contains_key(&2) {
-///     assert_eq!(rt; map[&2], 'b');
-/// }
+/// assert!(rt; map.contains_key(&2));
+/// assert_eq!(rt; map[&2], 'b');
 /// ```
 impl<'k, K: Eq, V, const N: usize> Index<&'k K> for Map<K, V, N> {
     type Output = V;

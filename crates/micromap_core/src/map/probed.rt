@@ -101,9 +101,8 @@ impl<K: Eq, V, const N: usize> Map<K, V, N> {
     ///
     /// ```
     /// let ages = Map::from([("Ada", 36), ("Alan", 41)]);
-    /// if ages.contains_key_by(&Text("Ada")) {
-    ///     assert_eq!(rt; *ages.index_by(&Text("Ada")), 36);
-    /// }
+    /// assert!(rt; ages.contains_key_by(&Text("Ada")));
+    /// assert_eq!(rt; *ages.index_by(&Text("Ada")), 36);
     /// ```
     #[inline]
     pub fn index_by<P: Probe<K>>(&self, probe: &P) -> &V

@@ -18,7 +18,10 @@ impl<K: Eq, V, const N: usize> Map<K, V, N> {
     ///
     /// ```
     /// let map = Map::from([(2, 'b'), (1, 'a')]);
-    /// assert!(rt; map.iter().eq([(&2, &'b'), (&1, &'a')]));
+    /// let mut pairs = map.iter();
+    /// assert_eq!(rt; pairs.next(), Some((&2, &'b')));
+    /// assert_eq!(rt; pairs.next(), Some((&1, &'a')));
+    /// assert_eq!(rt; pairs.next(), None);
     /// ```
     #[inline]
     pub fn iter(&self) -> Iter<'_, K, V>
@@ -137,7 +140,7 @@ impl<K: Eq + Drop, V: Drop, const N: usize> Map<K, V, N> {
 /// ```
 /// let mut largest = 0;
 /// for (_, value) in Map::from([(1, 10), (2, 20)]) {
-///     largest = value.max(largest);
+///     largest = largest.max(value);
 /// }
 /// assert_eq!(rt; largest, 20);
 /// ```
@@ -156,10 +159,12 @@ impl<K: Eq + Drop, V: Drop, const N: usize> IntoIterator for Map<K, V, N> {
 /// A loop over a reference to a map yields references to its keys and values, from the front.
 ///
 /// ```
-/// let map = Map::from([(1, 'a'), (2, 'b')]);
-/// for (key, value) in &map {
-///     assert_eq!(rt; map.get(key), Some(value));
+/// let map = Map::from([(1, 10), (2, 20)]);
+/// let mut largest = 0;
+/// for (_, value) in &map {
+///     largest = largest.max(*value);
 /// }
+/// assert_eq!(rt; map.get(&2), Some(&largest));
 /// ```
 impl<'a, K: Eq, V, const N: usize> IntoIterator for &'a Map<K, V, N> {
     type Item = (&'a K, &'a V);

@@ -102,9 +102,10 @@ impl<'a, K: Eq + Drop, V: Drop, const N: usize> EntryIn<'a, K, Map<K, V, N>> {
     /// let mut map: Map<u8, char, 1> = Map::new();
     /// for default in ['a', 'b'] {
     ///     if map.fits(&1) {
-    ///         assert_eq!(rt; *map.entry(1).or_insert(default), 'a');
+    ///         map.entry(1).or_insert(default);
     ///     }
     /// }
+    /// assert_eq!(rt; map.get(&1), Some(&'a'));
     /// ```
     pub fn or_insert(self, default: V) -> &'a mut V
         requires sound { IsSound K.eq self }
@@ -123,8 +124,9 @@ impl<'a, K: Eq + Drop, V: Drop, const N: usize> EntryIn<'a, K, Map<K, V, N>> {
     /// ```
     /// let mut map: Map<u8, char, 1> = Map::new();
     /// if map.fits(&1) {
-    ///     assert_eq!(rt; *map.entry(1).or_insert_with(|| 'a'), 'a');
+    ///     map.entry(1).or_insert_with(|| 'a');
     /// }
+    /// assert_eq!(rt; map.get(&1), Some(&'a'));
     /// ```
     pub fn or_insert_with<F: FnOnce() -> V>(self, default: F) -> &'a mut V
         requires sound { IsSound K.eq self }
@@ -143,11 +145,11 @@ impl<'a, K: Eq + Drop, V: Drop, const N: usize> EntryIn<'a, K, Map<K, V, N>> {
     /// vacant entry. A new pair goes last.
     ///
     /// ```
-    /// let mut lengths: Map<&str, usize, 1> = Map::new();
-    /// if lengths.fits(&"foo") {
-    ///     let length = lengths.entry("foo").or_insert_with_key(|word| word.len());
-    ///     assert_eq!(rt; *length, 3);
+    /// let mut halves: Map<u8, u8, 4> = Map::new();
+    /// if halves.fits(&6) {
+    ///     halves.entry(6).or_insert_with_key(|n| *n / 2);
     /// }
+    /// assert_eq!(rt; halves.get(&6), Some(&3));
     /// ```
     pub fn or_insert_with_key<F: FnOnce(&K) -> V>(self, default: F) -> &'a mut V
         requires sound { IsSound K.eq self }
@@ -172,10 +174,11 @@ impl<'a, K: Eq + Drop, V: Drop, const N: usize> EntryIn<'a, K, Map<K, V, N>> {
     /// Requires that the entry is occupied or the map has room, which `has_room` tests. A new pair goes last.
     ///
     /// ```
-    /// let mut counts: Map<char, u8, 1> = Map::new();
+    /// let mut counts: Map<char, u8, 4> = Map::new();
     /// if counts.fits(&'a') {
-    ///     assert_eq!(rt; *counts.entry('a').or_default(), 0);
+    ///     counts.entry('a').or_default();
     /// }
+    /// assert_eq!(rt; counts.get(&'a'), Some(&0));
     /// ```
     pub fn or_default(self) -> &'a mut V
     where
@@ -196,8 +199,9 @@ impl<'a, K: Eq + Drop, V: Drop, const N: usize> EntryIn<'a, K, Map<K, V, N>> {
     /// ```
     /// let mut map = Map::from([(1, 'a')]);
     /// if map.fits(&1) {
-    ///     assert_eq!(rt; *map.entry(1).insert_entry('b').get(), 'b');
+    ///     assert_eq!(rt; *map.entry(1).insert_entry('b').key(), 1);
     /// }
+    /// assert_eq!(rt; map.get(&1), Some(&'b'));
     /// ```
     pub fn insert_entry(self, value: V) -> OccupiedEntry<'a, K, V, N>
         requires sound { IsSound K.eq self }

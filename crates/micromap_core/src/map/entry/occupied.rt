@@ -11,9 +11,7 @@ impl<'a, K: Eq, V, const N: usize> OccupiedIn<'a, Map<K, V, N>> {
     ///
     /// ```
     /// let mut map = Map::from([(1, 'a')]);
-    /// if let Entry::Occupied(entry) = map.entry(1) {
-    ///     assert_eq!(rt; *entry.key(), 1);
-    /// }
+    /// assert!(rt; matches!(map.entry(1), Entry::Occupied(entry) if *entry.key() == 1));
     /// ```
     pub fn key(&self) -> &K
         requires { IsSound K.eq (Occupied self.now) }
@@ -26,9 +24,7 @@ impl<'a, K: Eq, V, const N: usize> OccupiedIn<'a, Map<K, V, N>> {
     ///
     /// ```
     /// let mut map = Map::from([(1, 'a')]);
-    /// if let Entry::Occupied(entry) = map.entry(1) {
-    ///     assert_eq!(rt; *entry.get(), 'a');
-    /// }
+    /// assert!(rt; matches!(map.entry(1), Entry::Occupied(entry) if *entry.get() == 'a'));
     /// ```
     pub fn get(&self) -> &V
         requires { IsSound K.eq (Occupied self.now) }
@@ -43,8 +39,8 @@ impl<'a, K: Eq, V, const N: usize> OccupiedIn<'a, Map<K, V, N>> {
     /// let mut map = Map::from([(1, 'a')]);
     /// if let Entry::Occupied(mut entry) = map.entry(1) {
     ///     *entry.get_mut() = 'b';
-    ///     assert_eq!(rt; *entry.get(), 'b');
     /// }
+    /// assert_eq!(rt; map.get(&1), Some(&'b'));
     /// ```
     #[tactic(auto, unfolding(crate::specs::Entry::entry_put))]
     pub fn get_mut(&mut self) -> &mut V
@@ -82,6 +78,7 @@ impl<'a, K: Eq, V, const N: usize> OccupiedIn<'a, Map<K, V, N>> {
     /// if let Entry::Occupied(mut entry) = map.entry(1) {
     ///     assert_eq!(rt; entry.insert('b'), 'a');
     /// }
+    /// assert_eq!(rt; map.get(&1), Some(&'b'));
     /// ```
     pub fn insert(&mut self, value: V) -> V
         requires { IsSound K.eq (Occupied self.old) }
@@ -116,10 +113,11 @@ impl<'a, K: Eq + Drop, V: Drop, const N: usize> OccupiedIn<'a, Map<K, V, N>> {
     /// Removes the pair, and returns the stored key and its value. The others keep their order, as after `remove`.
     ///
     /// ```
-    /// let mut map = Map::from([(1, 'a'), (2, 'b')]);
+    /// let mut map = Map::from([(1, 'a')]);
     /// if let Entry::Occupied(entry) = map.entry(1) {
     ///     assert_eq!(rt; entry.remove_entry(), (1, 'a'));
     /// }
+    /// assert!(rt; map.is_empty());
     /// ```
     pub fn remove_entry(self) -> (K, V)
         requires { IsSound K.eq (Occupied self) }

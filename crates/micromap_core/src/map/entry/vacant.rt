@@ -11,9 +11,7 @@ impl<'a, K: Eq, V, const N: usize> VacantIn<'a, K, Map<K, V, N>> {
     ///
     /// ```
     /// let mut map: Map<u8, char, 1> = Map::new();
-    /// if let Entry::Vacant(entry) = map.entry(1) {
-    ///     assert_eq!(rt; *entry.key(), 1);
-    /// }
+    /// assert!(rt; matches!(map.entry(1), Entry::Vacant(entry) if *entry.key() == 1));
     /// ```
     pub fn key(&self) -> &K
         ensures { entry_key (Vacant self.now) ≡ Some result.now }
@@ -25,10 +23,11 @@ impl<'a, K: Eq, V, const N: usize> VacantIn<'a, K, Map<K, V, N>> {
     ///
     /// ```
     /// let mut map: Map<u8, char, 1> = Map::new();
-    /// if let Entry::Vacant(entry) = map.entry(1) {
-    ///     assert_eq!(rt; entry.into_key(), 1);
-    /// }
-    /// assert!(rt; map.is_empty());
+    /// let key = match map.entry(1) {
+    ///     Entry::Vacant(entry) => Some(entry.into_key()),
+    ///     Entry::Occupied(_) => None,
+    /// };
+    /// assert_eq!(rt; key, Some(1));
     /// ```
     pub fn into_key(self) -> K
         ensures answer { entry_key (Vacant self.entry) ≡ Some result }
@@ -42,9 +41,7 @@ impl<'a, K: Eq, V, const N: usize> VacantIn<'a, K, Map<K, V, N>> {
     ///
     /// ```
     /// let mut full = Map::from([(1, 'a')]);
-    /// if let Entry::Vacant(entry) = full.entry(2) {
-    ///     assert!(rt; !entry.has_room());
-    /// }
+    /// assert!(rt; matches!(full.entry(2), Entry::Vacant(entry) if !entry.has_room()));
     /// ```
     pub fn has_room(&self) -> bool
         ensures { result ≡ entry_has_room N (Vacant self.now) }
@@ -62,9 +59,10 @@ impl<'a, K: Eq + Drop, V: Drop, const N: usize> VacantIn<'a, K, Map<K, V, N>> {
     /// let mut map: Map<u8, char, 1> = Map::new();
     /// if let Entry::Vacant(entry) = map.entry(1) {
     ///     if entry.has_room() {
-    ///         assert_eq!(rt; *entry.insert('a'), 'a');
+    ///         entry.insert('a');
     ///     }
     /// }
+    /// assert_eq!(rt; map.get(&1), Some(&'a'));
     /// ```
     pub fn insert(self, value: V) -> &'a mut V
         requires sound { IsSound K.eq (Vacant self) }
@@ -89,6 +87,7 @@ impl<'a, K: Eq + Drop, V: Drop, const N: usize> VacantIn<'a, K, Map<K, V, N>> {
     ///         assert_eq!(rt; *entry.insert_entry('a').key(), 1);
     ///     }
     /// }
+    /// assert_eq!(rt; map.get(&1), Some(&'a'));
     /// ```
     pub fn insert_entry(self, value: V) -> OccupiedEntry<'a, K, V, N>
         requires sound { IsSound K.eq (Vacant self) }

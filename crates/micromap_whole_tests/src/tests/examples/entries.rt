@@ -29,9 +29,10 @@ fn an_entry_gets_a_value(rt: HostRuntime) {
     let mut map: Map<u8, char, 1> = Map::new();
     for default in ['a', 'b'] {
         if map.fits(&1) {
-            assert_eq!(rt; *map.entry(1).or_insert(default), 'a');
+            map.entry(1).or_insert(default);
         }
     }
+    assert_eq!(rt; map.get(&1), Some(&'a'));
 }
 
 #[test]
@@ -39,31 +40,34 @@ fn an_entry_gets_a_result(rt: HostRuntime) {
     {
         let mut map: Map<u8, char, 1> = Map::new();
         if map.fits(&1) {
-            assert_eq!(rt; *map.entry(1).or_insert_with(|| 'a'), 'a');
+            map.entry(1).or_insert_with(|| 'a');
         }
+        assert_eq!(rt; map.get(&1), Some(&'a'));
     }
     {
-        let mut lengths: Map<&str, usize, 1> = Map::new();
-        if lengths.fits(&"foo") {
-            let length = lengths.entry("foo").or_insert_with_key(|word| word.len());
-            assert_eq!(rt; *length, 3);
+        let mut halves: Map<u8, u8, 4> = Map::new();
+        if halves.fits(&6) {
+            halves.entry(6).or_insert_with_key(|n| *n / 2);
         }
+        assert_eq!(rt; halves.get(&6), Some(&3));
     }
 }
 
 #[test]
 fn an_entry_gets_a_default(rt: HostRuntime) {
     {
-        let mut counts: Map<char, u8, 1> = Map::new();
+        let mut counts: Map<char, u8, 4> = Map::new();
         if counts.fits(&'a') {
-            assert_eq!(rt; *counts.entry('a').or_default(), 0);
+            counts.entry('a').or_default();
         }
+        assert_eq!(rt; counts.get(&'a'), Some(&0));
     }
     {
         let mut map = Map::from([(1, 'a')]);
         if map.fits(&1) {
-            assert_eq!(rt; *map.entry(1).insert_entry('b').get(), 'b');
+            assert_eq!(rt; *map.entry(1).insert_entry('b').key(), 1);
         }
+        assert_eq!(rt; map.get(&1), Some(&'b'));
     }
 }
 
@@ -71,15 +75,11 @@ fn an_entry_gets_a_default(rt: HostRuntime) {
 fn an_occupied_entry_is_read(rt: HostRuntime) {
     {
         let mut map = Map::from([(1, 'a')]);
-        if let Entry::Occupied(entry) = map.entry(1) {
-            assert_eq!(rt; *entry.key(), 1);
-        }
+        assert!(rt; matches!(map.entry(1), Entry::Occupied(entry) if *entry.key() == 1));
     }
     {
         let mut map = Map::from([(1, 'a')]);
-        if let Entry::Occupied(entry) = map.entry(1) {
-            assert_eq!(rt; *entry.get(), 'a');
-        }
+        assert!(rt; matches!(map.entry(1), Entry::Occupied(entry) if *entry.get() == 'a'));
     }
 }
 
@@ -89,8 +89,8 @@ fn an_occupied_entry_is_written_to(rt: HostRuntime) {
         let mut map = Map::from([(1, 'a')]);
         if let Entry::Occupied(mut entry) = map.entry(1) {
             *entry.get_mut() = 'b';
-            assert_eq!(rt; *entry.get(), 'b');
         }
+        assert_eq!(rt; map.get(&1), Some(&'b'));
     }
     {
         let mut map = Map::from([(1, 'a')]);
@@ -104,6 +104,7 @@ fn an_occupied_entry_is_written_to(rt: HostRuntime) {
         if let Entry::Occupied(mut entry) = map.entry(1) {
             assert_eq!(rt; entry.insert('b'), 'a');
         }
+        assert_eq!(rt; map.get(&1), Some(&'b'));
     }
 }
 
@@ -117,10 +118,11 @@ fn an_occupied_entry_is_removed(rt: HostRuntime) {
         assert!(rt; map.keys().eq(&[2]));
     }
     {
-        let mut map = Map::from([(1, 'a'), (2, 'b')]);
+        let mut map = Map::from([(1, 'a')]);
         if let Entry::Occupied(entry) = map.entry(1) {
             assert_eq!(rt; entry.remove_entry(), (1, 'a'));
         }
+        assert!(rt; map.is_empty());
     }
 }
 
@@ -128,22 +130,19 @@ fn an_occupied_entry_is_removed(rt: HostRuntime) {
 fn a_vacant_entry_has_its_key(rt: HostRuntime) {
     {
         let mut map: Map<u8, char, 1> = Map::new();
-        if let Entry::Vacant(entry) = map.entry(1) {
-            assert_eq!(rt; *entry.key(), 1);
-        }
+        assert!(rt; matches!(map.entry(1), Entry::Vacant(entry) if *entry.key() == 1));
     }
     {
         let mut map: Map<u8, char, 1> = Map::new();
-        if let Entry::Vacant(entry) = map.entry(1) {
-            assert_eq!(rt; entry.into_key(), 1);
-        }
-        assert!(rt; map.is_empty());
+        let key = match map.entry(1) {
+            Entry::Vacant(entry) => Some(entry.into_key()),
+            Entry::Occupied(_) => None,
+        };
+        assert_eq!(rt; key, Some(1));
     }
     {
         let mut full = Map::from([(1, 'a')]);
-        if let Entry::Vacant(entry) = full.entry(2) {
-            assert!(rt; !entry.has_room());
-        }
+        assert!(rt; matches!(full.entry(2), Entry::Vacant(entry) if !entry.has_room()));
     }
 }
 
@@ -153,9 +152,10 @@ fn a_vacant_entry_is_filled(rt: HostRuntime) {
         let mut map: Map<u8, char, 1> = Map::new();
         if let Entry::Vacant(entry) = map.entry(1) {
             if entry.has_room() {
-                assert_eq!(rt; *entry.insert('a'), 'a');
+                entry.insert('a');
             }
         }
+        assert_eq!(rt; map.get(&1), Some(&'a'));
     }
     {
         let mut map: Map<u8, char, 1> = Map::new();
@@ -164,5 +164,6 @@ fn a_vacant_entry_is_filled(rt: HostRuntime) {
                 assert_eq!(rt; *entry.insert_entry('a').key(), 1);
             }
         }
+        assert_eq!(rt; map.get(&1), Some(&'a'));
     }
 }

@@ -5,7 +5,10 @@ use micromap::Map;
 fn by_reference(rt: HostRuntime) {
     {
         let map = Map::from([(2, 'b'), (1, 'a')]);
-        assert!(rt; map.iter().eq([(&2, &'b'), (&1, &'a')]));
+        let mut pairs = map.iter();
+        assert_eq!(rt; pairs.next(), Some((&2, &'b')));
+        assert_eq!(rt; pairs.next(), Some((&1, &'a')));
+        assert_eq!(rt; pairs.next(), None);
     }
     {
         let map = Map::from([(2, 'b'), (1, 'a')]);
@@ -41,14 +44,16 @@ fn in_a_loop(rt: HostRuntime) {
     {
         let mut largest = 0;
         for (_, value) in Map::from([(1, 10), (2, 20)]) {
-            largest = value.max(largest);
+            largest = largest.max(value);
         }
         assert_eq!(rt; largest, 20);
     }
     {
-        let map = Map::from([(1, 'a'), (2, 'b')]);
-        for (key, value) in &map {
-            assert_eq!(rt; map.get(key), Some(value));
+        let map = Map::from([(1, 10), (2, 20)]);
+        let mut largest = 0;
+        for (_, value) in &map {
+            largest = largest.max(*value);
         }
+        assert_eq!(rt; map.get(&2), Some(&largest));
     }
 }

@@ -19,14 +19,16 @@ fn in_a_loop(rt: HostRuntime) {
     {
         let mut largest = 0;
         for item in Set::from([1, 3, 2]) {
-            largest = item.max(largest);
+            largest = largest.max(item);
         }
         assert_eq!(rt; largest, 3);
     }
     {
-        let set = Set::from([1, 2]);
+        let set = Set::from([1, 3, 2]);
+        let mut largest = 0;
         for item in &set {
-            assert!(rt; set.contains(item));
+            largest = largest.max(*item);
         }
+        assert!(rt; set.contains(&largest));
     }
 }
