@@ -5,7 +5,6 @@ ghost use Rattle.micromap.specs.Items.{AreItems, IsItems};
 
 use super::Set;
 use crate::map;
-use micromap_walk::hint;
 use std::mem;
 
 /// An iterator over the items of a set by reference, from the front.
@@ -30,7 +29,6 @@ impl<T: Eq, const N: usize> Set<T, N> {
         ensures runs { ShowsInOrder (deref {X = T}) }
         ensures content { IsItems T.eq N self.now }
     {
-        hint::at_most(self.len(), N);
         self.map.keys()
     }
 }
