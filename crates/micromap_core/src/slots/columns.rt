@@ -76,7 +76,7 @@ impl<K, V, const N: usize> Columns<K, V, N> {
         ensures filled { AreFilled result.now }
         ensures items { items_of result.now ≡ keys_of self.now }
     {
-        if mem::size_of_val(&self.keys) <= MOST_UNROLLED {
+        if N < MANY_KEYS && mem::size_of_val(&self.keys) <= MOST_UNROLLED {
             hint::at_most(self.keys.len(), N);
         }
         self.keys.as_slice()
