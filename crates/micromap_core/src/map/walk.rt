@@ -20,8 +20,7 @@ impl<K: Eq, V, const N: usize> Map<K, V, N> {
     /// let map = Map::from([(2, 'b'), (1, 'a')]);
     /// let mut pairs = map.iter();
     /// assert_eq!(rt; pairs.next(), Some((&2, &'b')));
-    /// assert_eq!(rt; pairs.next(), Some((&1, &'a')));
-    /// assert_eq!(rt; pairs.next(), None);
+    /// assert_eq!(rt; pairs.len(), 1);
     /// ```
     #[inline]
     pub fn iter(&self) -> Iter<'_, K, V>

@@ -11,7 +11,11 @@ impl<'a, K: Eq, V, const N: usize> OccupiedIn<'a, Map<K, V, N>> {
     ///
     /// ```
     /// let mut map = Map::from([(1, 'a')]);
-    /// assert!(rt; matches!(map.entry(1), Entry::Occupied(entry) if *entry.key() == 1));
+    /// let key = match map.entry(1) {
+    ///     Entry::Occupied(entry) => Some(*entry.key()),
+    ///     Entry::Vacant(_entry) => None,
+    /// };
+    /// assert_eq!(rt; key, Some(1));
     /// ```
     pub fn key(&self) -> &K
         requires { IsSound K.eq (Occupied self.now) }
@@ -24,7 +28,11 @@ impl<'a, K: Eq, V, const N: usize> OccupiedIn<'a, Map<K, V, N>> {
     ///
     /// ```
     /// let mut map = Map::from([(1, 'a')]);
-    /// assert!(rt; matches!(map.entry(1), Entry::Occupied(entry) if *entry.get() == 'a'));
+    /// let value = match map.entry(1) {
+    ///     Entry::Occupied(entry) => Some(*entry.get()),
+    ///     Entry::Vacant(_entry) => None,
+    /// };
+    /// assert_eq!(rt; value, Some('a'));
     /// ```
     pub fn get(&self) -> &V
         requires { IsSound K.eq (Occupied self.now) }

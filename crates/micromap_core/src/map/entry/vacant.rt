@@ -11,7 +11,11 @@ impl<'a, K: Eq, V, const N: usize> VacantIn<'a, K, Map<K, V, N>> {
     ///
     /// ```
     /// let mut map: Map<u8, char, 1> = Map::new();
-    /// assert!(rt; matches!(map.entry(1), Entry::Vacant(entry) if *entry.key() == 1));
+    /// let key = match map.entry(1) {
+    ///     Entry::Vacant(entry) => Some(*entry.key()),
+    ///     Entry::Occupied(_entry) => None,
+    /// };
+    /// assert_eq!(rt; key, Some(1));
     /// ```
     pub fn key(&self) -> &K
         ensures { entry_key (Vacant self.now) ≡ Some result.now }
@@ -25,7 +29,7 @@ impl<'a, K: Eq, V, const N: usize> VacantIn<'a, K, Map<K, V, N>> {
     /// let mut map: Map<u8, char, 1> = Map::new();
     /// let key = match map.entry(1) {
     ///     Entry::Vacant(entry) => Some(entry.into_key()),
-    ///     Entry::Occupied(_) => None,
+    ///     Entry::Occupied(_entry) => None,
     /// };
     /// assert_eq!(rt; key, Some(1));
     /// ```
@@ -41,7 +45,11 @@ impl<'a, K: Eq, V, const N: usize> VacantIn<'a, K, Map<K, V, N>> {
     ///
     /// ```
     /// let mut full = Map::from([(1, 'a')]);
-    /// assert!(rt; matches!(full.entry(2), Entry::Vacant(entry) if !entry.has_room()));
+    /// let has_room = match full.entry(2) {
+    ///     Entry::Vacant(entry) => entry.has_room(),
+    ///     Entry::Occupied(_entry) => true,
+    /// };
+    /// assert!(rt; !has_room);
     /// ```
     pub fn has_room(&self) -> bool
         ensures { result ≡ entry_has_room N (Vacant self.now) }

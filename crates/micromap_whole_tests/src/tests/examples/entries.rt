@@ -37,49 +37,57 @@ fn an_entry_gets_a_value(rt: HostRuntime) {
 
 #[test]
 fn an_entry_gets_a_result(rt: HostRuntime) {
-    {
-        let mut map: Map<u8, char, 1> = Map::new();
-        if map.fits(&1) {
-            map.entry(1).or_insert_with(|| 'a');
-        }
-        assert_eq!(rt; map.get(&1), Some(&'a'));
+    let mut map: Map<u8, char, 1> = Map::new();
+    if map.fits(&1) {
+        map.entry(1).or_insert_with(|| 'a');
     }
-    {
-        let mut halves: Map<u8, u8, 4> = Map::new();
-        if halves.fits(&6) {
-            halves.entry(6).or_insert_with_key(|n| *n / 2);
-        }
-        assert_eq!(rt; halves.get(&6), Some(&3));
+    assert_eq!(rt; map.get(&1), Some(&'a'));
+}
+
+#[test]
+fn an_entry_gets_a_result_for_its_key(rt: HostRuntime) {
+    let mut halves: Map<u8, u8, 4> = Map::new();
+    if halves.fits(&6) {
+        halves.entry(6).or_insert_with_key(|n| *n / 2);
     }
+    assert_eq!(rt; halves.get(&6), Some(&3));
 }
 
 #[test]
 fn an_entry_gets_a_default(rt: HostRuntime) {
-    {
-        let mut counts: Map<char, u8, 4> = Map::new();
-        if counts.fits(&'a') {
-            counts.entry('a').or_default();
-        }
-        assert_eq!(rt; counts.get(&'a'), Some(&0));
+    let mut counts: Map<char, u8, 4> = Map::new();
+    if counts.fits(&'a') {
+        counts.entry('a').or_default();
     }
-    {
-        let mut map = Map::from([(1, 'a')]);
-        if map.fits(&1) {
-            assert_eq!(rt; *map.entry(1).insert_entry('b').key(), 1);
-        }
-        assert_eq!(rt; map.get(&1), Some(&'b'));
+    assert_eq!(rt; counts.get(&'a'), Some(&0));
+}
+
+#[test]
+fn an_entry_becomes_occupied(rt: HostRuntime) {
+    let mut map = Map::from([(1, 'a')]);
+    if map.fits(&1) {
+        assert_eq!(rt; *map.entry(1).insert_entry('b').key(), 1);
     }
+    assert_eq!(rt; map.get(&1), Some(&'b'));
 }
 
 #[test]
 fn an_occupied_entry_is_read(rt: HostRuntime) {
     {
         let mut map = Map::from([(1, 'a')]);
-        assert!(rt; matches!(map.entry(1), Entry::Occupied(entry) if *entry.key() == 1));
+        let key = match map.entry(1) {
+            Entry::Occupied(entry) => Some(*entry.key()),
+            Entry::Vacant(_entry) => None,
+        };
+        assert_eq!(rt; key, Some(1));
     }
     {
         let mut map = Map::from([(1, 'a')]);
-        assert!(rt; matches!(map.entry(1), Entry::Occupied(entry) if *entry.get() == 'a'));
+        let value = match map.entry(1) {
+            Entry::Occupied(entry) => Some(*entry.get()),
+            Entry::Vacant(_entry) => None,
+        };
+        assert_eq!(rt; value, Some('a'));
     }
 }
 
@@ -99,13 +107,15 @@ fn an_occupied_entry_is_written_to(rt: HostRuntime) {
         }
         assert_eq!(rt; map.get(&1), Some(&'b'));
     }
-    {
-        let mut map = Map::from([(1, 'a')]);
-        if let Entry::Occupied(mut entry) = map.entry(1) {
-            assert_eq!(rt; entry.insert('b'), 'a');
-        }
-        assert_eq!(rt; map.get(&1), Some(&'b'));
+}
+
+#[test]
+fn an_occupied_entry_gets_another_value(rt: HostRuntime) {
+    let mut map = Map::from([(1, 'a')]);
+    if let Entry::Occupied(mut entry) = map.entry(1) {
+        assert_eq!(rt; entry.insert('b'), 'a');
     }
+    assert_eq!(rt; map.get(&1), Some(&'b'));
 }
 
 #[test]
@@ -130,19 +140,27 @@ fn an_occupied_entry_is_removed(rt: HostRuntime) {
 fn a_vacant_entry_has_its_key(rt: HostRuntime) {
     {
         let mut map: Map<u8, char, 1> = Map::new();
-        assert!(rt; matches!(map.entry(1), Entry::Vacant(entry) if *entry.key() == 1));
+        let key = match map.entry(1) {
+            Entry::Vacant(entry) => Some(*entry.key()),
+            Entry::Occupied(_entry) => None,
+        };
+        assert_eq!(rt; key, Some(1));
     }
     {
         let mut map: Map<u8, char, 1> = Map::new();
         let key = match map.entry(1) {
             Entry::Vacant(entry) => Some(entry.into_key()),
-            Entry::Occupied(_) => None,
+            Entry::Occupied(_entry) => None,
         };
         assert_eq!(rt; key, Some(1));
     }
     {
         let mut full = Map::from([(1, 'a')]);
-        assert!(rt; matches!(full.entry(2), Entry::Vacant(entry) if !entry.has_room()));
+        let has_room = match full.entry(2) {
+            Entry::Vacant(entry) => entry.has_room(),
+            Entry::Occupied(_entry) => true,
+        };
+        assert!(rt; !has_room);
     }
 }
 

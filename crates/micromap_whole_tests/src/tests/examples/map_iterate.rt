@@ -2,14 +2,15 @@
 use micromap::Map;
 
 #[test]
-fn by_reference(rt: HostRuntime) {
-    {
-        let map = Map::from([(2, 'b'), (1, 'a')]);
-        let mut pairs = map.iter();
-        assert_eq!(rt; pairs.next(), Some((&2, &'b')));
-        assert_eq!(rt; pairs.next(), Some((&1, &'a')));
-        assert_eq!(rt; pairs.next(), None);
-    }
+fn pairs_by_reference(rt: HostRuntime) {
+    let map = Map::from([(2, 'b'), (1, 'a')]);
+    let mut pairs = map.iter();
+    assert_eq!(rt; pairs.next(), Some((&2, &'b')));
+    assert_eq!(rt; pairs.len(), 1);
+}
+
+#[test]
+fn keys_or_values_by_reference(rt: HostRuntime) {
     {
         let map = Map::from([(2, 'b'), (1, 'a')]);
         assert!(rt; map.keys().eq(&[2, 1]));
@@ -21,7 +22,7 @@ fn by_reference(rt: HostRuntime) {
 }
 
 #[test]
-fn by_value(rt: HostRuntime) {
+fn keys_or_values_by_value(rt: HostRuntime) {
     {
         let map = Map::from([(2, 'b'), (1, 'a')]);
         assert!(rt; map.into_keys().eq([2, 1]));
