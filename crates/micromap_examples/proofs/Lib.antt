@@ -2,4 +2,6 @@ pub mod AffectedLemmas
 mod HeadLemmas
 pub mod OrderLemmas
 pub mod ReachLemmas
+mod RecencyLemmas
 pub mod ScopeLemmas
+mod UseLemmas

@@ -1,6 +1,9 @@
+pub mod CacheLends
 pub mod Frame
 pub mod Graph
 pub mod Headers
 pub mod Heads
 pub mod Order
+pub mod Recency
 pub mod Scopes
+pub mod Uses

@@ -7,6 +7,7 @@ pub mod board;
 pub mod frame;
 pub mod graph;
 pub mod headers;
+pub mod lru_cache;
 pub mod order;
 pub mod permissions;
 pub mod request;
