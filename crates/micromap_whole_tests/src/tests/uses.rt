@@ -4,6 +4,7 @@ mod attributes;
 mod frame;
 mod graph;
 mod headers;
+mod lru_cache;
 mod order;
 mod permissions;
 mod request;
