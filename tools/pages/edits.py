@@ -86,7 +86,8 @@ def functions_in(file, text):
     for at, line in enumerate(lines):
         head = re.match(r"(?:unsafe )?(impl|(?:pub )?trait)\b(.*)", line)
         if head or line == "}":
-            trait, _, owner, _ = whose(head[2]) if head else ("", "", "", "")
+            whole = head and head[2] + " ".join(lines[at + 1 : at + 2]) * (not line.endswith(("{", "{}")))
+            trait, _, owner, _ = whose(whole) if head else ("", "", "", "")
             trait = re.sub(r"<.*|\w+::| ", "", trait)
         found = re.match(r"( *)(?:pub(?:\([^)]*\))? )?(?:const )?fn (\w+)", line)
         first, last, begun = at, at, False
