@@ -5,7 +5,7 @@ from pages.sources import TYPES, anchor
 
 HEAD = """## Every call
 
-What tests a precondition stands in parentheses. A *scan* compares the stored keys or items from the front, each at most once.
+What tests a precondition stands in parentheses. A *scan* compares the stored keys or items from the front, each at most once, and all of them before if there are 16 slots or more, of at most 4 bytes each.
 
 | Call | Requires | Scans |
 |---|---|---|"""

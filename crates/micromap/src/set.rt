@@ -29,8 +29,8 @@ pub use walk::{Drain, IntoIter, Iter};
 /// A set of at most `N` pairwise unequal items, which are found by `==`, from the front.
 ///
 /// A contract sees it as the list of its items, from front to end. It is a map with the value `()`, and no call
-/// allocates memory of its own. A *scan* compares the items from the front, each at most once. How many are compared
-/// isn't proved.
+/// allocates memory of its own. A *scan* compares the items from the front, each at most once. Before that it compares
+/// all of them if there are 16 slots or more, of at most 4 bytes each, as for bytes. How many are compared isn't proved.
 ///
 /// ```
 /// let mut seen: Set<&str, 2> = Set::new();

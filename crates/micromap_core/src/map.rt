@@ -28,8 +28,9 @@ use std::marker::Model;
 /// A map of at most `N` pairs with pairwise unequal keys, which are found by `==`, from the front.
 ///
 /// A contract sees it as the list of its pairs, from front to end. All `N` slots are part of the value, so no call
-/// allocates memory of its own. A *scan* compares the keys from the front, each at most once. How many keys are compared
-/// isn't proved. What `get_counted` and `eq_with_counted` add to their counter is.
+/// allocates memory of its own. A *scan* compares the keys from the front, each at most once. Before that it compares all
+/// of them if there are 16 slots or more, of at most 4 bytes each, as for bytes. How many keys are compared isn't proved.
+/// What `get_counted` and `eq_with_counted` add to their counter is.
 ///
 /// ```
 /// let mut ages: Map<&str, u8, 2> = Map::new();

@@ -14,8 +14,8 @@ use std::ops::{Index, IndexMut};
 impl<K: Eq, V, const N: usize> Map<K, V, N> {
     /// Returns a reference to the value of `key`, or `None` if the key is missing.
     ///
-    /// Makes one scan. It compares as many keys as the index of the key plus one, or as the length if the key is
-    /// missing. `get_counted` counts its comparisons; only what it adds to the counter is proved.
+    /// Makes one scan. From the front it compares as many keys as the index of the key plus one, or as the length if the
+    /// key is missing. `get_counted` counts these comparisons; only what it adds to the counter is proved.
     ///
     /// ```
     /// let map = Map::from([(1, 'a'), (2, 'b')]);
