@@ -3,11 +3,11 @@
 //! Write one only if it has to: a check at a generic capacity takes up to six times as long.
 #![tactic(auto, using(micromap::proofs::Rules::caller))]
 
-ghost use Rattle.std.specs.Prelude.{◌≡◌, ◌↔◌, ◌<◌, ◌≤◌, [], IfSome, IsFalse, filter, length, nat_eq, not, slice_get, Some};
+ghost use Rattle.std.specs.Prelude.{◌≡◌, ◌↔◌, ◌<◌, ◌≤◌, [], IfSome, IsFalse, count_by, filter, length, nat_eq, not, slice_get, unwrap_or, Some};
 ghost use Rattle.std.specs.Bool.{OnTrue};
 ghost use Rattle.micromap.specs.Build.{put_all};
 ghost use Rattle.micromap.specs.Memory.{IntoIterFits, MapFits};
-ghost use Rattle.micromap.specs.Pairs.{has};
+ghost use Rattle.micromap.specs.Pairs.{at, has};
 
 use micromap::Map;
 
@@ -45,6 +45,23 @@ pub fn put_over<K: Eq + Copy, V: Copy, const N: usize, const M: usize>(
         Ok(()) => true,
         Err(_) => false,
     }
+}
+
+/// Counts the votes for each name, under an invariant of one's own.
+/// Under `caller` the search gives up at one of its limits. The laws of one file are enough.
+#[tactic(auto, using(micromap_core::proofs::Laws::MapLaws::map_laws, std::proofs::lemmas::Grind::common_steps))]
+pub fn count_votes<const N: usize>(votes: &[u8]) -> Option<Map<u8, usize, N>>
+    ensures { IfSome result (λ counts. (name : _) → unwrap_or (at nat_eq counts name) 0 ≡ count_by (nat_eq name) votes.now) }
+{
+    let mut counts = Map::new();
+    for vote in votes {
+        if !counts.fits(vote) {
+            return None;
+        }
+        let tally = counts.entry(*vote).or_insert(0);
+        *tally += 1;
+    }
+    Some(counts)
 }
 
 /// Counts the different keys of a list, in a local map, which has to fit in memory.
