@@ -1,19 +1,22 @@
-//! Reads calls from its standard input, performs them on maps and sets of the library, and writes for each its answer
-//! and the content after it. `LANGUAGE.md` says how calls and answers are written.
+//! Reads calls from its standard input, performs them on maps and sets of the library, and replies to each with its
+//! answer and the content after it. It writes a digest of each hundred replies, or the text of the hundred that begins at
+//! the line that its argument names. `LANGUAGE.md` says how calls, replies and digests are written.
 #![tactic(auto)]
 
 mod answer;
 mod calls;
 mod case;
+mod hundreds;
 mod perform;
 mod words;
 
 use answer::Reply;
 use case::Case;
+use hundreds::{HUNDRED, Hundreds};
 use std::alloc::Global;
-use std::fmt;
 use std::io::{self, BufRead, BufReader, BufWriter, Write};
 use std::process::ExitCode;
+use std::{env, fmt};
 use words::Fault;
 
 /// The most bytes of a line, without its end.
@@ -22,6 +25,8 @@ const LONGEST_LINE: usize = 200;
 /// Why a replay ends before the calls do.
 #[derive(Drop)]
 enum Stop {
+    /// No hundred begins at the line that this argument names.
+    Argument(String),
     /// The line of this number has no answer.
     Line(u64, Fault),
     Read(io::Error),
@@ -31,13 +36,14 @@ enum Stop {
 impl fmt::Display for Stop {
     fn fmt<W: fmt::Write>(&self, f: &mut fmt::Formatter<W>) -> fmt::Result {
         match self {
+            Stop::Argument(line) => write!(f, "no hundred begins at line {line}"),
             Stop::Line(number, Fault::Unreadable) => {
                 write!(f, "line {number} is not of the language")
             }
             Stop::Line(number, Fault::Memory) => {
                 write!(f, "there is no memory for the answer to line {number}")
             }
-            Stop::Read(error) => write!(f, "the calls can't be read: {error}"),
+            Stop::Read(error) => write!(f, "the input can't be read: {error}"),
             Stop::Write(error) => write!(f, "the answers can't be written: {error}"),
         }
     }
@@ -66,7 +72,11 @@ fn text(line: &[u8]) -> Option<&str> {
 }
 
 // Replies to each line in turn, up to the first that has no answer.
-fn replay<R: BufRead, W: Write>(alloc: Global, calls: &mut R, answers: &mut W) -> Result<(), Stop> {
+fn replay<R: BufRead, W: Write>(
+    alloc: Global,
+    calls: &mut R,
+    replies: &mut Hundreds<W>,
+) -> Result<(), Stop> {
     let mut case = None;
     let mut line = Vec::new(alloc);
     for number in 1..u64::MAX {
@@ -75,20 +85,33 @@ fn replay<R: BufRead, W: Write>(alloc: Global, calls: &mut R, answers: &mut W) -
             break;
         }
         match reply(alloc, &mut case, &line) {
-            Ok(reply) => writeln!(answers, "{reply}").map_err(Stop::Write)?,
+            Ok(reply) => replies.push(number, &reply).map_err(Stop::Write)?,
             Err(fault) => return Err(Stop::Line(number, fault)),
         }
     }
     Ok(())
 }
 
+// The first line of the hundred that the argument names, if there is one.
+fn argument(rt: &HostRuntime) -> Result<Option<u64>, Stop> {
+    let Some(argument) = env::args(rt).map_err(Stop::Read)?.nth(1) else {
+        return Ok(None);
+    };
+    match argument.parse::<u64>() {
+        Ok(line) if line % HUNDRED == 1 => Ok(Some(line)),
+        _ => Err(Stop::Argument(argument)),
+    }
+}
+
 // Replays the calls on the standard input to the standard output.
 fn run(rt: &HostRuntime) -> Result<(), Stop> {
     let alloc = rt.alloc();
+    let shown = argument(rt)?;
     let mut calls = BufReader::new(alloc, rt.reader()).map_err(Stop::Read)?;
-    let mut answers = BufWriter::new(alloc, io::writer(rt)).map_err(Stop::Write)?;
-    let end = replay(alloc, &mut calls, &mut answers);
-    answers.flush().map_err(Stop::Write)?;
+    let output = BufWriter::new(alloc, io::writer(rt)).map_err(Stop::Write)?;
+    let mut replies = Hundreds::new(alloc, output, shown);
+    let end = replay(alloc, &mut calls, &mut replies);
+    replies.finish().map_err(Stop::Write)?;
     end
 }
 
