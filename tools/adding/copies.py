@@ -1,7 +1,8 @@
-"""What `tools/add` copies: the files of this library, its lines of crates.txt, and the list of the copied files."""
+"""Copies of this library: for another repository, by `tools/add`, and for a check in a folder of its own."""
 import hashlib
 import os
 import re
+import shutil
 import subprocess
 
 TOP = os.path.dirname(os.path.dirname(os.path.dirname(os.path.realpath(__file__))))
@@ -113,3 +114,34 @@ def recorded(dest):
     if not all(it and os.path.normpath(it[2]) == it[2] for it in rows):
         raise Refused(f"{dest}/{ORIGIN} was changed, so nothing says which files of the copy were")
     return {it[2]: it[1] for it in rows}
+
+
+def below(crate):
+    """The lines of a crate and of those below it, by their names."""
+    rows, found, left = rows_of(TOP), {}, [crate]
+    while left:
+        name = left.pop()
+        if name in rows and name not in found:
+            found[name] = rows[name]
+            left += rows[name].partition(":")[2].split()
+    return found
+
+
+def link(one, other):
+    """Gives a file another name. `rt` replaces what it keeps, and writes into no file of it."""
+    try:
+        os.link(one, other)
+    except OSError:
+        shutil.copy2(one, other)
+
+
+def room_with(crate, room):
+    """Copies a crate and those below it to a folder, with what `rt check` kept of them, and returns the crate's folder there."""
+    rows = below(crate)
+    for part in (f"crates/{name}/{it}" for name in rows for it in ("src", "specs", "proofs", "out")):
+        if os.path.isdir(f"{TOP}/{part}"):
+            how = link if part.endswith("/out") else shutil.copy2
+            shutil.copytree(f"{TOP}/{part}", f"{room}/{part}", copy_function=how, symlinks=True)
+    shutil.copy(f"{TOP}/HANDLES", room)
+    write(f"{room}/{LIST}", "".join(f"{it}\n" for it in rows.values()).encode())
+    return f"{room}/crates/{crate}"

@@ -1,65 +1,75 @@
-"""The callers of `micromap_uses`, and what a crate gets that one of them is copied into."""
-import collections
+"""The callers of `micromap_uses`, as TASKS.md lists them, and what a crate gets that one of them is copied into."""
 import difflib
 import glob
 import os
 import re
 
 from adding.copies import LIST, TOP, Refused, rows_of, text_of, with_rows
-from pages.tasks import TASKS
-from pages.tasks import rows_of as rows_of_tasks
+from pages.sources import blocks, doc_of
 
-GALLERY = "micromap_uses"
-# An item at the margin, with the comments and the attributes above it.
-ITEM = r"^((?:(?://|#\[).*\n)*)((?:pub )?(?:(?:(?:const )?fn|struct|enum|impl)\b(?:.*[;}]$|(?s:.*?)^\}$)|(?:type|const)\b(?s:.*?);$))"
-NAME = r"(?:pub )?(?:impl(?:<.*?>)? (?:.* for )?|(?:const )?fn |struct |enum |type |const )(\w+)"
-Item = collections.namedtuple("Item", "name is_function above code")
+TASKS, GALLERY = "crates/micromap/TASKS.md", "micromap_uses"
 
 
-def path_of(file):
-    return f"{TOP}/crates/{GALLERY}/src/{file}.rt"
+def items_of(file):
+    """The functions, types and impls of a file of the gallery, in order."""
+    return [*blocks(text_of(f"{TOP}/crates/{GALLERY}/src/{file}.rt"))]
 
 
 def files():
     """The names of the gallery's files."""
-    names = sorted(os.path.basename(it)[:-3] for it in glob.glob(path_of("*")))
+    names = sorted(os.path.basename(it)[:-3] for it in glob.glob(f"{TOP}/crates/{GALLERY}/src/*"))
     return [it for it in names if it != "lib"]
 
 
-def items_of(file):
-    """The functions, types and impls of a file, in order."""
-    found = re.findall(ITEM, text_of(path_of(file)), re.M)
-    return [Item(re.match(NAME, code)[1], bool(re.match("(?:pub )?(?:const )?fn ", code)), above, code) for above, code in found]
+def name_of(item):
+    """The name of a function or a type; of an impl that of its type."""
+    return re.match(r"(?:pub )?(?:impl(?:<.*?>)? (?:.* for )?|(?:const )?\w+ )(\w+)", item.code)[1]
 
 
 def examples():
     """The file of each example: of a public function, or of a type with methods of its own."""
-    found = [(it, file) for file in files() for it in items_of(file)]
-    own = re.compile(r"pub fn |impl \w+ \{")
-    return {it.name: file for it, file in found if own.match(it.code)}
+    own = re.compile(r"pub fn |impl(?:<.*>)? (?!.* for )(?s:.*?)\n    pub fn ")
+    return {name_of(it): file for file in files() for it in items_of(file) if own.match(it.code)}
+
+
+def tasks_of(text):
+    """The functions of the tables, each with the file that is named last before it, and its task."""
+    file = ""
+    for line in text.split("\n"):
+        heading, row = re.match(r"## .*`(\w+)\.rt`$", line), re.match(r"\| (.+) \| `(\w+)` \|$", line)
+        file = heading[1] if heading else file
+        if row:
+            yield row[2], file, row[1]
+
+
+def wrong_of_tasks():
+    """What is amiss in TASKS.md, and in the comments of the gallery."""
+    rows, own = [*tasks_of(text_of(f"{TOP}/{TASKS}"))], {*examples().items()}
+    named = {(name, file) for name, file, _ in rows}
+    for file in files():
+        bare = (it for it in items_of(file) if re.match("pub (?:fn|struct) ", it.code) and not doc_of(it.above))
+        yield from (f"{GALLERY}/src/{file}.rt: {name_of(it)} has no comment that says its task" for it in bare)
+    yield from [f"{TASKS} has {len(rows) - len(named)} rows twice"] * (len(rows) > len(named))
+    yield from (f"{TASKS}: {GALLERY}/src/{file}.rt has no {name}" for name, file in sorted(named - own))
+    yield from (f"{TASKS} has no row of {name} of {file}.rt" for name, file in sorted(own - named))
 
 
 def needed(name, items):
     """The items of a name, with the functions that they call and the types that they name, and so on, in order."""
-    taken, left = [], [it for it in items if it.name == name]
+    taken, left = [], [it for it in items if name_of(it) == name]
     while left:
         taken.append(left.pop())
         code = re.sub(r"^ *(?:pub )?fn \w+", "", taken[-1].code, flags=re.M)
         calls = {*re.findall(r"(?<![\w.:])(\w+)(?:::<[^;]*?>)?\(", code)}
-        words = {*re.findall(r"\w+", code)}
-        left += [it for it in items if it not in taken + left and it.name in (calls if it.is_function else words)]
+        words = calls | {it for it in re.findall(r"\w+", code) if not it.islower()}
+        left += [it for it in items if it not in taken + left and name_of(it) in words]
     return sorted(taken, key=items.index)
 
 
 def clauses_of(code):
-    """The text of an item that is antt: what stands in the braces of clauses and of ghost members, and in lines `ghost use`."""
-    found = [*re.findall(r"^ *ghost use .*$", code, re.M)]
-    for begin in re.finditer(r"(?:\b(?:requires|ensures)\*?(?: \w+)?|ghost \w+ =) \{", code):
-        depth, end = 1, begin.end()
-        while depth:
-            depth, end = depth + {"{": 1, "}": -1}.get(code[end], 0), end + 1
-        found.append(code[begin.end() : end - 1])
-    return "\n".join(found)
+    """The lines of an item that are antt: clauses, ghost members and lines `ghost use`."""
+    found = re.finditer(r"^( *)(?:requires|ensures|ghost)\b.*(?:\n\1 .*)*", code, re.M)
+    return "\n".join(re.sub(r"^ *ensures\*? \w+", "", it[0]) for it in found)
 
 
 def is_named(word, text):
@@ -73,7 +83,7 @@ def is_named(word, text):
 def head_of(file, items):
     """The line `tactic` of a file, and those of its imports that some items name."""
     code, lines = "\n".join(it.code for it in items), []
-    for line in text_of(path_of(file)).split("\n"):
+    for line in text_of(f"{TOP}/crates/{GALLERY}/src/{file}.rt").split("\n"):
         found = re.fullmatch(r"((?:ghost )?use .*(?:\.|::))(?:\{(.*)\}|(\w+));", line)
         if not found:
             lines += [line] if re.match(r"#!\[|$", line) else []
@@ -122,7 +132,7 @@ def found(name):
     known = examples()
     if name in known:
         return known[name]
-    tasks = [it for it, _, task in rows_of_tasks(text_of(f"{TOP}/{TASKS}")) if name.lower() in task.lower()]
+    tasks = [it for it, _, task in tasks_of(text_of(f"{TOP}/{TASKS}")) if name.lower() in task.lower()]
     near = dict.fromkeys([*tasks, *difflib.get_close_matches(name, known, 5, 0.6)])
     told = f"the nearest are {', '.join(near)}" if near else f"{TASKS} lists all"
     raise Refused(f"no example is named {name}; {told}")

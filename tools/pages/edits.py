@@ -5,8 +5,9 @@ import functools
 import glob
 import os
 import re
+from itertools import takewhile
 
-from pages.sources import read, whose
+from pages.sources import blocks, read, whose
 
 FOLDERS = ("must-fail", "claims")
 # The first words of its type and of its trait, if it has them, and its first and last line, counted from 0.
@@ -82,24 +83,15 @@ def text_with(changes, path, file):
 
 def functions_in(file, text):
     """The functions of a source, with their attributes and contracts and without their comments."""
-    lines, owner, trait = text.split("\n"), "", ""
-    for at, line in enumerate(lines):
-        head = re.match(r"(?:unsafe )?(impl|(?:pub )?trait)\b(.*)", line)
-        if head or line == "}":
-            whole = head and head[2] + " ".join(lines[at + 1 : at + 2]) * (not line.endswith(("{", "{}")))
-            trait, _, owner, _ = whose(whole) if head else ("", "", "", "")
-            trait = re.sub(r"<.*|\w+::| ", "", trait)
-        found = re.match(r"( *)(?:pub(?:\([^)]*\))? )?(?:const )?fn (\w+)", line)
-        first, last, begun = at, at, False
-        while found and lines[first - 1].lstrip().startswith("#["):
-            first -= 1
-        while found and not re.search(r"\{\}$", lines[last]) and lines[last] != f"{found[1]}}}":
-            if not begun and lines[last].endswith(";"):
-                break  # a trait's function, which has no body
-            begun |= lines[last].endswith("{")
-            last += 1
-        if found:
-            yield Function(file, owner, trait, found[2], first, last)
+    for item in blocks(text):
+        head = re.match(r"(?:pub(?:\([^)]*\))? )?(?:impl|trait)\b([^{]*)", item.code)
+        trait, _, owner, _ = whose(" ".join(head[1].split())) if head else ("", "", "", "")
+        for it in blocks(item.code, "    ") if head else [item]:
+            name = re.match(r" *(?:pub(?:\([^)]*\))? )?(?:const )?fn (\w+)", it.code)
+            first = it.first + item.first * bool(head)
+            above = [*takewhile(re.compile(r" *#\[").match, reversed(it.above.splitlines()))]
+            if name:
+                yield Function(file, owner, re.sub(r"<.*|\w+::| ", "", trait), name[1], first - len(above), first + it.code.count("\n"))
 
 
 @functools.cache

@@ -48,16 +48,14 @@ def lines_of(record):
 
 
 def rows():
-    """The path, the sum and the row of each edit in the record. A row of the older form has the whole path, and a goal with its
-    place."""
+    """The path, the sum and the row of each edit in the record."""
     folder = ""
     for name, *cells in lines_of(RECORD):
         folder = folder if cells else name
-        path = name if name.endswith(".edit") else f"crates/{folder}/{name}.edit"
+        path = f"crates/{folder}/{name}.edit"
         if cells and os.path.exists(path):
-            sum, said, *right = cells
-            older = re.match(r"`(.+)` in (the proof of )?`", said)
-            yield path, sum[:DIGITS], Row([WRITTEN * bool(older[2]) + older[1]] if older else said.split(), *(right or [""]))
+            sum, goals, *right = cells
+            yield path, sum, Row(goals.split(), *(right or [""]))
 
 
 def recorded():

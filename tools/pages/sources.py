@@ -3,10 +3,12 @@ import collections
 import glob
 import os
 import re
+from itertools import takewhile
 
 LIBRARY = ["micromap_walk", "micromap_core", "micromap"]
 PROOFS = ("laws", "equal_keys_match_alike", "matching_keys_are_equal")  # ghost members of an impl that state nothing
 TYPES = ("struct", "enum", "type", "trait")
+Block = collections.namedtuple("Block", "above code first")
 Function = collections.namedtuple("Function", "name head doc clauses")
 Item = collections.namedtuple(
     "Item", "kind name trait whom bounds head body doc derives ghosts types functions path imports"
@@ -28,17 +30,28 @@ def parts(text):
     return [it.strip() for it in re.split(r",(?![^<(\[]*[>)\]])", text) if it.strip()]
 
 
-def functions_of(text, indent, public):
-    """The functions at an indentation, with their signatures on one line each, and their clauses."""
-    docs = rf"((?:^{indent}(?:///|#\[)[^\n]*\n)*)"
-    begins = rf"^{indent}{public}(?:const |unsafe )*fn (\w+)"
-    ends = rf"(?=\n{indent}\{{\n|(?<! record) \{{\n|;\n(?!{indent} ))"
-    for docs, name, text in re.findall(rf"{docs}{begins}(.*?){ends}", text, re.M | re.S):
-        head, *rest = re.split(r"\n *(?=requires\b|ensures\b|//)", text)
-        head = re.sub(r"\s+", " ", head).replace("( ", "(").replace(", )", ")").rstrip(",")
-        rest = [" ".join(it.split()) for it in rest if not it.startswith("//")]
-        clauses = [re.match(r"(requires|ensures\*?)(?: (\w+))? \{ (.*) \}$", it).groups("") for it in rest]
-        yield Function(name, "fn " + name + re.sub(r"\bmut (?=\w+:)", "", head), doc_of(docs), clauses)
+def blocks(text, margin=""):
+    """The functions, types, traits and impls at a margin: the lines above each that are comments and attributes, its own
+    lines, and the number of its first one, counted from 0."""
+    lines = text.split("\n")
+    begins = re.compile(rf"{margin}(?:pub(?:\([^)]*\))? |const |unsafe )*(?:fn|struct|enum|type|trait|impl|const)\b")
+    for at in (at for at, line in enumerate(lines) if begins.match(line)):
+        above = [*takewhile(re.compile(rf"{margin}(?://|#\[)").match, reversed(lines[:at]))]
+        last, is_open = at, lines[at].endswith("{")
+        while lines[last] != f"{margin}}}" and (is_open or not re.search(r"[;}]$" if last == at else r";$|\{\}$", lines[last])):
+            last += 1
+            is_open |= lines[last].endswith("{")
+        yield Block("".join(f"{it}\n" for it in reversed(above)), "\n".join(lines[at : last + 1]), at)
+
+
+def function_in(block):
+    """A function, with its signature on one line, and its clauses."""
+    name, text = re.match(r".*?\bfn (\w+)(.*?)(?:\n *\{\n|(?<! record) \{\n|;$|$)", block.code, re.S).groups()
+    head, *rest = re.split(r"\n *(?=requires\b|ensures\b|//)", text)
+    head = re.sub(r"\s+", " ", head).replace("( ", "(").replace(", )", ")").rstrip(",")
+    rest = [" ".join(it.split()) for it in rest if not it.startswith("//")]
+    clauses = [re.match(r"(requires|ensures\*?)(?: (\w+))? \{ (.*) \}$", it).groups("") for it in rest]
+    return Function(name, "fn " + name + re.sub(r"\bmut (?=\w+:)", "", head), doc_of(block.above), clauses)
 
 
 def whose(head):
@@ -55,23 +68,21 @@ def items_of(path):
     text, imports = read(path), {}
     for module, names in re.findall(r"ghost use Rattle\.([\w.]+)\.\{([^}]*)\}", text):
         imports.update((it.split(" as ")[-1].strip(), module) for it in names.split(","))
-    begins = r"((?:^(?:///|#\[).*\n)*)^(?:pub (struct|enum|type|trait|fn)|(impl))\b"
-    for found in re.finditer(begins, text, re.M):
-        kind, rest = found[2] or found[3], text[found.end() :].replace("fmt::", "")
-        head = re.match(r"[^{]*" if kind in ("impl", "trait") else r"[^{;]*", rest)[0]
-        head = re.sub(r"\s+", " ", head).strip()
-        ends = ";" if kind == "type" or rest[: rest.index("\n")].endswith(";") else "\n}"
-        body = "" if re.match(r"[^{]*\{\}", rest) and kind == "impl" else rest[: rest.index(ends) + 2]
+    for it in blocks(text):
+        found = re.match(r"(?:pub (struct|enum|type|trait|fn)|(impl))\b(.*)", it.code.replace("fmt::", ""), re.S)
+        if not found:
+            continue
+        kind, body = found[1] or found[2], found[3]
+        head = " ".join(re.match(r"[^{]*" if kind in ("impl", "trait") else r"[^{;]*", body)[0].split())
         trait, whom, name, bounds = whose(head) if kind == "impl" else ("", "", re.match(r"\w*", head)[0], [])
-        public = "" if trait or kind == "trait" else "pub "
-        own = functions_of("fn" + body, "", "") if kind == "fn" else functions_of(body, "    ", public)
-        derives = re.findall(r"\w+", "".join(re.findall(r"#\[derive(\(.*\))\]", found[1])))
+        public = rf" *{'' if trait or kind == 'trait' else 'pub '}(?:const |unsafe )*fn "
+        functions = [function_in(one) for one in ([it] if kind == "fn" else blocks(body, "    ")) if re.match(public, one.code)]
+        derives = re.findall(r"\w+", "".join(re.findall(r"#\[derive(\(.*\))\]", it.above)))
         member = r"((?:^    ///[^\n]*\n)*)^    ghost (?!use\b)(\w+)( =|:) \{ (.*?) \};$"
         ghosts = [(*it[:3], " ".join(it[3].split())) for it in re.findall(member, body, re.M | re.S)]
         ghosts = [it for it in ghosts if kind == "trait" or it[1] not in PROOFS]
         types = re.findall(r"^    (type .*);$", body, re.M)
-        doc = doc_of(found[1])
-        yield Item(kind, name, trait, whom, bounds, head, body, doc, derives, ghosts, types, [*own], path, imports)
+        yield Item(kind, name, trait, whom, bounds, head, body, doc_of(it.above), derives, ghosts, types, functions, path, imports)
 
 
 class Sources:

@@ -227,10 +227,7 @@ def made(text):
     return {CHART: drawn(source, times)} | parts
 
 
-def wrong_of_speed(notes):
+def wrong_of_speed():
     """Which files aren't what the record makes."""
-    if not os.path.exists(RECORD):
-        notes.append(f"{RECORD} isn't there: nothing says whether the chart and the tables of times are of one run")
-        return []
     stale = (path for path, it in made(read(RECORD)).items() if not os.path.exists(path) or read(path) != it)
     return [f"{path} isn't what {RECORD} has: run tools/compare --chart" for path in stale]

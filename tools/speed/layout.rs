@@ -4,6 +4,7 @@
 
 use crate::both::Both;
 use crate::bytes::Bytes;
+use crate::calls::{numbers_at, wide_at};
 use crate::inputs::key_of;
 use crate::numbers::Numbers;
 use crate::platform::Global;
@@ -102,39 +103,39 @@ impl<K, V, const N: usize> Columns<K, V, N> {
     }
 
     #[inline]
-    fn get<Q: Eq + ?Sized>(&mut self, key: &Q) -> Option<&mut V>
+    fn get<Q: Eq + ?Sized>(&self, key: &Q) -> Option<&V>
     where
         K: Borrow<Q>,
     {
         let index = self.index_of(key)?;
         // SAFETY: the key stands there, and the columns have the same length.
-        Some(unsafe { self.values.at(index) })
+        unsafe { self.values.slots.get_unchecked(index).assume_init_ref().as_ref() }
     }
 
-    /// Adds a pair with a new key, if there is room.
+    /// Adds a pair with a new key, and returns `true`, if there is room.
     #[inline]
-    fn push(&mut self, key: K, value: V) {
-        if self.keys.len < N {
+    fn push(&mut self, key: K, value: V) -> bool {
+        let has_room = self.keys.len < N;
+        if has_room {
             // SAFETY: there is room, and the columns have the same length.
             unsafe {
                 self.keys.push(key);
                 self.values.push(value);
             }
         }
+        has_room
     }
 
+    /// Stores a value at a key, and returns the value that stood there, or `None` if a new key doesn't fit.
     #[inline]
-    fn insert(&mut self, key: K, value: V) -> Option<V>
+    fn checked_insert(&mut self, key: K, value: V) -> Option<Option<V>>
     where
         K: Eq,
     {
         match self.index_of(&key) {
             // SAFETY: the key stands there, and the columns have the same length.
-            Some(index) => Some(mem::replace(unsafe { self.values.at(index) }, value)),
-            None => {
-                self.push(key, value);
-                None
-            }
+            Some(index) => Some(Some(mem::replace(unsafe { self.values.at(index) }, value))),
+            None => self.push(key, value).then_some(None),
         }
     }
 
@@ -176,15 +177,26 @@ impl<K, V, const N: usize> Columns<K, V, N> {
     }
 
     #[inline]
-    fn from_pairs(pairs: impl IntoIterator<Item = (K, V)>) -> Self
-    where
-        K: Eq,
-    {
+    fn len(&self) -> usize {
+        self.keys.len
+    }
+}
+
+impl<K: Eq, V, const N: usize> FromIterator<(K, V)> for Columns<K, V, N> {
+    #[inline]
+    fn from_iter<I: IntoIterator<Item = (K, V)>>(pairs: I) -> Self {
         let mut map = Columns::new();
         for (key, value) in pairs {
-            map.insert(key, value);
+            map.checked_insert(key, value);
         }
         map
+    }
+}
+
+impl<K: Eq, V, const N: usize> From<[(K, V); N]> for Columns<K, V, N> {
+    #[inline]
+    fn from(pairs: [(K, V); N]) -> Self {
+        pairs.into_iter().collect()
     }
 }
 
@@ -211,39 +223,18 @@ impl<K: Copy, V: Copy, const N: usize> Columns<K, V, N> {
     }
 }
 
-impl<const N: usize> Numbers for Columns<u64, u64, N> {
-    #[inline]
-    fn with_room(_memory: Global, _room: u64) -> Self {
-        Columns::new()
-    }
-
-    #[inline]
-    fn put(&mut self, key: u64, value: u64) -> Option<u64> {
-        self.insert(key, value)
-    }
-
-    #[inline]
-    fn find(&self, key: u64) -> Option<u64> {
-        let index = self.index_of(&key)?;
-        // SAFETY: the key stands there, and the columns have the same length.
-        unsafe { *self.values.slots.get_unchecked(index).assume_init_ref() }
-    }
-
-    #[inline]
-    fn take_out(&mut self, key: u64) -> Option<u64> {
-        self.remove(&key)
-    }
-
-    #[inline]
-    fn keep_half(&mut self, first: u64, bit: u64) {
-        self.retain(|key, _| key.wrapping_add(first) & bit != 0);
-    }
-
+numbers_at! { Columns<u64, u64, N>,
     #[inline]
     fn note(&mut self, key: u64) {
-        match self.get(&key) {
-            Some(times) => *times = times.wrapping_add(1),
-            None => self.push(key, 1),
+        match self.index_of(&key) {
+            Some(index) => {
+                // SAFETY: the key stands there, and the columns have the same length.
+                let times = unsafe { self.values.at(index) };
+                *times = times.wrapping_add(1);
+            }
+            None => {
+                self.push(key, 1);
+            }
         }
     }
 
@@ -257,36 +248,19 @@ impl<const N: usize> Numbers for Columns<u64, u64, N> {
     }
 
     #[inline]
-    fn count(&self) -> u64 {
-        self.keys.len as u64
-    }
-
-    #[inline]
     fn clone_and_find(&self, key: u64) -> u64 {
-        let copy = self.clone();
-        copy.find(key).unwrap_or(0).wrapping_add(copy.count())
+        self.clone().found(key)
     }
 
     #[inline]
     fn copy_and_find(&self, key: u64) -> u64 {
-        let copy = self.copied();
-        copy.find(key).unwrap_or(0).wrapping_add(copy.count())
+        self.copied().found(key)
     }
 
     #[inline]
     fn collect_and_find(&self, _memory: Global, _room: u64, first: u64, key: u64) -> u64 {
-        let map: Self = Columns::from_pairs((0..N as u64).map(|index| (key_of(index, first), index)));
-        map.find(key).unwrap_or(0).wrapping_add(map.count())
-    }
-
-    #[inline]
-    fn from_array_and_find(&self, _memory: Global, _room: u64, first: u64, key: u64) -> u64 {
-        let mut pairs = [(0u64, 0u64); N];
-        for index in 0..N {
-            pairs[index] = (key_of(index as u64, first), index as u64);
-        }
-        let map: Self = Columns::from_pairs(pairs);
-        map.find(key).unwrap_or(0).wrapping_add(map.count())
+        let map: Self = (0..N as u64).map(|index| (key_of(index, first), index)).collect();
+        map.found(key)
     }
 }
 
@@ -300,7 +274,7 @@ impl<const N: usize> Both for Columns<u64, u64, N> {
     #[inline]
     fn put_all(&mut self, other: &Self) {
         for (key, value) in other.keys.items().zip(other.values.items()) {
-            self.insert(*key, *value);
+            self.checked_insert(*key, *value);
         }
     }
 }
@@ -313,19 +287,17 @@ impl<const N: usize> Texts for Columns<String, u64, N> {
 
     #[inline]
     fn put(&mut self, _memory: Global, key: &str, value: u64) {
-        self.insert(String::from(key), value);
+        self.checked_insert(String::from(key), value);
     }
 
     #[inline]
     fn find(&self, key: &str) -> Option<u64> {
-        let index = self.index_of(key)?;
-        // SAFETY: the key stands there, and the columns have the same length.
-        unsafe { *self.values.slots.get_unchecked(index).assume_init_ref() }
+        self.get(key).copied()
     }
 
     #[inline]
     fn count(&self) -> u64 {
-        self.keys.len as u64
+        self.len() as u64
     }
 }
 
@@ -388,14 +360,4 @@ impl<const N: usize> Bytes for Columns<u8, (), N> {
     }
 }
 
-impl<const N: usize> Wide for Columns<u64, [u64; 3], N> {
-    #[inline]
-    fn empty() -> Self {
-        Columns::new()
-    }
-
-    #[inline]
-    fn put(&mut self, key: u64, value: [u64; 3]) -> Option<[u64; 3]> {
-        self.insert(key, value)
-    }
-}
+wide_at! { Columns<u64, [u64; 3], N> }

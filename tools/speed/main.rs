@@ -14,6 +14,8 @@
 mod both;
 #[path = "workloads/bytes.rs"]
 mod bytes;
+#[path = "workloads/calls.rs"]
+mod calls;
 #[path = "workloads/inputs.rs"]
 mod inputs;
 mod layout;

@@ -2,6 +2,7 @@
 
 use crate::both::Both;
 use crate::bytes::Bytes;
+use crate::calls::{bytes_at, numbers_at, wide_at};
 use crate::inputs::key_of;
 use crate::numbers::Numbers;
 use crate::platform::Global;
@@ -9,32 +10,7 @@ use crate::texts::Texts;
 use crate::wide::Wide;
 use micromap::{Map, Set};
 
-impl<const N: usize> Numbers for Map<u64, u64, N> {
-    #[inline]
-    fn with_room(_memory: Global, _room: u64) -> Self {
-        Map::new()
-    }
-
-    #[inline]
-    fn put(&mut self, key: u64, value: u64) -> Option<u64> {
-        self.checked_insert(key, value).flatten()
-    }
-
-    #[inline]
-    fn find(&self, key: u64) -> Option<u64> {
-        self.get(&key).copied()
-    }
-
-    #[inline]
-    fn take_out(&mut self, key: u64) -> Option<u64> {
-        self.remove(&key)
-    }
-
-    #[inline]
-    fn keep_half(&mut self, first: u64, bit: u64) {
-        self.retain(|key, _| key.wrapping_add(first) & bit != 0);
-    }
-
+numbers_at! { Map<u64, u64, N>,
     // At a full map the Rust crate panics, so it needs no test for room.
     #[inline]
     fn note(&mut self, key: u64) {
@@ -51,30 +27,14 @@ impl<const N: usize> Numbers for Map<u64, u64, N> {
     }
 
     #[inline]
-    fn count(&self) -> u64 {
-        self.len() as u64
-    }
-
-    #[inline]
     fn clone_and_find(&self, key: u64) -> u64 {
-        let copy = self.clone();
-        copy.find(key).unwrap_or(0).wrapping_add(copy.count())
+        self.clone().found(key)
     }
 
     #[inline]
     fn collect_and_find(&self, _memory: Global, _room: u64, first: u64, key: u64) -> u64 {
         let map: Self = (0..N as u64).map(|index| (key_of(index, first), index)).collect();
-        map.find(key).unwrap_or(0).wrapping_add(map.count())
-    }
-
-    #[inline]
-    fn from_array_and_find(&self, _memory: Global, _room: u64, first: u64, key: u64) -> u64 {
-        let mut pairs = [(0u64, 0u64); N];
-        for index in 0..N {
-            pairs[index] = (key_of(index as u64, first), index as u64);
-        }
-        let map: Self = Map::from(pairs);
-        map.find(key).unwrap_or(0).wrapping_add(map.count())
+        map.found(key)
     }
 }
 
@@ -114,68 +74,12 @@ impl<const N: usize> Texts for Map<String, u64, N> {
     }
 }
 
-impl<const N: usize> Bytes for Set<u8, N> {
-    #[inline]
-    fn empty() -> Self {
-        Set::new()
-    }
-
-    #[inline]
-    fn put(&mut self, item: u8) {
-        self.checked_insert(item);
-    }
-
-    #[inline]
-    fn has(&self, item: u8) -> bool {
-        self.contains(&item)
-    }
-
-    #[inline]
-    fn total(&self, mask: u64) -> u64 {
-        let mut sum = 0u64;
-        for item in self.iter() {
-            sum = sum.wrapping_add(*item as u64 ^ mask);
-        }
-        sum
-    }
-
-    #[inline]
-    fn count(&self) -> u64 {
-        self.len() as u64
-    }
-
-    #[inline]
-    fn keep_half(&mut self, first: u8, bit: u8) {
-        self.retain(|item| item.wrapping_add(first) & bit != 0);
-    }
-
+bytes_at! { Set<u8, N>,
     #[inline]
     fn join_and_find(&self, other: &Self, item: u8) -> u64 {
         let set: Self = self.union(other).copied().collect();
         (set.has(item) as u64).wrapping_add(set.count())
     }
-
-    #[inline]
-    fn total_apart_and_common(&self, other: &Self, mask: u64) -> u64 {
-        let mut sum = 0u64;
-        for item in self.difference(other) {
-            sum = sum.wrapping_add(*item as u64 ^ mask);
-        }
-        for item in self.intersection(other) {
-            sum = sum.wrapping_add(*item as u64 ^ mask);
-        }
-        sum
-    }
 }
 
-impl<const N: usize> Wide for Map<u64, [u64; 3], N> {
-    #[inline]
-    fn empty() -> Self {
-        Map::new()
-    }
-
-    #[inline]
-    fn put(&mut self, key: u64, value: [u64; 3]) -> Option<[u64; 3]> {
-        self.checked_insert(key, value).flatten()
-    }
-}
+wide_at! { Map<u64, [u64; 3], N> }

@@ -36,9 +36,7 @@ fn put_whole<M: Both, const N: usize>(memory: Global, salt: u64, rounds: u64) ->
         let _old = from.put(salt, odd(round, salt));
         let mut map = M::with_room(memory, N as u64);
         map.put_all(&from);
-        sum = sum
-            .wrapping_add(map.find(salt).unwrap_or(0))
-            .wrapping_add(map.count());
+        sum = sum.wrapping_add(map.found(salt));
     }
     sum
 }

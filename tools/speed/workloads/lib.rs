@@ -1,19 +1,19 @@
 //! Workloads over this library's map and set, for the driver in `tools/speed` that times them beside the Rust crate's.
 //! `tools/compare` makes a crate of these files, which end in `.rs` since the gate reads every `.rt` file.
 //!
-//! `inputs` and the files of workloads (`both`, `bytes`, `numbers`, `texts` and `wide`) have no clause and are Rust as well:
-//! the driver compiles the same files. `library` has the workloads' calls at this library's types, and `index_map` and
-//! `hash_map` have them at types that a user might take in their place. A workload is proved to be safe and to end. The
-//! driver compares what it returns. `tests` runs each without proof.
+//! `inputs`, `calls` and the files of workloads (`both`, `bytes`, `numbers`, `texts` and `wide`) have no clause and are Rust
+//! as well: the driver compiles the same files. `library` has the workloads' calls at this library's types, and `hash_maps`
+//! at types that a user might take in their place. A workload is proved to be safe and to end. The driver compares what it
+//! returns. `tests` runs each without proof.
 //!
 //! A new workload has a function in the file of its trait, an arm in `run` and a name in `NAMES`. A method that the trait
-//! lacks is added to each type that implements it, unless it has a default: in `library.rs`, `tools/speed/rust_crate.rs`
-//! and `tools/speed/layout.rs`, and for numbers in `index_map.rs` and `hash_map.rs`.
+//! lacks is added to each type that implements it, unless it has a default: in `calls.rs`, or else in `library.rs`,
+//! `tools/speed/rust_crate.rs` and `tools/speed/layout.rs`, and for numbers in `hash_maps.rs`.
 //!
-//! A new type implements the trait, as `hash_map.rs` does. It has a `mod` and an arm here, and its library in `LINE` of
-//! `tools/compare`; a line in `tests.rs`; a number in the table of `tools/speed/main.rs`, and a name at the same place in
-//! `RIVALS` of `tools/pages/speed.py`. The head and the other rows of the README's table get it by hand. A type in Rust is
-//! an argument of `subject!` in `main.rs`, and has a place in `measured`.
+//! A new type has a `mod` and an arm here, and its library in `LINE` of `tools/compare`; a line in `tests.rs`; a number in
+//! the table of `tools/speed/main.rs`, and a name at the same place in `RIVALS` of `tools/pages/speed.py`. The head and the
+//! other rows of the README's table get it by hand. A type in Rust is an argument of `subject!` in `main.rs`, and has a
+//! place in `measured`.
 //!
 //! Then `tools/compare --check` passes, the figures are recorded anew, and SPEED says what a new workload does.
 #![tactic(auto)]
@@ -22,8 +22,8 @@ ghost use Rattle.std.specs.Prelude.{◌≤◌};
 
 pub mod both;
 pub mod bytes;
-mod hash_map;
-mod index_map;
+mod calls;
+mod hash_maps;
 pub mod inputs;
 mod library;
 pub mod numbers;

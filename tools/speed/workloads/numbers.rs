@@ -28,7 +28,13 @@ pub trait Numbers: Drop {
     /// The number of keys.
     fn count(&self) -> u64;
 
-    /// Clones the map, and looks a key up in the clone: its value plus the number of keys.
+    /// The value at a key, or 0, plus the number of keys.
+    #[inline]
+    fn found(&self, key: u64) -> u64 {
+        self.find(key).unwrap_or(0).wrapping_add(self.count())
+    }
+
+    /// Clones the map, and looks a key up in the clone by `found`.
     fn clone_and_find(&self, key: u64) -> u64;
 
     /// The same with a call that copies pairs that are `Copy`, where there is one.
@@ -37,15 +43,15 @@ pub trait Numbers: Drop {
         self.clone_and_find(key)
     }
 
-    /// Makes another map of `room` pairs, by a call that takes an iterator where there is one, and looks a key up in it: its
-    /// value plus the number of keys. Each pair is the key of an index from the odd number `first`, and that index.
+    /// Makes another map of `room` pairs, by a call that takes an iterator where there is one, and looks a key up in it by
+    /// `found`. Each pair is the key of an index from the odd number `first`, and that index.
     #[inline]
     fn collect_and_find(&self, memory: Global, room: u64, first: u64, key: u64) -> u64 {
         let mut map = Self::with_room(memory, room);
         for index in 0..room {
             let _old = map.put(key_of(index, first), index);
         }
-        map.find(key).unwrap_or(0).wrapping_add(map.count())
+        map.found(key)
     }
 
     /// The same with a call that takes all items, or makes no map if they don't fit, where there is one.
@@ -259,10 +265,7 @@ fn with_one<M: Numbers, const N: usize>(memory: Global, key: u64) -> M {
 
 #[inline(never)]
 fn consumed<M: Numbers>(map: M, key: u64) -> u64 {
-    match map.find(key) {
-        Some(value) => value,
-        None => 0,
-    }
+    map.find(key).unwrap_or(0)
 }
 
 #[inline(never)]

@@ -1,4 +1,4 @@
-//! Each workload runs. `tools/compare --check` performs these tests, without proof.
+//! Each workload runs. `tools/compare --check` performs this test, without proof.
 
 use crate::{both, bytes, numbers, run, texts, wide};
 use std::alloc::Global;
@@ -13,28 +13,12 @@ fn workloads_of(memory: Global, subject: u64) -> usize {
 }
 
 #[test]
-fn numbers_run(rt: HostRuntime) {
-    assert!(rt; workloads_of(rt.alloc(), 0) == numbers::NAMES.len());
-    assert!(rt; workloads_of(rt.alloc(), 1) == numbers::NAMES.len());
-    assert!(rt; workloads_of(rt.alloc(), 2) == numbers::NAMES.len());
-}
-
-#[test]
-fn two_maps_run(rt: HostRuntime) {
-    assert!(rt; workloads_of(rt.alloc(), 6) == both::NAMES.len());
-}
-
-#[test]
-fn bytes_run(rt: HostRuntime) {
+fn each_workload_runs(rt: HostRuntime) {
+    for subject in 0..3 {
+        assert!(rt; workloads_of(rt.alloc(), subject) == numbers::NAMES.len());
+    }
     assert!(rt; workloads_of(rt.alloc(), 3) == bytes::NAMES.len());
-}
-
-#[test]
-fn texts_run(rt: HostRuntime) {
     assert!(rt; workloads_of(rt.alloc(), 4) == texts::NAMES.len());
-}
-
-#[test]
-fn wide_values_run(rt: HostRuntime) {
     assert!(rt; workloads_of(rt.alloc(), 5) == wide::NAMES.len());
+    assert!(rt; workloads_of(rt.alloc(), 6) == both::NAMES.len());
 }
