@@ -4,7 +4,7 @@ import re
 
 from pages.calls import Calls
 from pages.sources import TYPES, Paths, anchor, parts
-from pages.vocabulary import Vocabulary
+from pages.vocabulary import table
 
 API = "crates/micromap/API.md"
 # The groups: those of a map and of a set, by the names of calls and traits, and the others, by calls and types.
@@ -219,7 +219,7 @@ class Api:
                 out += self.section(name, {trait: lines for trait, (those, lines) in shared.items() if name in those})
         for label in ENDS:
             out += ["", *self.end(label)]
-        return "\n".join([*out, "", *Vocabulary([*self.texts()], self.wrong).table()]) + "\n"
+        return "\n".join([*out, "", *table(self.texts(), self.wrong)]) + "\n"
 
     def shared(self, names):
         """The members that all impls of a trait for some types have: by the trait the types and the lines."""

@@ -4,9 +4,8 @@ import os
 import re
 
 from pages.api import API
-from pages.edits import changed, crate_of, edits
+from pages.edits import CONTRACT, PROOF, PROVED, Row, changed, changes_proof, clause_in, crate_of, edits, is_fair, kind_of, recorded
 from pages.planted import NONE, calls_of, planted
-from pages.record import CONTRACT, PROOF, PROVED, Row, changes_proof, clause_in, is_fair, kind_of, recorded
 from pages.sources import LIBRARY, Sources, anchor, read
 
 CLAIMS = "docs/CLAIMS.md"
@@ -179,8 +178,8 @@ class Claims:
         order, calls = [it for group in self.api.groups.values() for it in group], collections.defaultdict(list)
         for name, clause in self.library.items():
             calls[clause.call] += [name] if clause.call not in HEADLINE else []
-        places = {it: order.index(self.api.heading(it)) if self.api.heading(it) else len(order) for it in calls}
-        for call in sorted((it for it in calls if calls[it]), key=places.get):
+        place = lambda call: [*order, self.api.heading(call)].index(self.api.heading(call))
+        for call in sorted((it for it in calls if calls[it]), key=place):
             cells = (", ".join(self.cell(it) for it in calls[call] if self.best[it][0] in grades) for grades in ("A", "B", [*"CDEF"], "P", ["none"]))
             yield f"|{self.linked(call)}|{'|'.join(cells)}|"
 

@@ -3,8 +3,7 @@ what came of the planted ones."""
 import collections
 import re
 
-from pages.edits import functions_in
-from pages.record import code_of, lines_of, sum_of
+from pages.edits import code_of, functions_in, lines_of, sum_of
 from pages.sources import read
 
 PLANTED, NONE = "tools/pages/planted.tsv", "no wrong body could be judged"

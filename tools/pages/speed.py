@@ -101,27 +101,15 @@ def heading(first, others):
 
 
 def time_table(times):
-    """The ratios, and the Rust crate's nanoseconds in brackets."""
-    lines = heading("Time relative to the Rust crate's (its ns)", next(iter(times.values())))
+    """The ratios, the Rust crate's nanoseconds in brackets, and the geometric means over the capacities."""
+    lines = heading("Time relative to the Rust crate's (its ns)", [*next(iter(times.values())), "mean"])
     for (subject, workload), cells in times.items():
         own = (f"{shown(ratios[0])} ({nanoseconds:.1f})" for nanoseconds, ratios in cells.values())
-        lines.append(row([f"{subject}: {workload}", *own]))
+        lines.append(row([f"{subject}: {workload}", *own, shown(mean(ratios_of(cells, 0)))]))
         for rival, name in enumerate(RIVALS[1:], 1):
             if ratios := ratios_of(cells, rival):
-                lines.append(row([f"· {name}", *map(shown, ratios)]))
+                lines.append(row([f"· {name}", *map(shown, [*ratios, mean(ratios)])]))
     return lines
-
-
-def mean_table(times):
-    """The geometric means over the capacities, of each workload and of all in which a rival takes part: first this
-    library's over its layout's, then each one's over the Rust crate's."""
-    lines = heading("Geometric mean over the capacities", ["this library over its layout", *RIVALS])
-    every = [[] for _ in range(len(RIVALS) + 1)]
-    for (subject, workload), cells in times.items():
-        columns = [over(cells, 0, 1), *(ratios_of(cells, rival) for rival in range(len(RIVALS)))]
-        lines.append(row([f"{subject}: {workload}", *(shown(mean(it)) if it else "" for it in columns)]))
-        every = [[*before, *it] for before, it in zip(every, columns)]
-    return [*lines, row(["all", *(shown(mean(it)) for it in every)])]
 
 
 def size_table(sizes):

@@ -12,55 +12,51 @@ The words of this library in the clauses above, each with its arguments, below i
 | Word | Meaning |
 |---|---|"""
 # Words with their arguments, where a definition doesn't name them, and with a meaning, where it has no comment of its own or
-# one that rests on another's. Without a meaning here, the comment stands.
+# one that rests on another's. Without a meaning here, the comment stands. Words before a comma have the same.
 BY_HAND = """
-all_fit eq N items |
-all_items_fit eq N items |
-build eq items |
-code fault |
+all_fit, all_items_fit eq N items
+build, distinct eq items
+code, message fault
 count_or_refuse eq N content x | the pairs of a counter once one more of `x` came, or `None` if it doesn't fit or if `content` is `None`
-difference_advanced eq w | where a call of `next` leads the operation from `w`: past the next member, or to the end if there is none
+difference_advanced, intersection_advanced, symmetric_advanced, union_advanced eq w | where a call of `next` leads the operation from `w`: past the next member, or to the end if there is none
 difference_hint w | the bounds of how many members are left: `(length w.rest - length w.other, Some (length w.rest))`
-difference_remaining eq w | the members that the operation has left at `w`
-distinct eq items |
-entry_key e |
-entry_taken e |
-entry_value e |
+difference_remaining, intersection_remaining, symmetric_remaining, union_remaining eq w | the members that the operation has left at `w`
+entry_key, entry_taken, entry_value e
 Faults faults last_fault old new fault | one fault came between `old` and `new`, and it is `fault`
-insert_error_text error |
-intersection_advanced eq w | where a call of `next` leads the operation from `w`: past the next member, or to the end if there is none
+insert_error_text error
 intersection_hint w | the bounds of how many members are left: `(0, Some (min (length w.rest) (length w.other)))`
-intersection_remaining eq w | the members that the operation has left at `w`
-is_same eq same first second |
-IsSound eq e |
+is_same eq same first second
+IsSound eq e
 item_texts items | a set's `String` items, by their bytes
 ItemMisfitIn eq N old items position | `position` is that of the first of the items that doesn't fit a set of capacity `N` with `old`
 key_texts pairs | the pairs with each `String` key as its bytes
-map_text key_text value_text pairs |
+map_text key_text value_text pairs
 MapReads eq N old new read | what `read` is of a source that is `old` before it and `new` after it: `build` of its entries if all fit, else its first fault, or `TooMany` at the first entry that doesn't fit. `new` has the entries that weren't taken
-members pairs |
-message fault |
+members pairs
 MisfitIn eq N old items position | `position` is that of the first of the items that doesn't fit a map of capacity `N` with the pairs `old`
-put_all eq pairs items |
-put_all_items eq old items |
+put_all eq pairs items
+put_all_items eq old items
 put_item_or_refuse eq N content x | the items once `x` is put, or `None` if it doesn't fit or if `content` is `None`
 put_or_refuse eq N content p | the pairs once `p` is put, or `None` if it doesn't fit or if `content` is `None`
-put_pair_if_fits eq N pairs p |
-PutsAll eq N old new items |
-PutsAllItems eq N old new items |
+put_pair_if_fits eq N pairs p
+PutsAll, PutsAllItems eq N old new items
 PutsBefore eq N old new items position | the first of the items that doesn't fit stands at `position`, and `new` is `put_all` of those before it
 PutsItemsBefore eq N old new items position | the same of a set and `put_all_items`
-read_fault_text fault_text fault |
+read_fault_text fault_text fault
 Same eq same first second | each pair of either list has an equal key with an equal value in the other
-symmetric_advanced eq w | where a call of `next` leads the operation from `w`: past the next member, or to the end if there is none
 symmetric_hint w | the sums of the bounds of both differences at `w`: the lower one at most `2 ^ 64 - 1`, the upper one `None` from `2 ^ 64` on
-symmetric_remaining eq w | the members that the operation has left at `w`
-union_advanced eq w | where a call of `next` leads the operation from `w`: past the next member, or to the end if there is none
 union_hint w | the sums of the bounds of `w.beyond` and of the number of `w.others`, limited in the same way as those of `symmetric_hint`
-union_remaining eq w | the members that the operation has left at `w`
 """
-BY_HAND = {it.split()[0]: it.rstrip("|").strip().split(" | ") for it in BY_HAND.strip().split("\n")}
 DEFINED = r"(?:abbrev |unfoldable )?pub (record |data )?"  # what stands before a word where it is defined
+
+
+def by_hand():
+    """The form of each word in BY_HAND, with its meaning if that stands there."""
+    for line in BY_HAND.strip().split("\n"):
+        forms, *meaning = line.split(" | ")
+        *names, last = forms.split(", ")
+        name, arguments = last.split(" ", 1)
+        yield from ((it, [f"{it} {arguments}", *meaning]) for it in [*names, name])
 
 
 def groups_of(text):
@@ -99,38 +95,19 @@ def names_above(lines, indent):
     return [name for depth, names in modules if depth < indent for name in names]
 
 
-class Definition:
-    """A word as its file defines it: its own comment, how many arguments it has and their names, where it names them."""
-
-    def __init__(self, path, word):
-        lines = read(path).split("\n")
-        found = re.compile(rf"( *){DEFINED}{re.escape(word)} (.*?)(?: where)?$")
-        at = next(i for i, it in enumerate(lines) if found.match(it))
-        indent, kind, rest = found.match(lines[at]).groups()
-        given = given_names(" ".join(takewhile(":".__ne__, groups_of(rest))))
-        own = given if kind else self.named(lines[at + 1])
-        outer = names_above(lines[:at], len(indent))
-        self.count = len(outer) + len(own if kind else kinds_of(rest.removeprefix(": ")))
-        self.names = [*outer, *own]
-        self.comment = self.comment_above(lines[:at])
-
-    @staticmethod
-    def named(line):
-        """The arguments in the line `word x y = ..`, of which a pattern has no name."""
-        return [it for it in groups_of(line.partition(" = ")[0].strip())[1:] if it[0] != "{"]
-
-    @staticmethod
-    def comment_above(lines):
-        """The comment that ends these lines, if one does."""
-        said = []
-        while lines and re.match(r" *-- ", lines[-1]):
-            said, lines = [lines[-1].strip()[3:], *said], lines[:-1]
-        return " ".join(said)
-
-    @property
-    def is_named(self):
-        """Whether each argument has a name."""
-        return len(self.names) == self.count and all(re.fullmatch(r"[a-z_][\w']*|[A-Z]", it) for it in self.names)
+def definition(path, word):
+    """The arguments of a word, by their names where its file names them, how many there are, and its own comment."""
+    lines, found = read(path).split("\n"), re.compile(rf"( *){DEFINED}{re.escape(word)} (.*?)(?: where)?$")
+    at = next(at for at, it in enumerate(lines) if found.match(it))
+    indent, kind, rest = found.match(lines[at]).groups()
+    outer = names_above(lines[:at], len(indent))
+    if kind:
+        own = kinds = given_names(" ".join(takewhile(":".__ne__, groups_of(rest))))
+    else:  # the next line is `word x y = ..`
+        own = [it for it in groups_of(lines[at + 1].partition(" = ")[0].strip())[1:] if it[0] != "{"]
+        kinds = kinds_of(rest.removeprefix(": "))
+    comment = [*takewhile(re.compile(" *-- ").match, reversed(lines[:at]))]
+    return [*outer, *own], len(outer) + len(kinds), " ".join(it.strip()[3:] for it in reversed(comment))
 
 
 def with_marks(meaning, form):
@@ -142,44 +119,40 @@ def with_marks(meaning, form):
     return meaning
 
 
-class Vocabulary:
-    """The words of some texts, each with the imports of its file. What is amiss is added to `wrong`."""
+def modules_of(texts):
+    """The words of this library in some texts, each with the imports of its file, by the modules that users import them from."""
+    exported, found = read("crates/micromap/specs/Lib.antt"), collections.defaultdict(set)
+    for text, imports in texts:
+        for word in {*re.findall(r"[\w-]+", text)} & {*imports}:
+            module = imports[word]
+            is_ours = f"pub use Rattle.{module}\n" in exported
+            if spec_of(module) and re.search(rf"^ *{DEFINED}{re.escape(word)} ", read(spec_of(module)), re.M):
+                found[module.replace("micromap_core", "micromap") if is_ours else module].add(word)
+    return found
 
-    def __init__(self, texts, wrong):
-        self.texts, self.wrong = texts, wrong
 
-    def modules(self):
-        """The words of this library in the texts, by the modules that users import them from."""
-        exported, found = read("crates/micromap/specs/Lib.antt"), collections.defaultdict(set)
-        for text, imports in self.texts:
-            for word in {*re.findall(r"[\w-]+", text)} & {*imports}:
-                module = imports[word]
-                is_ours = f"pub use Rattle.{module}\n" in exported
-                if spec_of(module) and re.search(rf"^ *{DEFINED}{re.escape(word)} ", read(spec_of(module)), re.M):
-                    found[module.replace("micromap_core", "micromap") if is_ours else module].add(word)
-        return found
+def table(texts, wrong):
+    """The lines of the table. The words of a module stand below a row with its name. What is amiss is added to `wrong`."""
+    found, said = modules_of(texts), dict(by_hand())
+    yield HEAD
+    for module in sorted(found):
+        path = spec_of(module)
+        yield f"| **{link(path, 'crates/micromap/API.md', module)}** | |"
+        rows = collections.defaultdict(list)
+        for word in sorted(found[module], key=lambda it: (it.lower(), it)):
+            form, meaning = explained(path, word, said.get(word, []), wrong)
+            rows[meaning].append(f"`{form}`")
+        yield from (f"| {', '.join(forms)} | {meaning} |" for meaning, forms in rows.items())
+    wrong += [f"tools/pages/vocabulary.py: no clause has {it}" for it in said if it not in set().union(*found.values())]
 
-    def table(self):
-        """The lines of the table. The words of a module stand below a row with its name."""
-        found = self.modules()
-        yield HEAD
-        for module in sorted(found):
-            path = spec_of(module)
-            yield f"| **{link(path, 'crates/micromap/API.md', module)}** | |"
-            rows = collections.defaultdict(list)
-            for word in sorted(found[module], key=lambda it: (it.lower(), it)):
-                form, meaning = self.explained(path, word)
-                rows[meaning].append(f"`{form}`")
-            yield from (f"| {', '.join(forms)} | {meaning} |" for meaning, forms in rows.items())
-        self.wrong += [f"tools/pages/vocabulary.py: no clause has {it}" for it in BY_HAND if it not in set().union(*found.values())]
 
-    def explained(self, path, word):
-        """A word with its arguments, and its meaning: what is said by hand, else by its definition."""
-        found, (form, *said) = Definition(path, word), BY_HAND.get(word, [""])
-        form = form or " ".join([word, *found.names])
-        counts = len(groups_of(form)) - 1, found.count
-        if counts[0] != counts[1] or not found.is_named and word not in BY_HAND:
-            self.wrong.append(f"tools/pages/vocabulary.py: {path} gives {word} {counts[1]} arguments, and not those of {form}")
-        if not said and not found.comment:
-            self.wrong.append(f"{path}: no comment of its own says what {word} means, nor does tools/pages/vocabulary.py")
-        return form, *(said or [with_marks(found.comment, form)])
+def explained(path, word, said, wrong):
+    """A word with its arguments, and its meaning: what is said by hand, else by its definition."""
+    names, count, comment = definition(path, word)
+    form, *meaning = said or [" ".join([word, *names])]
+    is_named = said or all(re.fullmatch(r"[a-z_][\w']*|[A-Z]", it) for it in names)
+    if len(groups_of(form)) - 1 != count or not is_named:
+        wrong.append(f"tools/pages/vocabulary.py: {path} gives {word} {count} arguments, and not those of {form}")
+    if not meaning and not comment:
+        wrong.append(f"{path}: no comment of its own says what {word} means, nor does tools/pages/vocabulary.py")
+    return form, *(meaning or [with_marks(comment, form)])

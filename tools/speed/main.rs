@@ -21,12 +21,23 @@ mod inputs;
 mod layout;
 #[path = "workloads/numbers.rs"]
 mod numbers;
-mod platform;
 mod rust_crate;
 #[path = "workloads/texts.rs"]
 mod texts;
 #[path = "workloads/wide.rs"]
 mod wide;
+
+/// What the workloads take from the language, in the place of the module of that name in `workloads`.
+mod platform {
+    /// Rust's own allocator, which isn't handed on.
+    #[derive(Clone, Copy)]
+    pub struct Global;
+
+    /// Any value of Rust may be dropped.
+    pub trait Drop: Sized {}
+
+    impl<T> Drop for T {}
+}
 
 use layout::Columns;
 use micromap::{Map, Set};
