@@ -3,7 +3,7 @@ import collections
 import re
 
 from pages.calls import Calls
-from pages.sources import TYPES, Paths, anchor, parts
+from pages.sources import TYPES, anchor, parts, paths_of
 from pages.vocabulary import table
 
 API = "crates/micromap/API.md"
@@ -115,7 +115,7 @@ class Api:
     said. What is amiss is added to `wrong`."""
 
     def __init__(self, sources, wrong):
-        self.sources, self.wrong, self.paths, self.views = sources, wrong, Paths("micromap").found, {}
+        self.sources, self.wrong, self.paths, self.views = sources, wrong, paths_of("micromap"), {}
         self.entries, self.traits = collections.defaultdict(list), collections.defaultdict(list)
         self.ends = {label: collections.defaultdict(list) for label in ENDS}
         for it in sources.items:

@@ -1,5 +1,6 @@
 """What the sources of some crates have: public types, calls and clauses, under the names that a user has for them."""
 import collections
+import functools
 import glob
 import os
 import re
@@ -133,50 +134,36 @@ class Sources:
             yield from (Clause(call, f"{call}: {name}".removesuffix(": "), text, it) for call, name, text in states)
 
 
-class Paths:
+@functools.cache
+def names_in(module):
+    """What a module has by each name: the file of a module, or else an item by its file and its name. The public names."""
+    text, found = read(module), {}
+    folder = os.path.dirname(module) if module.endswith("/lib.rt") else module.removesuffix(".rt")
+    found |= {it: f"{folder}/{it}.rt" for it in re.findall(r"^(?:pub(?:\(crate\))? )?mod (\w+);", text, re.M)}
+    public = re.findall(r"^pub mod (\w+);", text, re.M)
+    for path, names, name in re.findall(r"^pub use ([\w:]+)::(?:\{([^}]*)\}|(\w+));", text, re.M):
+        first, *rest = path.replace("crate::", f"{module.split('/')[1]}::").split("::")
+        above = found[first] if first in found else f"crates/{first}/src/lib.rt"
+        for it in rest:
+            above = names_in(above)[0][it]
+        public += parts(names or name)
+        found |= {it: names_in(above)[0][it] for it in parts(names or name)}
+    own = re.findall(rf"^pub (?:{'|'.join(TYPES)}|fn) (\w+)", text, re.M)
+    return found | {it: (module, it) for it in own}, public + own
+
+
+def paths_of(crate):
     """The paths by which a crate's public items are imported, by the file and the name of each, the shortest first."""
-
-    def __init__(self, crate):
-        self.found = collections.defaultdict(list)
-        self.walk(f"crates/{crate}/src/lib.rt", crate)
-        for paths in self.found.values():
-            paths.sort(key=lambda it: (it.count("::"), it))
-
-    def walk(self, module, path):
-        text = read(module)
-        names = re.findall(r"^pub mod (\w+);", text, re.M) + [name for _, name in self.uses(text)]
-        names += re.findall(rf"^pub (?:{'|'.join(TYPES)}|fn) (\w+)", text, re.M)
-        for name in names:
-            target = self.target(module, name)
-            if isinstance(target, str):
-                self.walk(target, f"{path}::{name}")
+    found, left = collections.defaultdict(list), [(f"crates/{crate}/src/lib.rt", crate)]
+    while left:
+        module, path = left.pop()
+        names, public = names_in(module)
+        for name in public:
+            if isinstance(names[name], str):
+                left.append((names[name], f"{path}::{name}"))
             else:
-                self.found[target].append(f"{path}::{name}")
-
-    @staticmethod
-    def uses(text):
-        """The path and the name of each item that a module re-exports."""
-        for path, names, name in re.findall(r"^pub use ([\w:]+)::(?:\{([^}]*)\}|(\w+));", text, re.M):
-            yield from ((path, it) for it in parts(names or name))
-
-    def target(self, module, name):
-        """The file of a module of this name in a module, or the file and the name of what else has the name there."""
-        text = read(module)
-        if re.search(rf"^(?:pub(?:\(crate\))? )?mod {name};", text, re.M):
-            is_root = os.path.basename(module) == "lib.rt"
-            return f"{os.path.dirname(module) if is_root else module.removesuffix('.rt')}/{name}.rt"
-        path = next((path for path, it in self.uses(text) if it == name), None)
-        return self.target(self.module(module, path), name) if path else (module, name)
-
-    def module(self, module, path):
-        """The file of the module that a path in a module names."""
-        first, *rest = path.split("::")
-        crate = module.split("/")[1] if first == "crate" else first
-        root = f"crates/{crate}/src/lib.rt"
-        file = root if os.path.exists(root) else self.target(module, first)
-        for name in rest:
-            file = self.target(file, name)
-        return file
+                found[names[name]].append(f"{path}::{name}")
+    return {it: sorted(paths, key=lambda it: (it.count("::"), it)) for it, paths in found.items()}
 
 
 def spec_of(module):
@@ -189,14 +176,3 @@ def spec_of(module):
 def anchor(heading):
     """The anchor of a heading, as GitHub forms it."""
     return re.sub(r"[^\w\- ]", "", re.sub(r"\[(.*?)\]\(.*?\)", r"\1", heading).strip().lower()).replace(" ", "-")
-
-
-def link(path, document, name=""):
-    named = name or os.path.basename(path).removesuffix(".antt")
-    return f"[`{named}`]({os.path.relpath(path, os.path.dirname(document))})"
-
-
-def sentences(comment):
-    """The first sentence of a comment without its full stop, and the rest of the comment."""
-    first, rest = re.match(r"((?:`[^`]*`|[^`])*?)(?:\.(?:\s+|$)(.*))?$", comment.strip(), re.S).groups("")
-    return " ".join(first.split()), rest.strip()

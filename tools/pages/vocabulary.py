@@ -1,9 +1,10 @@
 """The table of words of API.md: those of this library that clauses show, each with its arguments and its meaning."""
 import collections
+import os
 import re
 from itertools import takewhile
 
-from pages.sources import link, read, spec_of
+from pages.sources import read, spec_of
 
 HEAD = """## Words
 
@@ -137,7 +138,7 @@ def table(texts, wrong):
     yield HEAD
     for module in sorted(found):
         path = spec_of(module)
-        yield f"| **{link(path, 'crates/micromap/API.md', module)}** | |"
+        yield f"| **[`{module}`]({os.path.relpath(path, 'crates/micromap')})** | |"
         rows = collections.defaultdict(list)
         for word in sorted(found[module], key=lambda it: (it.lower(), it)):
             form, meaning = explained(path, word, said.get(word, []), wrong)
