@@ -5,8 +5,9 @@ import re
 import shutil
 import subprocess
 
+from pages.sources import LIBRARY
+
 TOP = os.path.dirname(os.path.dirname(os.path.dirname(os.path.realpath(__file__))))
-LIBRARY = ["micromap_walk", "micromap_core", "micromap"]
 PROGRAM = "micromap_first"  # the crate whose files CRATE gets
 ORIGIN, LICENSE, LIST, IGNORED = "crates/micromap/ORIGIN", "crates/micromap/LICENSE", "crates.txt", ".gitignore"
 
@@ -68,7 +69,6 @@ def rows_of(top):
 
 
 def rows_for(crate):
-    """The lines that a crates.txt gets, by the names of their crates."""
     own = rows_of(TOP)
     return {it: own[it] for it in LIBRARY} | ({crate: own[PROGRAM].replace(PROGRAM, crate, 1)} if crate else {})
 

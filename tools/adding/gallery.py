@@ -11,12 +11,10 @@ TASKS, GALLERY = "crates/micromap/TASKS.md", "micromap_uses"
 
 
 def items_of(file):
-    """The functions, types and impls of a file of the gallery, in order."""
     return [*blocks(text_of(f"{TOP}/crates/{GALLERY}/src/{file}.rt"))]
 
 
 def files():
-    """The names of the gallery's files."""
     names = sorted(os.path.basename(it)[:-3] for it in glob.glob(f"{TOP}/crates/{GALLERY}/src/*"))
     return [it for it in names if it != "lib"]
 

@@ -27,7 +27,6 @@ class Trial:
         self.wrong += [] if holds else [f"tools/add: {what}"]
 
     def make(self, name, files):
-        """Makes a folder with these files, beside those that it has."""
         os.makedirs(f"{self.room}/{name}", exist_ok=True)
         for path, content in files.items():
             write(f"{self.room}/{name}/{path}", content)

@@ -130,7 +130,6 @@ class Api:
         return made_of[1] if made_of and owner not in self.sources.types else owner
 
     def take(self, item):
-        """Adds an item to the entries."""
         owner, functions = self.subject(item), item.functions
         if item.trait == "Model":
             self.views[owner] = item

@@ -139,7 +139,6 @@ class Calls:
         return [f"| {', '.join(names)} | {required} | {scans} |" for (required, scans), names in rows.items()]
 
     def lines(self, groups):
-        """The lines of the table, by groups."""
         yield HEAD
         for title, calls in groups.items():
             yield f"| **[{title}](#{anchor(title)})** | | |"

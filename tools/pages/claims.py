@@ -122,7 +122,6 @@ class Claims:
         return bool(places) and clause.item.kind != "trait" and clause.call not in map(self.calls.get, places)
 
     def grade(self, edit, name):
-        """What an edit shows of a clause."""
         row, label = self.rows[edit.path], GHOSTS.get(label_of(name), label_of(name))
         kind = min((kind_of(edit.path, it) for it in row.goals), default=PROOF)
         has_loop = os.path.basename(edit.path).removesuffix(".edit") in LOOPS
@@ -154,7 +153,6 @@ class Claims:
         return OF_TRAIT if self.library[name].item.kind == "trait" else said
 
     def linked(self, call):
-        """A call as a link to its contract."""
         heading = self.api.heading(call)
         path = next(it.item.path for it in self.library.values() if it.call == call)
         return f"[`{call}`](../{f'{API}#{anchor(heading)}' if heading else path})"
@@ -203,7 +201,6 @@ class Claims:
                 yield f"`{label_of(name)}` of `{self.library[name].call}`"
 
     def counts(self):
-        """How many clauses have each grade."""
         return {it: [grade for grade, *_ in self.best.values()].count(it) for it in GRADES}
 
     def text(self):

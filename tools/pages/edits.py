@@ -8,7 +8,7 @@ import os
 import re
 from itertools import groupby, takewhile
 
-from pages.sources import blocks, read, whose
+from pages.sources import blocks, read, whose, write
 
 FOLDERS = ("must-fail", "claims")
 # The first words of its type and of its trait, if it has them, and its first and last line, counted from 0.
@@ -30,12 +30,10 @@ class Dead(Exception):
 
 
 def edits():
-    """The paths of all edits."""
     return sorted(path for folder in FOLDERS for path in glob.glob(f"crates/*/{folder}/*.edit"))
 
 
 def crate_of(path):
-    """The folder of the crate of an edit."""
     return "/".join(path.split("/")[:2])
 
 
@@ -169,17 +167,16 @@ def recorded():
 
 
 def keep(known):
-    """Writes the record of edits anew."""
-    with open(RECORD, "w", encoding="utf-8") as file:
-        for folder, paths in groupby(filter(known.get, edits()), os.path.dirname):
-            file.write(folder.removeprefix("crates/") + "\n")
-            for path in paths:
-                cells = [os.path.basename(path).removesuffix(".edit"), sum_of(tried_on(path)), " ".join(known[path].goals), known[path].right]
-                file.write("\t".join(filter(None, cells)) + "\n")
+    lines = []
+    for folder, paths in groupby(filter(known.get, edits()), os.path.dirname):
+        lines.append(folder.removeprefix("crates/"))
+        for path in paths:
+            cells = [os.path.basename(path).removesuffix(".edit"), sum_of(tried_on(path)), " ".join(known[path].goals), known[path].right]
+            lines.append("\t".join(filter(None, cells)))
+    write(RECORD, "\n".join([*lines, ""]))
 
 
 def changes_proof(path):
-    """Whether an edit changes the source and the proof."""
     return {"proofs", "src"} <= {file.split("/")[0] for file, *_ in pairs_of(read(path))}
 
 
@@ -189,7 +186,6 @@ def has_right(path):
 
 
 def wants_right(path):
-    """Whether a right body of an edit is tried too."""
     return changes_proof(path) or has_right(path)
 
 
@@ -204,7 +200,6 @@ def files_of_answers(crate):
 
 
 def is_of(file, function):
-    """Whether a proof file is of a function."""
     folder, name = os.path.split(os.path.dirname(file))
     owner = os.path.basename(folder)
     if function.trait:
@@ -231,7 +226,6 @@ def is_neutral(answer):
 
 
 def kind_of(path, goal):
-    """What a refusal of an edit at a goal shows."""
     name = goal.removeprefix(WRITTEN)
     if name != goal and not is_neutral(answers_of(path).get(name, "c")):
         return PROOF
@@ -240,7 +234,6 @@ def kind_of(path, goal):
 
 
 def clause_in(goal):
-    """The clause that a goal names, or nothing."""
     named = re.search(r"-clause-(\w+)", goal)
     return named[1] if named else ""
 

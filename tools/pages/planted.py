@@ -4,7 +4,7 @@ import collections
 import re
 
 from pages.edits import code_of, functions_in, lines_of, sum_of
-from pages.sources import read
+from pages.sources import read, write
 
 PLANTED, NONE = "tools/pages/planted.tsv", "no wrong body could be judged"
 # What `rt plant` prints as let through, though it is right: `==` is symmetric.
@@ -38,10 +38,9 @@ def planted(sources):
 
 
 def keep_planted(sources, known):
-    """Writes the record of planted bodies anew."""
     sums = sums_of(sources)
-    with open(PLANTED, "w", encoding="utf-8") as file:
-        file.writelines(f"{call}\t{sums[call]}\t{known[call].replace(NONE, '')}\n" for call in sorted(known) if call in sums)
+    lines = (f"{call}\t{sums[call]}\t{known[call].replace(NONE, '')}\n" for call in sorted(known) if call in sums)
+    write(PLANTED, "".join(lines))
 
 
 def function_of(shown):
@@ -68,7 +67,6 @@ def plants_of(log, sources):
 
 
 def summary(kinds):
-    """What came of the bodies that were tried on a call, in a few words."""
     passed = [it for it in kinds["proves"] + kinds["no-ensures"] if it not in RIGHT]
     refused = sorted(kinds["refused"], key=lambda it: (len(it), it))
     said = ["let through: " + ", ".join(f"`{it}`" for it in passed)] if passed else []

@@ -23,6 +23,11 @@ def read(path):
         return file.read()
 
 
+def write(path, text):
+    with open(path, "w", encoding="utf-8") as file:
+        file.write(text)
+
+
 def doc_of(lines):
     return "\n".join(line.strip()[3:].removeprefix(" ") for line in lines.split("\n") if line.strip().startswith("///"))
 

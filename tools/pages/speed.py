@@ -51,7 +51,6 @@ def parsed(text):
 
 
 def record(source, times, sizes):
-    """The text of a record."""
     lines = [["source", source]]
     for (subject, workload), cells in times.items():
         for at, (nanoseconds, ratios) in cells.items():
@@ -87,7 +86,6 @@ def over(cells, rival, other):
 
 
 def brief(nanoseconds):
-    """A time to about two digits."""
     return f"{nanoseconds:.{1 if nanoseconds < 9.95 else 0}f}"
 
 
@@ -190,7 +188,6 @@ def causes_table(times, part):
 
 
 def drawn(source, times):
-    """The chart."""
     levels, rivals = Levels([ratio for cells in times.values() for ratio, _ in own_of(cells)]), [0, *CHOICES]
     cells = {name: times["numbers", name] for name in PANELS}
     panels = [(name, mean(own_of(it)), [*it], [ratios_of(it, rival) for rival in rivals]) for name, it in cells.items()]
