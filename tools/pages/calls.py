@@ -113,12 +113,13 @@ class Calls:
     def own(self, call):
         """What is said of a call, without what the table says of its scans, and without what its twin says too but for
         preconditions, and then a link."""
-        twin, told = self.twin(call), [SCAN] * (not self.is_type(call))
-        known, paragraphs, blocks, is_short = {alike(it) for it in sentences(self.doc(twin)) if it[:9] != "Requires "} if twin else {}, [], [], False
+        twin = self.twin(call)
+        known = {alike(it) for it in sentences(self.doc(twin)) if not it.startswith("Requires ")} if twin else {}
+        paragraphs, blocks, is_short = [], [], False
         for part in re.split(r"(^```.*?^```$)|\n\n+", self.doc(call), flags=re.M | re.S):
             kept = []
             for it in sentences(part or ""):
-                is_told = any(re.search(pattern, it) for pattern in told) and not re.search(CUT, it)
+                is_told = not self.is_type(call) and re.search(SCAN, it) and not re.search(CUT, it)
                 is_known = not is_told and alike(it) in known and bool(kept or paragraphs)
                 is_short = is_short or is_known
                 kept += [it] * (not is_known and not is_told)

@@ -13,6 +13,9 @@ from pages.sources import blocks, read, whose, write
 FOLDERS = ("must-fail", "claims")
 # The first words of its type and of its trait, if it has them, and its first and last line, counted from 0.
 Function = collections.namedtuple("Function", "file owner trait name first last")
+# A pair, whose file may be that of the pair before.
+SAID = r"(?:#(?! right:).*\n)*"
+PAIR = rf"{SAID}(?:file: (.+)\n)?{SAID}old: (.+)\n{SAID}new: ?(.*)\n(?:# right: ?(.*)\n)?{SAID}"
 # Behind each folder a row for each edit: the sum of what it was tried on, the goals, and PROVED or OPEN of the right body, if that
 # was tried.
 RECORD, PROVED, OPEN = "tools/pages/goals.tsv", "proved", "open"
@@ -44,23 +47,15 @@ def module_of(file):
 
 def pairs_of(text):
     """The file, the old text, the new text, and the text for the right body, of each pair of an edit."""
-    pairs, file, old = [], "", ""
-    for line in text.rstrip("\n").split("\n"):
-        found = re.match(r"(file|old): (.+)|(new|# right):(?: (.*))?$|#", line)
-        if not found:
-            raise Dead(f"this line isn't read: {line}")
-        is_lost = {"new": not file or not old, "# right": old or not pairs}.get(found[3], old and found[1])
-        if is_lost:
-            raise Dead(f"this line isn't where it belongs: {line}")
-        file, old = found[2] if found[1] == "file" else file, found[2] if found[1] == "old" else old
-        if found[3] == "new":
-            new = found[4] or ""
-            pairs.append((file, old, new, new if file.startswith("proofs/") else old))
-            old = ""
-        elif found[3]:
-            pairs[-1] = (*pairs[-1][:3], found[4] or "")
-    if old:
-        raise Dead(f"no line new: follows this text: {old}")
+    pairs, file, rest = [], "", text.rstrip("\n") + "\n"
+    while rest:
+        found = re.match(PAIR, rest)
+        if not found or not (found[1] or file):
+            raise Dead(f"`file:`, `old:` and `new:` don't begin with this line: {rest.splitlines()[0]}")
+        file, old, new, right = found[1] or file, *found.groups()[1:]
+        same = new if file.startswith("proofs/") else old
+        pairs.append((file, old, new, same if right is None else right))
+        rest = rest[found.end() :]
     return pairs
 
 

@@ -37,16 +37,17 @@ def parts(text):
 
 
 def blocks(text, margin=""):
-    """The functions, types, traits and impls at a margin: the lines above each that are comments and attributes, its own
-    lines, and the number of its first one, counted from 0."""
+    """The functions, types, traits and impls at a margin, each with the comments and attributes above it, and with the number
+    of its first line, counted from 0."""
     lines = text.split("\n")
     begins = re.compile(rf"{margin}(?:pub(?:\([^)]*\))? |const |unsafe )*(?:fn|struct|enum|type|trait|impl|const)\b")
     for at in (at for at, line in enumerate(lines) if begins.match(line)):
         above = [*takewhile(re.compile(rf"{margin}(?://|#\[)").match, reversed(lines[:at]))]
-        last, is_open = at, lines[at].endswith("{")
-        while lines[last] != f"{margin}}}" and (is_open or not re.search(r"[;}]$" if last == at else r";$|\{\}$", lines[last])):
-            last += 1
-            is_open |= lines[last].endswith("{")
+        is_open = False
+        for last, line in enumerate(lines[at:], at):
+            is_open |= line.endswith("{")
+            if line == f"{margin}}}" or not is_open and re.search(r"[;}]$" if last == at else r";$|\{\}$", line):
+                break
         yield Block("".join(f"{it}\n" for it in reversed(above)), "\n".join(lines[at : last + 1]), at)
 
 
