@@ -32,8 +32,8 @@ The edits of functions outside the library are OUTSIDE. REFUSED of them were ref
 
 ## Comparisons and operations on sets
 
-| Call | Clauses | Grade | What is wrong in the body | Refused at |
-|---|---|---|---|---|
+| Call | Clauses and grades | What is wrong in the body | Refused at |
+|---|---|---|---|
 HEADLINE
 
 ## The other calls
@@ -46,8 +46,8 @@ OTHERS
 """
 # What the strongest refusal for a clause shows.
 GRADES = {
-    "A": "an edit is refused at the clause, where the search proves the right body",
-    "B": "an edit is refused at the clause, where the right body is proved by hand",
+    "A": "an edit is refused at a goal of the clause, and the search proves the right body there",
+    "B": "an edit is refused at a goal of the clause that the wrong body alone has, or where the right body is proved by hand",
     "C": "an edit is refused at another clause of the call's contract",
     "D": "an edit of an inner function, on which the call rests, is refused at that function's contract",
     "E": "an edit is refused at the invariant of a loop, or at what a call requires",
@@ -158,18 +158,16 @@ class Claims:
         return f"[`{call}`](../{f'{API}#{anchor(heading)}' if heading else path})"
 
     def headline(self):
-        """Rows of the calls that matter most, with each edit of the best grade."""
+        """Rows of the calls that matter most: each edit that is the best for some clauses, and the clauses that have none."""
         for call in HEADLINE:
-            rows = collections.defaultdict(list)
+            clauses, goals = collections.defaultdict(list), collections.defaultdict(dict)
             for name in (it for it, clause in self.library.items() if clause.call == call):
-                grade, those, said = self.best[name]
-                for it in those:
-                    goals = goals_for(self.rows[it.path], name) or self.rows[it.path].goals
-                    rows[grade, f"[{it.wrong[:1].upper()}{it.wrong[1:]}](../{it.path})", *goals].append(name)
-                rows[grade, said].extend([name] * (not those))
-            for (grade, what, *goals), names in ((it, names) for it, names in rows.items() if names):
-                cells = [self.linked(call), ", ".join(f"`{label_of(it)}`" for it in names), grade, what, ", ".join(f"`{it}`" for it in goals)]
-                yield f"| {' | '.join(cells)} |"
+                grade, those, _ = self.best[name]
+                for what, path in [(f"[{it.wrong[:1].upper()}{it.wrong[1:]}](../{it.path})", it.path) for it in those] or [("", "")]:
+                    clauses[what].append(f"`{label_of(name)}` {grade}")
+                    goals[what] |= dict.fromkeys(goals_for(self.rows[path], name) or self.rows[path].goals)
+            for what in sorted(clauses, key=lambda it: not it):
+                yield f"| {self.linked(call)} | {', '.join(clauses[what])} | {what} | {', '.join(f'`{it}`' for it in goals[what])} |"
 
     def others(self):
         """A row for each other call, with its clauses by their grades."""
