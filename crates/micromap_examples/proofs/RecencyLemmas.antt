@@ -4,7 +4,7 @@ use Rattle.std.specs.Map.Iter.{deref_pair}
 use Rattle.std.specs.Option.{option_map, option_map_or}
 use Rattle.std.proofs.lemmas.Bool.Decides.{nat_tests}
 use Rattle.micromap.specs.Pairs.{at, fits, has, pair, put, take_out, IsContent}
-use Rattle.micromap.proofs.Laws.MapLaws.{at_alike, at_take_out_same, length_take_out, not_fits, pair_key, put_new, take_out_missing}
+use Rattle.micromap.proofs.Laws.MapLaws.{at_pair, length_take_out, not_fits, put_new, put_taken_out, take_out_missing}
 use Rattle.micromap_examples.specs.Recency.{displaced, put_last, used}
 
 -- the value in a pair of references
@@ -13,11 +13,6 @@ values None = refl
 values (Some p) = refl
 
 module _ {K V : Type 0} (eq : K → K → Bool) where
-  -- the value that a key finds is that of the pair that it finds
-  pub at_pair : (pairs : List (K × V)) (k : K) → at eq pairs k ≡ option_map (λ p. p.1) (pair eq pairs k)
-  at_pair [] k = refl
-  at_pair (e ∷ pairs) k = grind (arith, at_pair pairs k)
-
   -- the last pair of a cache in which a key was read has its value
   last_of : (pairs : List (K × V)) (p : K × V) → slice_get (pairs ++ p ∷ []) (length (pairs ++ p ∷ []) - 1) ≡ Some p
   last_of [] p = refl
@@ -31,7 +26,7 @@ module _ {K V : Type 0} (eq : K → K → Bool) where
   pub reads_last : (pairs new : List (K × V)) (k : K) (last o : Option (Bor K × Bor V)) → last ≡ o → true ≡ has eq pairs k → new ≡ used eq pairs k
       → option_map deref_pair last ≡ slice_get new (length new - 1) → option_map (λ p. p.1.now) o ≡ at eq pairs k
   reads_last pairs new k last o was stored is read =
-      let found = at_pair pairs k in
+      let found = at_pair eq pairs k in
       sym (ap (option_map (λ p. p.1.now)) was) ∙ values last ∙ ap (option_map (λ p. p.1)) read ∙ ap (λ l. option_map (λ p. p.1) (slice_get l (length l - 1))) is
       ∙ last_moved pairs (take_out eq pairs k) (pair eq pairs k) (stored ∙ ap is_some found) ∙ sym found
 
@@ -47,11 +42,9 @@ module _ {K V : Type 0} (eq : K → K → Bool) where
   module _ (N : ℕ) (pairs : List (K × V)) (k : K) (content : IsContent eq N pairs) (p : K × V) (found : pair eq pairs k ≡ Some p) where
     -- a pair that was found goes last when it is taken out and put again
     pub put_found : put eq (take_out eq pairs k) p.0 p.1 ≡ used eq pairs k
-    put_found =
-        put_new eq (take_out eq pairs k) p.0 p.1
-        (ap is_some (sym (at_alike eq k p.0 (take_out eq pairs k) content.lawful (pair_key eq pairs k p found)) ∙ at_take_out_same eq pairs k content.lawful content.unique))
+    put_found = put_taken_out eq pairs k p content.lawful content.unique found
         ∙ sym (ap (λ o. option_map_or (λ e. take_out eq pairs k ++ e ∷ []) o pairs) found)
 
     -- for which there is room
     pub fits_found : (q : K) → IsTrue (fits eq N (take_out eq pairs k) q)
-    fits_found q = grind (arith, nat_tests, length_take_out eq pairs k, at_pair pairs k, found, content.bounded)
+    fits_found q = grind (arith, nat_tests, length_take_out eq pairs k, at_pair eq pairs k, found, content.bounded)

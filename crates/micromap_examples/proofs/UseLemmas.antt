@@ -8,11 +8,10 @@ use Rattle.std.proofs.lemmas.Bool.Decides.{nat_tests}
 use Rattle.micromap.specs.Equalities.{Lawful}
 use Rattle.micromap.specs.Pairs.{at, fits, has, pair, take_out, IsContent, IsUnique}
 use Rattle.micromap.proofs.Laws.Equalities.{of_lawful}
-use Rattle.micromap.proofs.Laws.MapLaws.{at_alike, has_behind, length_take_out, not_fits, pair_key, take_out_missing}
+use Rattle.micromap.proofs.Laws.MapLaws.{at_alike, at_pair, has_behind, length_take_out, not_fits, pair_key, take_out_alike, take_out_missing}
 use Rattle.micromap_examples.specs.declared.lru_cache.Call.{Call}
 use Rattle.micromap_examples.specs.Recency.{put_last, used}
 use Rattle.micromap_examples.specs.Uses.{last_keys, newest, last_uses, used_by, uses}
-use Rattle.micromap_examples.proofs.RecencyLemmas.{at_pair}
 
 -- the last N of a list
 module _ {X : Type 0} (N : ℕ) where
@@ -40,11 +39,6 @@ module _ {K V : Type 0} (eq : K → K → Bool) (laws : Lawful eq) where
   has_push : (xs : List (K × V)) (p : K × V) (k : K) → has eq (xs ++ p ∷ []) k ≡ (eq k p.0 || has eq xs k)
   has_push [] p k = grind arith
   has_push (e ∷ xs) p k = grind (arith, has_push xs p k)
-
-  taken_alike : (xs : List (K × V)) (q k : K) → eq q k ≡ true → take_out eq xs q ≡ take_out eq xs k
-  unfolding take_out
-  taken_alike [] q k same = refl
-  taken_alike (p ∷ xs) q k same = grind (arith, taken_alike xs q k same, (of_lawful eq laws).congr q k p.0 same)
 
   -- a use is then the last of its key
   last_uses_push : (xs : List (K × V)) (p : K × V) → last_uses eq (xs ++ p ∷ []) ≡ take_out eq (last_uses eq xs) p.0 ++ p ∷ []
@@ -108,7 +102,7 @@ module _ {K V : Type 0} (eq : K → K → Bool) (laws : Lawful eq) where
       let taken = length_take_out eq pairs k in
       let new = length-append (take_out eq pairs k) (p ∷ []) in
       sym (newest_all N (take_out eq pairs k ++ p ∷ []) (grind (arith, taken, new, bounded, found, at_pair eq pairs k)))
-      ∙ ap (λ l. newest N (l ++ p ∷ [])) (taken_alike pairs k p.0 (pair_key eq pairs k p found))
+      ∙ ap (λ l. newest N (l ++ p ∷ [])) (take_out_alike eq pairs k p.0 laws (pair_key eq pairs k p found))
 
   -- what a call makes of the cache
   pub after_put : (N : ℕ) (uses : List (K × V)) (k : K) (v : V) → put_last eq N (last_keys eq N uses) k v ≡ last_keys eq N (uses ++ (k, v) ∷ [])

@@ -4,6 +4,7 @@ ghost use Rattle.std.specs.List.{AllZip};
 ghost use Rattle.std.specs.Set.{ClonesAreEqual};
 ghost use Rattle.micromap.specs.Clones.{AreIdentical};
 ghost use Rattle.micromap.specs.Items.{IsItems};
+ghost use Rattle.micromap_core.specs.SameLaws.{clones_have_equal_items};
 
 use super::Set;
 use micromap_core::EqualClone;
@@ -65,5 +66,18 @@ impl<T: EqualClone, const N: usize> Clone for Set<T, N> {
     fn clone(&self) -> Result<Self, AllocError> {
         let map = Clone::clone(&self.map)?;
         Ok(Set { map })
+    }
+}
+
+/// A clone of a set has equal items.
+impl<T: EqualClone, const N: usize> EqualClone for Set<T, N> {
+    ghost is_equal_clone = { AllZip T.is_equal_clone };
+
+    ghost never_fails = { All T.never_fails };
+
+    ghost clones_are_equal = { clones_have_equal_items T.Eq.laws T.EqualClone.clones_are_equal };
+
+    fn equal_clone(&self) -> Result<Self, AllocError> {
+        Clone::clone(self)
     }
 }

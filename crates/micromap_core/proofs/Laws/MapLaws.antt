@@ -326,6 +326,24 @@ module _ {K V : Type 0} (eq : K → K → Bool) where
       → pair eq pairs k ≡ Some p → p.0 ≡ k
   stored_key exact pairs k p found = sym (exact k p.0 (pair_key pairs k p found))
 
+  -- the value that a key finds is that of the pair that it finds
+  pub at_pair : (pairs : List (K × V)) (k : K) → at eq pairs k ≡ option_map (λ p. p.1) (pair eq pairs k)
+  at_pair pairs k = lookup-entry (eq k) pairs
+
+  -- equal keys take out the same
+  pub take_out_alike : (pairs : List (K × V)) (q k : K) → Lawful eq → eq q k ≡ true
+      → take_out eq pairs q ≡ take_out eq pairs k
+  unfolding take_out
+  take_out_alike pairs q k laws same =
+      ap (λ test. remove_entry test pairs) (λ i x. (of_lawful eq laws).congr q k x same i)
+
+  -- a stored pair that is taken out and put again goes last
+  pub put_taken_out : (pairs : List (K × V)) (k : K) (p : K × V) → Lawful eq → IsUnique eq pairs
+      → pair eq pairs k ≡ Some p → put eq (take_out eq pairs k) p.0 p.1 ≡ take_out eq pairs k ++ p ∷ []
+  put_taken_out pairs k p laws unique found = put_new eq (take_out eq pairs k) p.0 p.1
+      (ap is_some (sym (at_alike k p.0 (take_out eq pairs k) laws (pair_key pairs k p found))
+      ∙ at_take_out_same pairs k laws unique))
+
   -- what changes nothing: a put of the value that is stored, and a removal of a key that isn't
   pub put_back : (pairs : List (K × V)) (k : K) (v : V) → at eq pairs k ≡ Some v
       → put eq pairs k v ≡ pairs
