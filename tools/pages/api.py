@@ -19,7 +19,7 @@ OF_EACH = {
     "update": "update_all update_disjoint",
     "iterate": "iter keys values into_keys into_values drain IntoIterator",
     "compare": "eq_with differs_at is_subset is_superset is_disjoint PartialEq",
-    "build and convert": "try_from_iter from_all from_fitting counts_of From into_capacity copied clone Clone into_text_bufs into_strings "
+    "build and convert": "try_from_iter from_all from_fitting counts_of From into_capacity copied clone Clone EqualClone into_text_bufs into_strings "
     "Display",
     "operations": "difference intersection union symmetric_difference difference_ref bitand sub",
 }

@@ -1,5 +1,5 @@
 -- Sameness is an equivalence, of any lists.
-use Rattle.std.proofs.Common.{[], ◌∷◌, ap, arith, get_or, refl, sym, ◌∙◌, ◌≡◌, Bool, true, List}
+use Rattle.std.proofs.Common.{[], ◌∷◌, ap, arith, get_or, refl, sym, ◌∙◌, ◌≡◌, Bool, true, IsTrue, List}
 use Rattle.std.specs.Cmp.{IsEquivalence, and_equiv, equiv, first_so, on_equiv, second_so}
 use Rattle.std.specs.Cmp.Derive.{both_true}
 use Rattle.std.specs.List.{list_all, list_any, AllZip}
@@ -50,7 +50,7 @@ module _ {X : Type 0} {eq : X → X → Bool} (laws : IsEquivalence eq) where
   turned C (x ∷ xs) (y ∷ ys) zip = (zip.0, turned C xs ys zip.1)
 
   -- the items of clones are equal if each clone is
-  pub clones_have_equal_items : {C : X → X → Type 0} → ClonesAreEqual eq C → ClonesAreEqual (have_equal_items eq) (AllZip C)
+  pub clones_have_equal_items : {C : X → X → Type 0} → ClonesAreEqual eq C → (xs ys : List X) → AllZip C xs ys → IsTrue (have_equal_items eq xs ys)
   clones_have_equal_items {C} equal xs ys clones = both_true
       (all_in_zip C equal xs ys clones)
       (all_in_zip (λ y x. C x y) (λ y x clone. laws.symm y x ∙ equal x y clone) ys xs (turned C xs ys clones))

@@ -12,7 +12,8 @@ use std::alloc::AllocError;
 
 /// A key whose clone is known to equal it, which `Clone` alone doesn't say.
 ///
-/// Each `Copy` key is one, by its copy, and so is a `TextBuf`. A map of such keys has the trait `Clone`.
+/// Each `Copy` key is one, by its copy, and so are a `TextBuf` and a set of such items. A map of such keys has the trait
+/// `Clone`.
 pub trait EqualClone: Eq + Drop {
     ghost is_equal_clone: { Self → Self → Type 0 };
 
