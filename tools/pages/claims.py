@@ -17,7 +17,7 @@ Every clause is proved, but may say too little. So wrong bodies are tried, which
 
 TOTALS
 
-Counted are the clauses of `ensures` of public calls, the ghost members of impls and the laws of traits. Impls of one name here count once, as `Probe for Text` for three types of key. Not counted are LAWS laws, which mention neither a result nor a state afterwards, so that no body can break them: NAMES.
+Counted are the clauses of `ensures` of public calls, the ghost members of impls and the laws of traits. Impls of one name here count once, as `Probe for Text` for three types of key. Not counted are LAWS laws, which no body can break, since they mention neither a result nor a state afterwards, or say the invariant of a map or a set, as `content` does: NAMES.
 
 - A refusal shows that the search found no proof, not that there is none.
 - A: the search proves this very goal of the right body, or all of its goals of this clause, or a right body of the edit's form. A proof by hand that rests on nothing but what is passed counts like the search. B: the refused return is new, so that a right body of that form may be refused too.
@@ -89,9 +89,9 @@ def label_of(name):
 
 
 def is_law(clause):
-    """Whether no body can break a clause: it mentions neither a result nor a state afterwards."""
+    """Whether no body can break a clause: it mentions neither a result nor a state afterwards, or says the type's invariant."""
     is_ghost = label_of(clause.name) in {name for _, name, _, _ in clause.item.ghosts}
-    return not is_ghost and not re.search(r"\bresult\b|\.(?:new|exit)\b", clause.text)
+    return label_of(clause.name) == "content" or not is_ghost and not re.search(r"\bresult\b|\.(?:new|exit)\b", clause.text)
 
 
 def goals_for(row, name):
