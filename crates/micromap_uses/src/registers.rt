@@ -1,9 +1,9 @@
 //! A struct of one's own around a map, generic in key and value.
 #![tactic(auto, using(micromap::proofs::Rules::caller))]
 
-ghost use Rattle.std.specs.Prelude.{◌≡◌, ◌↔◌, [], IsTrue};
+ghost use Rattle.std.specs.Prelude.{◌≡◌, ◌↔◌, [], length, IsTrue};
 ghost use Rattle.std.specs.Option.{option_copied};
-ghost use Rattle.micromap.specs.Pairs.{at, fits, has, put_if_fits, take_out};
+ghost use Rattle.micromap.specs.Pairs.{IsContent, at, fits, has, put_if_fits, take_out};
 
 use micromap::Map;
 use std::marker::Model;
@@ -30,6 +30,15 @@ impl<K: Eq, V, const N: usize> Register<K, V, N> {
         Register {
             entries: Map::new(),
         }
+    }
+
+    /// Returns the number of values.
+    /// A caller knows from this call that keys are unequal and fit, as from `len` of a map.
+    pub fn len(&self) -> usize
+        ensures answer { result ≡ length self.now }
+        ensures content { IsContent K.eq N self.now }
+    {
+        self.entries.len()
     }
 
     /// Returns `true` if there is no value.
