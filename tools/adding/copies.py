@@ -26,11 +26,9 @@ def text_of(path):
 
 
 def write(path, content):
-    """Makes a file, or replaces it as a whole."""
     os.makedirs(os.path.dirname(path), exist_ok=True)
-    with open(f"{path}.new", "wb") as file:
+    with open(path, "wb") as file:
         file.write(content)
-    os.replace(f"{path}.new", path)
 
 
 def sum_of(content):
@@ -74,17 +72,12 @@ def rows_for(crate):
 
 
 def with_rows(listed, rows):
-    """The text of a crates.txt with some lines, each in the place of its crate's first line, or else at the end."""
+    """The text of a crates.txt with some lines, each in the place of its crate's line, or else at the end."""
     left, lines = dict(rows), []
     for line in listed.splitlines():
-        name, (old, mark, comment) = row_name(line), line.partition("#")
-        if name not in rows:
-            lines.append(line)
-        elif name in left:
-            new = left.pop(name)
-            lines.append(line if old.split() == new.split() else f"{new} {mark}{comment}".strip())
-        elif mark:
-            lines.append(mark + comment)
+        new, (old, mark, comment) = left.pop(row_name(line), None), line.partition("#")
+        is_kept = new is None or old.split() == new.split()
+        lines.append(line if is_kept else f"{new} {mark}{comment}".strip())
     return "".join(f"{it}\n" for it in [*lines, *left.values()])
 
 
@@ -109,21 +102,16 @@ def origin_of(files):
 
 def recorded(dest):
     """The checksums that a copy was made with, by the paths of its files."""
-    lines = [it for it in text_of(f"{dest}/{ORIGIN}").splitlines() if not it.startswith("#")]
-    rows = [re.fullmatch(rf"([0-9a-f]{{64}})  (crates/(?:{'|'.join(LIBRARY)})/.+)", it) for it in lines]
-    if not all(it and os.path.normpath(it[2]) == it[2] for it in rows):
-        raise Refused(f"{dest}/{ORIGIN} was changed, so nothing says which files of the copy were")
-    return {it[2]: it[1] for it in rows}
+    row = rf"^([0-9a-f]{{64}})  (crates/(?:{'|'.join(LIBRARY)})/(?!.*\.\./).+)$"
+    return {path: checksum for checksum, path in re.findall(row, text_of(f"{dest}/{ORIGIN}"), re.M)}
 
 
 def below(crate):
     """The lines of a crate and of those below it, by their names."""
-    rows, found, left = rows_of(TOP), {}, [crate]
-    while left:
-        name = left.pop()
-        if name in rows and name not in found:
-            found[name] = rows[name]
-            left += rows[name].partition(":")[2].split()
+    rows = rows_of(TOP)
+    found = {crate: rows[crate]}
+    for name in rows[crate].partition(":")[2].split():
+        found |= below(name) if name in rows else {}
     return found
 
 

@@ -1,8 +1,8 @@
 """The callers of `micromap_uses`, as TASKS.md lists them, and what a crate gets that one of them is copied into."""
 import difflib
-import glob
 import os
 import re
+from pathlib import Path
 
 from adding.copies import LIST, TOP, Refused, rows_of, text_of, with_rows
 from pages.sources import blocks, doc_of
@@ -15,8 +15,7 @@ def items_of(file):
 
 
 def files():
-    names = sorted(os.path.basename(it)[:-3] for it in glob.glob(f"{TOP}/crates/{GALLERY}/src/*"))
-    return [it for it in names if it != "lib"]
+    return sorted({it.stem for it in Path(f"{TOP}/crates/{GALLERY}/src").iterdir()} - {"lib"})
 
 
 def name_of(item):
@@ -42,12 +41,10 @@ def tasks_of(text):
 
 def wrong_of_tasks():
     """What is amiss in TASKS.md, and in the comments of the gallery."""
-    rows, own = [*tasks_of(text_of(f"{TOP}/{TASKS}"))], {*examples().items()}
-    named = {(name, file) for name, file, _ in rows}
+    named, own = {it[:2] for it in tasks_of(text_of(f"{TOP}/{TASKS}"))}, {*examples().items()}
     for file in files():
         bare = (it for it in items_of(file) if re.match("pub (?:fn|struct) ", it.code) and not doc_of(it.above))
         yield from (f"{GALLERY}/src/{file}.rt: {name_of(it)} has no comment that says its task" for it in bare)
-    yield from [f"{TASKS} has {len(rows) - len(named)} rows twice"] * (len(rows) > len(named))
     yield from (f"{TASKS}: {GALLERY}/src/{file}.rt has no {name}" for name, file in sorted(named - own))
     yield from (f"{TASKS} has no row of {name} of {file}.rt" for name, file in sorted(own - named))
 
@@ -102,27 +99,25 @@ def own_files(texts):
 
 def proofs_of(file, items):
     """The proof files of some items and of their methods, by their paths in the crate."""
+    crate = Path(f"{TOP}/crates/{GALLERY}")
     names = {name for it in items for name in re.findall(r"^ *(?:pub )?fn (\w+)", it.code, re.M)}
-    found = glob.glob(f"{TOP}/crates/{GALLERY}/proofs/{file}/**/*.antt", recursive=True)
-    own = sorted(it for it in found if it.split("/")[-2].lstrip("+") in names)
-    return {os.path.relpath(it, f"{TOP}/crates/{GALLERY}"): text_of(it) for it in own}
+    own = sorted(it for it in crate.glob(f"proofs/{file}/**/*.antt") if it.parent.name.lstrip("+") in names)
+    return {str(it.relative_to(crate)): it.read_text() for it in own}
 
 
-def with_line(text, line, at_head):
-    """A text with a line, in order among those like it, or else behind its head or at its end."""
-    lines = text.rstrip("\n").split("\n")
-    alike = [n for n, it in enumerate(lines) if re.fullmatch(rf"(?:pub )?mod \w+{';' if at_head else ''}", it)]
+def with_module(text, line):
+    """A source with a line `mod`, in order among those like it, or else behind its head."""
+    lines = text.split("\n")
+    alike = [n for n, it in enumerate(lines) if re.fullmatch(r"(?:pub )?mod \w+;", it)]
     if line in lines or f"pub {line}" in lines:
         return text
     if alike:
         later = (n for n in alike if lines[n].split("mod ")[1] > line.split("mod ")[1])
         lines.insert(next(later, alike[-1] + 1), line)
-    elif at_head:
+    else:
         head = next((n for n, it in enumerate(lines) if not re.match(r"//!|#!\[", it)), len(lines))
         lines[head:head] = ["", line]
-    else:
-        lines = [*(it for it in lines if it), line]
-    return "\n".join(lines) + "\n"
+    return "\n".join(lines)
 
 
 def found(name):
@@ -162,10 +157,10 @@ def with_example(name, dest, crate):
     taken = [it for it in new if os.path.lexists(f"{dest}/{it}") and text_of(f"{dest}/{it}") != new[it]]
     if taken:
         raise Refused("\n  ".join([f"{dest} has other content in these files: move them away", *taken]))
-    listed = {root: text_of(f"{dest}/{root}")}
-    listed[root] = with_line(listed[root], f"mod {name.lower()};", True)
+    listed = {root: with_module(text_of(f"{dest}/{root}"), f"mod {name.lower()};")}
     for where, its in re.findall(rf"^({folder}/(?:specs|proofs))/(\w+)\.antt$", "\n".join(new), re.M):
-        lib = f"{where}/Lib.antt"
-        listed[lib] = with_line(listed.get(lib, text_of(f"{dest}/{lib}")), f"pub mod {its}", False)
+        lib, line = f"{where}/Lib.antt", f"pub mod {its}\n"
+        text = listed.get(lib, text_of(f"{dest}/{lib}"))
+        listed[lib] = text + line * (line not in text)
     row = [rows[crate], *(it for it in ("micromap", "micromap_core") if it not in rows[crate].partition(":")[2].split())]
     return new | listed | {LIST: with_rows(text_of(f"{dest}/{LIST}"), {crate: " ".join(row)})}

@@ -1,34 +1,33 @@
 """docs/CLAIMS.md: what the refusals of wrong bodies show of each clause."""
 import collections
-import os
 import re
 
 from pages.api import API
-from pages.edits import CONTRACT, PROOF, PROVED, Row, changed, changes_proof, clause_in, crate_of, edits, is_fair, kind_of, recorded
-from pages.planted import NONE, calls_of, planted
-from pages.sources import LIBRARY, Sources, anchor, read
+from pages.edits import CONTRACT, PROOF, PROVED, Row, changed, changes_proof, clause_in, edits, is_fair, kind_of, recorded
+from pages.planted import PASSED, PLANTED, answered, calls_itself, calls_of, functions_of, planted
+from pages.sources import LIBRARY, Sources, anchor
 
 CLAIMS = "docs/CLAIMS.md"
 HEAD = """# Claims
 
 Made by `tools/documents` from the sources, the edits, and what [`tools/claims`](MAINTAINING.md#edits) recorded.
 
-Every clause is proved, but may say too little. So wrong bodies are tried, which the check must refuse. A refusal suggests that a clause rules out this one mistake. An *edit* is a wrong body that was written for some clauses. It is refused at *goals*, statements to be proved, which are [named](../crates/micromap/WHEN_A_CHECK_FAILS.md) for the clause.
+Every clause is proved, but may say too little. So wrong bodies are tried, which the check must refuse. A refusal suggests that a clause rules out this one mistake. A body is refused at *goals*, statements to be proved, which are [named](../crates/micromap/WHEN_A_CHECK_FAILS.md) for the clause. An *edit* is a wrong body that was written for some clauses, as a mistake that is likely. A *planted* body is made by `rt plant` from the types alone, and is coarser: it gives up, as `None`, or changes an argument, a field or the result.
 
 TOTALS
 
-Counted are the clauses of `ensures` of public calls, the ghost members of impls and the laws of traits. Impls of one name here count once, as `Probe for Text` for three types of key. Not counted are LAWS laws, which no body can break, since they mention neither a result nor a state afterwards, or say the invariant of a map or a set, as `content` does: NAMES.
+These are CLAUSES: those of `ensures` of public calls, the ghost members of impls and the laws of traits. Impls of one name here count once, as `Probe for Text` for three types of key. Not counted are LAWS laws, which no body can break, since they mention neither a result nor a state afterwards, or say the invariant of a map or a set, as `content` does: NAMES.
 
 - A refusal shows that the search found no proof, not that there is none.
-- A: the search proves this very goal of the right body, or all of its goals of this clause, or a right body of the edit's form. A proof by hand that rests on nothing but what is passed counts like the search. B: the refused return is new, so that a right body of that form may be refused too.
-- A to E: if an edit changes the proof, the right body is proved with the same change. F: it isn't; or a loop has no invariant, so that nothing is known of what it changed; or only a proof by hand, before which `written:` stands, no longer fits.
-- If a goal names no clause, another may have failed.VAGUE The check calls `next_gives` `steps`, and `output` `writes`.
+- A: the search proves this very goal of the right body, or all of its goals of this clause, or a right body of the same form. A proof by hand that rests on nothing but what is passed counts like the search, and then the goal stands behind `written:`. A planted body that calls the function itself has A, since it is tried only if the unchanged call is proved.
+- B: the refused return is new, so that a right body of that form may be refused too.
+- A clause counts once, by its best grade, and by an edit if a planted body has no better one. In the tables it has no link if its grade is a planted body's, and [this record](../RECORD) has the body and its goals. [Another](../tools/pages/goals.tsv) has the edits'.THROUGH
+- A to E: if an edit changes the proof, the right body is proved with the same change. F: it isn't; or a loop has no invariant, so that nothing is known of what it changed; or only a proof by hand no longer fits.
+- If a goal names no clause, another may have failed. So it is with VAGUE clauses of the grades A and B. The check calls `next_gives` `steps`, `remaining` `goes`, and `output` `writes`.
 - Some edits narrow the call by a bound, add laws to a `tactic` line, or add a function. The right body isn't tried with these.
-- P: `rt plant` makes wrong bodies by itself, which give up, as `None`, or change an argument, a field or the result.THROUGH
-- Of the clauses without a refusal, SILENT.
 - What was tried is the function as it stands. An attribute, a ghost member, a definition or a proof may have changed since.
 
-The edits of functions outside the library are OUTSIDE. REFUSED of them were refused at a goal of the contract. Their clauses aren't counted.
+Edits of functions outside the library are OUTSIDE. REFUSED of them were refused at a goal of the contract. Their clauses aren't counted.
 
 ## Comparisons and operations on sets
 
@@ -38,7 +37,7 @@ HEADLINE
 
 ## The other calls
 
-A clause leads to its edits, the strongest first. Edits for a precondition are REQUIRED.
+A clause leads to its edits, the strongest first. For preconditions there is REQUIRED.
 
 | Call | A | B | C to F | P | None |
 |---|---|---|---|---|---|
@@ -46,13 +45,13 @@ OTHERS
 """
 # What the strongest refusal for a clause shows.
 GRADES = {
-    "A": "an edit is refused at a goal of the clause, and the search proves the right body there",
-    "B": "an edit is refused at a goal of the clause that the wrong body alone has, or where the right body is proved by hand",
+    "A": "a wrong body is refused at a goal of the clause, and the search proves the right body there",
+    "B": "a wrong body is refused at a goal of the clause that the right body lacks, or needs a proof by hand for",
     "C": "an edit is refused at another clause of the call's contract",
     "D": "an edit of an inner function, on which the call rests, is refused at that function's contract",
     "E": "an edit is refused at the invariant of a loop, or at what a call requires",
     "F": "an edit is refused, but the right body too, or only a proof by hand no longer fits",
-    "P": "no edit: a planted body is refused, at whichever clause",
+    "P": "a planted body is refused, at whichever clause",
     "none": "no refusal is known",
 }
 # The calls of the first table of clauses.
@@ -63,25 +62,13 @@ for _call in ("difference", "difference_ref", "intersection", "union", "symmetri
 LOOPS = """remove_moves_the_last_pair_into_the_gap remove_moves_the_last_value_into_the_gap into_capacity_reverses_the_pairs
 into_iter_from_the_end read_entries_empties_the_source""".split()
 # What the clauses are called that ghost members of traits stand in.
-GHOSTS = {"next_gives": "steps", "output": "writes"}
-SHARED, OF_TRAIT, UNKNOWN = "an edit is for another clause", "a trait's", "nothing was tried on the call as it stands"
-SILENT = {
-    SHARED: "are of calls with an edit for another clause",
-    NONE: "of calls of which no planted body could be judged",
-    OF_TRAIT: "of traits, whose implementations have them too",
-    UNKNOWN: "of calls on which nothing was tried as they stand",
-}
-Edit = collections.namedtuple("Edit", "path wrong claims")  # claims: the names of clauses
+GHOSTS = {"next_gives": "steps", "remaining": "goes", "output": "writes"}
 
 
-def edit_of(path, known, wrong):
-    """An edit, by its lines `# for: Map::insert: old, pairs; Set::get` and `# wrong: the pair isn't inserted`."""
-    said = dict(re.findall(r"^# (for|wrong): (.+)$", read(path), re.M))
-    wrong += [f"{path}: it has no line # {it}:" for it in ("for", "wrong") if it not in said]
-    calls = (it.partition(": ")[::2] for it in said.get("for", "").split("; ") if it)
-    claims = [f"{call}: {it}".removesuffix(": ") for call, names in calls for it in names.split(", ")]
-    wrong += [f"{path}: no clause is {it}" for it in claims if it not in known]
-    return Edit(path, said.get("wrong", ""), claims)
+def claims_of(edit):
+    """The names of the clauses that an edit is for, by its line `# for: Map::insert: old, pairs; Set::get`."""
+    calls = (it.partition(": ")[::2] for it in edit.said("for").split("; ") if it)
+    return [f"{call}: {it}".removesuffix(": ") for call, names in calls for it in names.split(", ")]
 
 
 def label_of(name):
@@ -105,52 +92,56 @@ class Claims:
 
     def __init__(self, api, wrong):
         self.api, self.planted, self.calls = api, planted(api.sources), calls_of(api.sources)
+        self.answered = {call: answered(functions) for call, functions in functions_of(api.sources).items()}
         self.rows = collections.defaultdict(lambda: Row([], ""), recorded())
-        others = Sources(sorted({it.split("/")[1] for it in edits()} - {*LIBRARY}))
+        others = Sources(sorted({it.path.split("/")[1] for it in edits()} - {*LIBRARY}))
         clauses = {}
         for it in api.sources.clauses():
             clauses |= {} if it.item.path.endswith(("/slot.rt", "/hint.rt")) or it.name in clauses else {it.name: it}
         known = {*clauses, *(it.name for it in [*others.clauses(), *api.sources.clauses(required=True)])}
-        self.edits = [edit_of(it, known, wrong) for it in edits()]
+        self.claims = {it: claims_of(it) for it in edits()}
+        wrong += [f"{it.name}: no clause is {name}" for it, names in self.claims.items() for name in names if name not in known]
         self.library = {name: it for name, it in clauses.items() if not is_law(it)}
+        self.sizes = collections.Counter(it.call for it in clauses.values())
         self.laws = collections.Counter(label_of(it) for it in clauses if it not in self.library)
         self.best = {it: self.best_of(it) for it in self.library}
 
     def is_inner(self, edit, clause):
         """Whether an edit changes functions, but none of the clause's own call."""
-        places = [(f"{crate_of(edit.path)}/{it.file}", it.owner, it.trait, it.name) for it in changed(edit.path)]
+        places = [(f"{edit.crate}/{it.file}", it.owner, it.trait, it.name) for it in changed(edit)]
         return bool(places) and clause.item.kind != "trait" and clause.call not in map(self.calls.get, places)
 
     def grade(self, edit, name):
-        row, label = self.rows[edit.path], GHOSTS.get(label_of(name), label_of(name))
-        kind = min((kind_of(edit.path, it) for it in row.goals), default=PROOF)
-        has_loop = os.path.basename(edit.path).removesuffix(".edit") in LOOPS
-        if kind == PROOF or has_loop or changes_proof(edit.path) and row.right != PROVED:
+        row, label = self.rows[edit], GHOSTS.get(label_of(name), label_of(name))
+        kind = min((kind_of(edit, it) for it in row.goals), default=PROOF)
+        if kind == PROOF or edit.name in LOOPS or changes_proof(edit) and row.right != PROVED:
             return "F"
         if kind != CONTRACT or self.is_inner(edit, self.library[name]):
             return "D" if kind == CONTRACT else "E"
         goals = goals_for(row, name)
-        return "A" if any(is_fair(edit.path, row, it, label) for it in goals) else "B" if goals else "C"
+        return "A" if any(is_fair(edit, row, it, label) for it in goals) else "B" if goals else "C"
 
     def graded(self, name):
         """The edits for a clause by their grades, the strongest first."""
         found = collections.defaultdict(list)
-        for edit in (it for it in self.edits if name in it.claims):
+        for edit in (it for it, names in self.claims.items() if name in names and self.rows[it].goals):
             found[self.grade(edit, name)].append(edit)
         return sorted(found.items())
 
-    def best_of(self, name):
-        """The best grade of a clause, the edits that have it, and what is known without one."""
-        found, said = self.graded(name), self.verdict(name)
-        return (*found[0], "") if found else ("P" if " refused, as " in said else "none", [], said)
+    def by_plants(self, name):
+        """The grade that planted bodies give a clause, and the body that does."""
+        call, label, found = self.library[name].call, GHOSTS.get(label_of(name), label_of(name)), []
+        own = rf"returns\S*-clause-{label or '-'}" + r"|returns((?!-clause-)\S)*" * (self.sizes[call] == 1)
+        for body, said in self.planted.get(call, {}).items():
+            of_clause = any(re.fullmatch(own, it) for it in said.split())
+            is_fair = calls_itself(call, body) or not {"", label} & self.answered[call]
+            found += [("P" if not of_clause else "A" if is_fair else "B", body)] * (said != PASSED)
+        return min(found, default=("none", ""))
 
-    def verdict(self, name):
-        """What is known of a clause without an edit: what was planted on its call, or why there is no refusal."""
-        call, named = self.library[name].call, {name for it in self.edits for name in it.claims}
-        said = self.planted.get(call, UNKNOWN)
-        if "let through" not in said and any(it.call == call and name in named for name, it in self.library.items()):
-            return SHARED
-        return OF_TRAIT if self.library[name].item.kind == "trait" else said
+    def best_of(self, name):
+        """The best grade of a clause, the edits that have it, and the planted body that does if none has."""
+        (found, those), (grade, body) = (self.graded(name) or [("none", [])])[0], self.by_plants(name)
+        return (found, those, "") if found <= grade else (grade, [], body)
 
     def linked(self, call):
         heading = self.api.heading(call)
@@ -162,10 +153,12 @@ class Claims:
         for call in HEADLINE:
             clauses, goals = collections.defaultdict(list), collections.defaultdict(dict)
             for name in (it for it, clause in self.library.items() if clause.call == call):
-                grade, those, _ = self.best[name]
-                for what, path in [(f"[{it.wrong[:1].upper()}{it.wrong[1:]}](../{it.path})", it.path) for it in those] or [("", "")]:
+                grade, those, body = self.best[name]
+                whats = {f"[{it.said('wrong')[:1].upper()}{it.said('wrong')[1:]}](../{it.path})": self.rows[it] for it in those}
+                planted = Row(self.planted[call][body].split(), "") if body else Row([], "")
+                for what, row in (whats or {f"`{body}`" * bool(body): planted}).items():
                     clauses[what].append(f"`{label_of(name)}` {grade}")
-                    goals[what] |= dict.fromkeys(goals_for(self.rows[path], name) or self.rows[path].goals)
+                    goals[what] |= dict.fromkeys(goals_for(row, name) or row.goals)
             for what in sorted(clauses, key=lambda it: not it):
                 yield f"| {self.linked(call)} | {', '.join(clauses[what])} | {what} | {', '.join(f'`{it}`' for it in goals[what])} |"
 
@@ -176,47 +169,46 @@ class Claims:
             calls[clause.call] += [name] if clause.call not in HEADLINE else []
         place = lambda call: [*order, self.api.heading(call)].index(self.api.heading(call))
         for call in sorted((it for it in calls if calls[it]), key=place):
-            cells = (", ".join(self.cell(it) for it in calls[call] if self.best[it][0] in grades) for grades in ("A", "B", [*"CDEF"], "P", ["none"]))
+            of = lambda grades: ", ".join(self.cell(it) for it in calls[call] if self.best[it][0] in grades)
+            cells = map(of, ("A", "B", [*"CDEF"], "P", ["none"]))
             yield f"|{self.linked(call)}|{'|'.join(cells)}|"
 
     def cell(self, name):
         """A clause, as links to its edits if it has some."""
-        grade, label = self.best[name][0], f"`{label_of(name) or 'ensures'}`"
-        paths = [it.path for _, those in self.graded(name) for it in those]
+        grade, those, body = self.best[name]
+        label = f"`{label_of(name) or 'ensures'}`"
+        paths = dict.fromkeys(it.path for _, those in self.graded(name) for it in those if not body)
         links = (f"[{n if n > 1 else label}](../{path})" for n, path in enumerate(paths, 1))
         return f"{f'{grade} ' * (grade in 'CDEF')}{' '.join(links)}" if paths else label
 
     def apart(self, edits):
-        """Edits of which no clause is counted, each as a link by what it is for."""
-        return ", ".join(f"[`{it.claims[0]}`](../{it.path})" for it in edits)
+        """Edits of which no clause is counted, with links to their files."""
+        files = collections.Counter(it.path for it in edits)
+        return ", ".join(f"[{count} of `{path.split('/')[1]}`](../{path})" for path, count in files.items())
 
     def vague(self):
-        """The clauses, of calls with several, that no goal of the best edits names."""
-        calls = collections.Counter(it.call for it in self.library.values())
+        """For each clause with an edit, whether its call has several, and no goal of the best edits names it."""
         for name, (grade, those, _) in self.best.items():
-            goals = [goal for it in those for goal in goals_for(self.rows[it.path], name)] if grade in "AB" else []
-            if goals and calls[self.library[name].call] > 1 and not any(clause_in(it) or it.endswith("-value") for it in goals):
-                yield f"`{label_of(name)}` of `{self.library[name].call}`"
-
-    def counts(self):
-        return {it: [grade for grade, *_ in self.best.values()].count(it) for it in GRADES}
+            goals = [goal for it in those for goal in goals_for(self.rows[it], name)] if grade in "AB" else []
+            is_named = any(clause_in(it) or it.endswith("-value") for it in goals)
+            yield bool(goals) and self.sizes[self.library[name].call] > 1 and not is_named
 
     def text(self):
-        silent = collections.Counter(said for _, _, said in self.best.values())
-        through = [f"`{call}`" for call, said in self.planted.items() if "let through" in said]
-        outside = [it for it in self.edits if it.path.split("/")[1] not in LIBRARY]
-        required = [it for it in self.edits if it not in outside and not self.library.keys() & it.claims]
-        vague = [*self.vague()]
-        totals = [f"| {it} | {GRADES[it]} | {count} |" for it, count in self.counts().items()]
+        through = [f"`{call}`" for call, bodies in self.planted.items() if PASSED in bodies.values()]
+        counts = collections.Counter((grade, bool(body)) for grade, _, body in self.best.values())
+        outside = [it for it in self.claims if it.path.split("/")[1] not in LIBRARY]
+        required = [it for it, names in self.claims.items() if it not in outside and not self.library.keys() & names]
+        totals = [f"| {it} | {said} | {counts[it, False] or ''} | {counts[it, True] or ''} |" for it, said in GRADES.items()]
         said = {
-            "TOTALS": "\n".join(["| Grade | Strongest refusal | Clauses |\n|---|---|--:|", *totals, f"| | all | {len(self.library)} |"]),
+            "TOTALS": "\n".join(["| Grade | Strongest refusal | By an edit | By a planted body |\n|---|---|--:|--:|", *totals]),
+            "CLAUSES": f"{len(self.library)} clauses, of which {counts['A', False] + counts['A', True]} have the grade A",
             "LAWS": sum(self.laws.values()),
             "NAMES": ", ".join(f"{count} `{it}`" for it, count in self.laws.most_common()),
-            "VAGUE": f" So it is with {', '.join(vague)}." if vague else "",
-            "THROUGH": f" Let through was one of {', '.join(through)}." if through else " None was let through.",
-            "SILENT": ", ".join(f"{silent[it]} {why}" for it, why in SILENT.items() if silent[it]),
+            "VAGUE": sum(self.vague()),
+            "THROUGH": f" Let through was one of {', '.join(through)}." if through else " No planted body was let through.",
+            "RECORD": PLANTED,
             "OUTSIDE": self.apart(outside),
-            "REFUSED": sum(CONTRACT in {kind_of(it.path, goal) for goal in self.rows[it.path].goals} for it in outside),
+            "REFUSED": sum(CONTRACT in {kind_of(it, goal) for goal in self.rows[it].goals} for it in outside),
             "REQUIRED": self.apart(required),
             "HEADLINE": "\n".join(self.headline()),
             "OTHERS": "\n".join(self.others()),

@@ -1,12 +1,12 @@
-"""The edits, each a wrong body that the prover must refuse, the goals at which it did, and what a refusal there shows. Those in
-must-fail/ are tried by the gate and by tools/claims, those in claims/ by tools/claims alone."""
+"""The edits, each a wrong body that the prover must refuse, the goals at which it did, and what a refusal there shows. Each file
+of must-fail/ is an edit, which the gate and tools/claims try. Those of claims/ have several, which tools/claims alone tries."""
 import collections
 import functools
 import glob
 import hashlib
 import os
 import re
-from itertools import groupby, takewhile
+from itertools import takewhile
 
 from pages.sources import blocks, read, whose, write
 
@@ -16,8 +16,7 @@ Function = collections.namedtuple("Function", "file owner trait name first last"
 # A pair, whose file may be that of the pair before.
 SAID = r"(?:#(?! right:).*\n)*"
 PAIR = rf"{SAID}(?:file: (.+)\n)?{SAID}old: (.+)\n{SAID}new: ?(.*)\n(?:# right: ?(.*)\n)?{SAID}"
-# Behind each folder a row for each edit: the sum of what it was tried on, the goals, and PROVED or OPEN of the right body, if that
-# was tried.
+# A row for each edit: the sum of what it was tried on, the goals, and PROVED or OPEN of the right body, if that was tried.
 RECORD, PROVED, OPEN = "tools/pages/goals.tsv", "proved", "open"
 WRITTEN, DIGITS = "written:", 10  # what stands before a goal of a written proof, and of a sum
 # What a refusal shows, by the goal: one of the contract, of a loop's invariant or of what a call requires, or of a written proof.
@@ -32,12 +31,26 @@ class Dead(Exception):
     """Why an edit can't be applied."""
 
 
+class Edit(collections.namedtuple("Edit", "path name text")):
+    """An edit, with its file. In claims/ it begins with the line `# edit: NAME`."""
+
+    @property
+    def crate(self):
+        return "/".join(self.path.split("/")[:2])
+
+    def said(self, word):
+        found = re.search(rf"^# {word}: (.+)$", self.text, re.M)
+        return found[1] if found else ""
+
+
+@functools.cache
 def edits():
-    return sorted(path for folder in FOLDERS for path in glob.glob(f"crates/*/{folder}/*.edit"))
-
-
-def crate_of(path):
-    return "/".join(path.split("/")[:2])
+    found = []
+    for path in sorted(path for folder in FOLDERS for path in glob.glob(f"crates/*/{folder}/*.edit")):
+        name = "" if "/claims/" in path else os.path.basename(path).removesuffix(".edit")
+        for text in re.split(r"^(?=# edit: )", read(path), flags=re.M)[not name :]:
+            found.append(Edit(path, name or text.split("\n")[0][len("# edit: ") :], text.rstrip("\n") + "\n"))
+    return found
 
 
 def module_of(file):
@@ -47,7 +60,7 @@ def module_of(file):
 
 def pairs_of(text):
     """The file, the old text, the new text, and the text for the right body, of each pair of an edit."""
-    pairs, file, rest = [], "", text.rstrip("\n") + "\n"
+    pairs, file, rest = [], "", text
     while rest:
         found = re.match(PAIR, rest)
         if not found or not (found[1] or file):
@@ -59,11 +72,11 @@ def pairs_of(text):
     return pairs
 
 
-def changes_of(path, right=False):
+def changes_of(edit, right=False):
     """The lines that an edit puts into its crate, or its right body, by their files and numbers. Each pair applies to what the
     earlier ones made."""
-    crate, texts, found = crate_of(path), {}, {}
-    for file, old, *new in pairs_of(read(path)):
+    crate, texts, found = edit.crate, {}, {}
+    for file, old, *new in pairs_of(edit.text):
         if not re.match(r"(src|specs|proofs)/", file) or not os.path.isfile(f"{crate}/{file}"):
             raise Dead(f"there is no file {file} in src/, specs/ or proofs/")
         text = texts.setdefault(file, read(f"{crate}/{file}"))
@@ -79,9 +92,9 @@ def changes_of(path, right=False):
     return found
 
 
-def text_with(changes, path, file):
-    """A file of a crate, of which the path of an edit is given, with some lines changed."""
-    lines = enumerate(read(f"{crate_of(path)}/{file}").split("\n"))
+def text_with(changes, crate, file):
+    """A file of a crate with some lines changed."""
+    lines = enumerate(read(f"{crate}/{file}").split("\n"))
     return "\n".join(changes.get((file, at), line) for at, line in lines)
 
 
@@ -99,25 +112,28 @@ def functions_in(file, text):
 
 
 @functools.cache
-def changed(path):
+def changed(edit):
     """The functions that an edit changes. An edit is one line for one line, so they keep their places."""
     found = set()
-    for file, line in changes_of(path):
-        inside = (it for it in functions_in(file, read(f"{crate_of(path)}/{file}")) if it.first <= line <= it.last)
+    for file, line in changes_of(edit):
+        inside = (it for it in functions_in(file, read(f"{edit.crate}/{file}")) if it.first <= line <= it.last)
         found |= {*inside} if file.startswith("src/") else set()
     return found
 
 
 def dead_edits():
-    """What is amiss in the folders of edits: each edit that can't be applied, and each file that isn't tried."""
-    for path in sorted(path for folder in FOLDERS for path in glob.glob(f"crates/*/{folder}/**/*", recursive=True)):
-        if not re.match(rf"crates/\w+/({'|'.join(FOLDERS)})/[\w-][\w.-]*\.edit$", path):
-            yield f"{path}: it isn't tried, since it is no .edit right in its folder"
-            continue
+    """What is amiss in the folders of edits: each edit that can't be applied, or lacks a line, and each file that isn't tried."""
+    tried = {it.path for it in edits()}
+    for path in sorted({path for folder in FOLDERS for path in glob.glob(f"crates/*/{folder}/**/*", recursive=True)} - tried):
+        yield f"{path}: it isn't tried, since it is no .edit right in its folder, or has no edit"
+    for it, count in collections.Counter(it.name for it in edits()).items():
+        yield from [f"{count} edits have the name {it}"] * (count > 1)
+    for edit in edits():
+        yield from (f"{edit.name}: it has no line # {it}:" for it in ("for", "wrong") if not edit.said(it))
         try:
-            changes_of(path)
+            changes_of(edit)
         except Dead as why:
-            yield f"{path}: the edit can't be applied: {why}"
+            yield f"{edit.name}: the edit can't be applied: {why}"
 
 
 def sum_of(texts):
@@ -130,12 +146,12 @@ def code_of(file, function):
     return [it for it in lines if not re.match(r" *(//|#\[)", it)]
 
 
-def tried_on(path):
+def tried_on(edit):
     """What an edit changes, without what it says of that, and the contracts and the bodies of the functions that it changes."""
-    texts = [re.sub(r"^#(?! right: ).*\n", "", read(path), flags=re.M)]
+    texts = [re.sub(r"^#(?! right: ).*\n", "", edit.text, flags=re.M)]
     try:
-        for it in sorted(changed(path)):
-            texts += code_of(f"{crate_of(path)}/{it.file}", it)
+        for it in sorted(changed(edit)):
+            texts += code_of(f"{edit.crate}/{it.file}", it)
     except Dead:  # which tools/documents says by itself
         pass
     return texts
@@ -146,47 +162,39 @@ def lines_of(record):
 
 
 def rows():
-    """The path, the sum and the row of each edit in the record."""
-    folder = ""
-    for name, *cells in lines_of(RECORD):
-        folder = folder if cells else name
-        path = f"crates/{folder}/{name}.edit"
-        if cells and os.path.exists(path):
-            sum, goals, *right = cells
-            yield path, sum, Row(goals.split(), *(right or [""]))
+    """The edits in the record, each with its sum and its row."""
+    named = {it.name: it for it in edits()}
+    for name, sum, goals, *right in lines_of(RECORD):
+        if name in named:
+            yield named[name], sum, Row(goals.split(), *(right or [""]))
 
 
 def recorded():
-    """The rows of edits as they stand, by their paths."""
-    return {path: row for path, sum, row in rows() if sum == sum_of(tried_on(path))}
+    """The rows of edits as they stand."""
+    return {edit: row for edit, sum, row in rows() if sum == sum_of(tried_on(edit))}
 
 
 def keep(known):
-    lines = []
-    for folder, paths in groupby(filter(known.get, edits()), os.path.dirname):
-        lines.append(folder.removeprefix("crates/"))
-        for path in paths:
-            cells = [os.path.basename(path).removesuffix(".edit"), sum_of(tried_on(path)), " ".join(known[path].goals), known[path].right]
-            lines.append("\t".join(filter(None, cells)))
-    write(RECORD, "\n".join([*lines, ""]))
+    cells = ([it.name, sum_of(tried_on(it)), " ".join(known[it].goals), known[it].right] for it in sorted(known))
+    write(RECORD, "".join("\t".join(filter(None, it)) + "\n" for it in cells))
 
 
-def changes_proof(path):
-    return {"proofs", "src"} <= {file.split("/")[0] for file, *_ in pairs_of(read(path))}
+def changes_proof(edit):
+    return {"proofs", "src"} <= {file.split("/")[0] for file, *_ in pairs_of(edit.text)}
 
 
-def has_right(path):
+def has_right(edit):
     """Whether an edit has a right body of its own, which has all of it but the mistake."""
-    return any(right != old for file, old, _, right in pairs_of(read(path)) if file.startswith("src/"))
+    return any(right != old for file, old, _, right in pairs_of(edit.text) if file.startswith("src/"))
 
 
-def wants_right(path):
-    return changes_proof(path) or has_right(path)
+def wants_right(edit):
+    return changes_proof(edit) or has_right(edit)
 
 
-def is_tried(path, row):
+def is_tried(edit, row):
     """Whether a row has all that is to be tried of an edit."""
-    return bool(row and row.goals and (row.right or not wants_right(path)))
+    return bool(row and row.goals and (row.right or not wants_right(edit)))
 
 
 @functools.cache
@@ -204,15 +212,18 @@ def is_of(file, function):
     return bool(is_there) and name == function.name
 
 
-@functools.cache
-def answers_of(path):
-    """The written proofs of returns of the functions that an edit changes, as it leaves them, by their goals."""
-    changes, found = changes_of(path), {}
-    for file in files_of_answers(crate_of(path)):
-        if any(is_of(file, it) for it in changed(path)):
-            bare = re.sub(r"\{-.*?-\}|^ *--.*?$", "", text_with(changes, path, file), flags=re.M | re.S)
-            found |= ANSWER.findall(bare + "\n")
+def answers_in(crate, functions, changes):
+    """The written proofs of returns of functions by their goals, with some lines changed."""
+    found = {}
+    for file in (it for it in files_of_answers(crate) if any(is_of(it, one) for one in functions)):
+        bare = re.sub(r"\{-.*?-\}|^ *--.*?$", "", text_with(changes, crate, file), flags=re.M | re.S)
+        found |= ANSWER.findall(bare + "\n")
     return found
+
+
+@functools.cache
+def answers_of(edit):
+    return answers_in(edit.crate, changed(edit), changes_of(edit))
 
 
 def is_neutral(answer):
@@ -220,9 +231,9 @@ def is_neutral(answer):
     return not re.search(r"(?<![\w.])c\b(?!\.(?:args|self|requires)\b)", answer)
 
 
-def kind_of(path, goal):
+def kind_of(edit, goal):
     name = goal.removeprefix(WRITTEN)
-    if name != goal and not is_neutral(answers_of(path).get(name, "c")):
+    if name != goal and not is_neutral(answers_of(edit).get(name, "c")):
         return PROOF
     is_of_contract = name.startswith("returns") or name.endswith("-value")  # a law that an impl owes its trait has such a name
     return CONTRACT if is_of_contract else SERVING
@@ -237,16 +248,17 @@ def branches(text):
     return text if re.search(OPERAND, text) else re.findall(BRANCH, text)
 
 
-def is_fair(path, row, goal, clause):
+def is_fair(edit, row, goal, clause):
     """Whether a right body of the form of an edit is proved at a goal: the edit's own is, or the right one has the goal too, or
     no written proof serves the clause."""
-    if has_right(path):
+    if has_right(edit):
         return row.right == PROVED
-    is_same = all(branches(old) == branches(new) for file, old, new, _ in pairs_of(read(path)) if file.startswith("src/"))
-    return goal.startswith(WRITTEN) or is_same or not any(clause_in(it) in ("", clause) for it in answers_of(path))
+    is_same = all(branches(old) == branches(new) for file, old, new, _ in pairs_of(edit.text) if file.startswith("src/"))
+    return goal.startswith(WRITTEN) or is_same or not any(clause_in(it) in ("", clause) for it in answers_of(edit))
 
 
 def stale_claims():
     """Each edit that wasn't tried as it and its function stand."""
     known = recorded()
-    return [f"{it}: it wasn't tried as it and its function stand: run tools/claims" for it in edits() if not is_tried(it, known.get(it))]
+    stale = (it.name for it in edits() if not is_tried(it, known.get(it)))
+    return [f"{it}: it wasn't tried as it and its function stand: run tools/claims" for it in stale]

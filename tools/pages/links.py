@@ -15,7 +15,11 @@ def prose(text):
 
 
 def dead_links(document, top="."):
-    """What is amiss in the links of a document of a repository: the files and headings that aren't there."""
+    """What is amiss in the links of a document of a repository: the files, headings and names of code that aren't there."""
+    for name, where in re.findall(r"\[`(\w+)`\]\(([^)\s]+\.rt)\)", read(f"{top}/{document}")):
+        path = os.path.join(top, os.path.dirname(document), where)
+        if os.path.exists(path) and not re.search(rf"\b{name}\b", read(path)):
+            yield f"{document}: {where} has no {name}"
     for where in re.findall(r"\]\(([^)\s]+)", re.sub(r"`[^`\n]*`", "", prose(read(f"{top}/{document}")))):
         path, _, at = where.partition("#")
         path = os.path.normpath(os.path.join(top, os.path.dirname(document), path) if path else f"{top}/{document}")
@@ -35,4 +39,3 @@ def wrong_of_laws():
     rows = "\n".join(it for it in read(PROVING).split("\n") if it.startswith("| "))
     named = re.findall(r"`([\w'≢]+[_-][\w'≢-]+)`", rows)
     yield from (f"{PROVING}: a table names {it}, which is no law" for it in named if it not in known)
-    yield from [f"{PROVING}: no table names a law"] * (not named)

@@ -1,12 +1,12 @@
 """What `rt plant` found: the wrong bodies that it tried on each call. A row of the record has a call, the sum of its bodies, and
-what came of the planted ones."""
+planted bodies, each with the goals that refused it, or PASSED."""
 import collections
 import re
 
-from pages.edits import code_of, functions_in, lines_of, sum_of
+from pages.edits import answers_in, clause_in, code_of, functions_in, lines_of, sum_of
 from pages.sources import read, write
 
-PLANTED, NONE = "tools/pages/planted.tsv", "no wrong body could be judged"
+PLANTED, PASSED, REFUSED = "tools/pages/planted.tsv", "let through", "refused"  # REFUSED stands for goals that aren't known
 # What `rt plant` prints as let through, though it is right: `==` is symmetric.
 RIGHT = {"Self::same::<K>(self, second, first)"}
 
@@ -20,27 +20,47 @@ def calls_of(sources):
     return calls
 
 
+def functions_of(sources):
+    """The functions of each call, with their crates."""
+    calls, found = calls_of(sources), collections.defaultdict(list)
+    for path in dict.fromkeys(path for path, *_ in calls):
+        crate, _, file = path.partition("/src/")
+        for it in functions_in(f"src/{file}", read(path)):
+            found[calls.get((path, it.owner, it.trait, it.name))].append((crate, it))
+    return found
+
+
 def sums_of(sources, was=str):
     """The sum of the bodies of each call, without their contracts, as they were."""
-    calls, bodies = calls_of(sources), collections.defaultdict(list)
-    for path in dict.fromkeys(path for path, *_ in calls):
-        for it in functions_in(path, read(path)):
-            code = code_of(path, it)
-            begin = next((at for at, line in enumerate(code) if line.strip() == "{"), 0)
-            bodies[calls.get((path, it.owner, it.trait, it.name))] += code[begin:]
+    bodies = collections.defaultdict(list)
+    for call, functions in functions_of(sources).items():
+        for crate, it in functions:
+            code = code_of(f"{crate}/{it.file}", it)
+            bodies[call] += code[next((at for at, line in enumerate(code) if line.strip() == "{"), 0) :]
     return {call: sum_of([was("\n".join(code))]) for call, code in bodies.items()}
 
 
 def planted(sources):
-    """What came of the bodies that were planted on the calls that stand as they did."""
+    """The bodies that were planted on the calls that stand as they did, each with its goals."""
     sums = sums_of(sources)
-    return {call: said or NONE for call, sum, said in lines_of(PLANTED) if sums.get(call) == sum}
+    return {call: dict(zip(cells[::2], cells[1::2])) for call, sum, *cells in lines_of(PLANTED) if sums.get(call) == sum}
 
 
 def keep_planted(sources, known):
     sums = sums_of(sources)
-    lines = (f"{call}\t{sums[call]}\t{known[call].replace(NONE, '')}\n" for call in sorted(known) if call in sums)
-    write(PLANTED, "".join(lines))
+    calls = sorted(it for it in known if known[it] and it in sums)
+    rows = ([call, sums[call], *(cell for it in known[call].items() for cell in it)] for call in calls)
+    write(PLANTED, "".join("\t".join(it) + "\n" for it in rows))
+
+
+def calls_itself(call, body):
+    """Whether a planted body calls the function in whose place it stands. Then the search proved the same body without its change."""
+    return bool(re.search(rf"\b{re.escape(call.rpartition('::')[2])}(::<.*?>)?\(", body))
+
+
+def answered(functions):
+    """The clauses of a call of which goals are proved by hand, with "" if a whole return is."""
+    return {clause_in(it) for crate, function in functions for it in answers_in(crate, [function], {})}
 
 
 def function_of(shown):
@@ -52,23 +72,24 @@ def function_of(shown):
 
 
 def plants_of(log, sources):
-    """What came of the bodies that a log of `rt plant` names, by the calls."""
-    calls, rows = calls_of(sources), []
-    tried = collections.defaultdict(lambda: collections.defaultdict(list))
-    row = r"([a-z-]+) +(src/\S+):\d+ (.*?)(?:\(\)|: \{ ?(.*?) ?\}(?:  \([^()]*\))?)$"
+    """The bodies that a log of `rt plant --all` names, by the calls, each with its goals."""
+    calls, rows, tried = calls_of(sources), [], collections.defaultdict(list)
+    row = r"([a-z-]+) +(src/\S+):\d+ (.*?)(?:\(\)|: \{ ?(.*?) ?\}(?:  \(([^()]*)\))?)$"
     for line in log.split("\n"):
         found, ends = re.match(row, line), re.match(r"plants crate=(\w+) ", line)
-        rows += [found.groups()] if found else []
-        for kind, path, shown, body in rows if ends else ():
-            tried[calls.get((f"crates/{ends[1]}/{path}", *function_of(shown)))][kind].append(body or "")
+        rows += [found.groups("")] if found else []
+        for kind, path, shown, body, goals in rows if ends else ():
+            tried[calls.get((f"crates/{ends[1]}/{path}", *function_of(shown)))].append((kind, body or "{}", goals.replace(",", "")))
         rows = [] if ends else rows
-    found = {call: summary(kinds) for call, kinds in tried.items() if call}
-    return {call: it for call, it in found.items() if it != NONE or not tried[call]["not-run"]}
+    return {call: strongest(call, bodies) for call, bodies in tried.items() if call}
 
 
-def summary(kinds):
-    passed = [it for it in kinds["proves"] + kinds["no-ensures"] if it not in RIGHT]
-    refused = sorted(kinds["refused"], key=lambda it: (len(it), it))
-    said = ["let through: " + ", ".join(f"`{it}`" for it in passed)] if passed else []
-    said += [f"{len(refused)} refused, as `{refused[0] or '{}'}`"] if refused else []
-    return "; ".join(said) or NONE
+def strongest(call, bodies):
+    """The bodies that were let through, and for each clause a refused one that calls the function, or else the shortest."""
+    found = {body: PASSED for kind, body, _ in bodies if kind in ("proves", "no-ensures") and body not in RIGHT}
+    refused, seen = [it[1:] for it in bodies if it[0] == REFUSED], set()
+    for body, goals in sorted(refused, key=lambda it: (not calls_itself(call, it[0]), len(it[0]), it)):
+        clauses = {clause_in(it) for it in goals.split()}
+        if clauses - seen:
+            found[body], seen = goals, seen | clauses
+    return found

@@ -1,6 +1,5 @@
 """What the sources of some crates have: public types, calls and clauses, under the names that a user has for them."""
 import collections
-import functools
 import glob
 import os
 import re
@@ -40,7 +39,7 @@ def blocks(text, margin=""):
     """The functions, types, traits and impls at a margin, each with the comments and attributes above it, and with the number
     of its first line, counted from 0."""
     lines = text.split("\n")
-    begins = re.compile(rf"{margin}(?:pub(?:\([^)]*\))? |const |unsafe )*(?:fn|struct|enum|type|trait|impl|const)\b")
+    begins = re.compile(rf"{margin}(?:pub(?:\([^)]*\))? |const )*(?:fn|struct|enum|type|trait|impl|const)\b")
     for at in (at for at, line in enumerate(lines) if begins.match(line)):
         above = [*takewhile(re.compile(rf"{margin}(?://|#\[)").match, reversed(lines[:at]))]
         is_open = False
@@ -55,7 +54,7 @@ def function_in(block):
     """A function, with its signature on one line, and its clauses."""
     name, text = re.match(r".*?\bfn (\w+)(.*?)(?:\n *\{\n|(?<! record) \{\n|;$|$)", block.code, re.S).groups()
     head, *rest = re.split(r"\n *(?=requires\b|ensures\b|//)", text)
-    head = re.sub(r"\s+", " ", head).replace("( ", "(").replace(", )", ")").rstrip(",")
+    head = re.sub(r"\s+", " ", head).replace("( ", "(").replace(", )", ")")
     rest = [" ".join(it.split()) for it in rest if not it.startswith("//")]
     clauses = [re.match(r"(requires|ensures\*?)(?: (\w+))? \{ (.*) \}$", it).groups("") for it in rest]
     return Function(name, "fn " + name + re.sub(r"\bmut (?=\w+:)", "", head), doc_of(block.above), clauses)
@@ -82,7 +81,7 @@ def items_of(path):
         kind, body = found[1] or found[2], found[3]
         head = " ".join(re.match(r"[^{]*" if kind in ("impl", "trait") else r"[^{;]*", body)[0].split())
         trait, whom, name, bounds = whose(head) if kind == "impl" else ("", "", re.match(r"\w*", head)[0], [])
-        public = rf" *{'' if trait or kind == 'trait' else 'pub '}(?:const |unsafe )*fn "
+        public = rf" *{'' if trait or kind == 'trait' else 'pub '}(?:const )?fn "
         functions = [function_in(one) for one in ([it] if kind == "fn" else blocks(body, "    ")) if re.match(public, one.code)]
         derives = re.findall(r"\w+", "".join(re.findall(r"#\[derive(\(.*\))\]", it.above)))
         member = r"((?:^    ///[^\n]*\n)*)^    ghost (?!use\b)(\w+)( =|:) \{ (.*?) \};$"
@@ -123,7 +122,7 @@ class Sources:
             return f"{self.owner(item)}::{function.name}"
         crate, module = re.search(r"(\w+)/src/(?:.*/)?(\w+)\.rt$", item.path).groups()
         is_bare = item.kind != "fn" or crate in LIBRARY or module in ("lib", "main")
-        return ("" if is_bare else f"{module}::") + item.name + " of a set" * item.path.endswith("set/walk.rt")
+        return ("" if is_bare else f"{module}::") + item.name
 
     def clauses(self, required=False):
         """Each public clause that is ensured, or each that is required. A ghost member of an impl is a clause of it, and a
@@ -140,36 +139,19 @@ class Sources:
             yield from (Clause(call, f"{call}: {name}".removesuffix(": "), text, it) for call, name, text in states)
 
 
-@functools.cache
-def names_in(module):
-    """What a module has by each name: the file of a module, or else an item by its file and its name. The public names."""
-    text, found = read(module), {}
-    folder = os.path.dirname(module) if module.endswith("/lib.rt") else module.removesuffix(".rt")
-    found |= {it: f"{folder}/{it}.rt" for it in re.findall(r"^(?:pub(?:\(crate\))? )?mod (\w+);", text, re.M)}
-    public = re.findall(r"^pub mod (\w+);", text, re.M)
-    for path, names, name in re.findall(r"^pub use ([\w:]+)::(?:\{([^}]*)\}|(\w+));", text, re.M):
-        first, *rest = path.replace("crate::", f"{module.split('/')[1]}::").split("::")
-        above = found[first] if first in found else f"crates/{first}/src/lib.rt"
-        for it in rest:
-            above = names_in(above)[0][it]
-        public += parts(names or name)
-        found |= {it: names_in(above)[0][it] for it in parts(names or name)}
-    own = re.findall(rf"^pub (?:{'|'.join(TYPES)}|fn) (\w+)", text, re.M)
-    return found | {it: (module, it) for it in own}, public + own
+def exported(path):
+    """The words of the public lines `use` and `mod` of a source."""
+    return {*re.findall(r"\w+", " ".join(re.findall(r"^pub (?:use|mod) ([^;]*);", read(path), re.M)))}
 
 
-def paths_of(crate):
-    """The paths by which a crate's public items are imported, by the file and the name of each, the shortest first."""
-    found, left = collections.defaultdict(list), [(f"crates/{crate}/src/lib.rt", crate)]
-    while left:
-        module, path = left.pop()
-        names, public = names_in(module)
-        for name in public:
-            if isinstance(names[name], str):
-                left.append((names[name], f"{path}::{name}"))
-            else:
-                found[names[name]].append(f"{path}::{name}")
-    return {it: sorted(paths, key=lambda it: (it.count("::"), it)) for it, paths in found.items()}
+def import_of(item):
+    """The path by which a user imports an item, or nothing where there is none: from the root or from one of its modules."""
+    top = exported("crates/micromap/src/lib.rt")
+    if item.name in top:
+        return f"micromap::{item.name}"
+    module, name = re.match(r"crates/\w+/src/(\w+)", item.path).group(0, 1)
+    is_there = item.path == f"{module}.rt" or item.name in exported(f"{module}.rt")
+    return f"micromap::{name}::{item.name}" if name in top and is_there else ""
 
 
 def spec_of(module):

@@ -7,8 +7,7 @@ from collections import defaultdict
 from pages.chart import Levels, chart, coarse, shown
 from pages.sources import read
 
-# A line `time` has the kind of elements, the workload, the capacity, the Rust crate's nanoseconds, and then the times over these
-# of RIVALS, as far as they were timed. A line `size` has bytes of this library and of the Rust crate.
+# The record has where it is from, and then lines as tools/speed/main.rs prints them. The ratios are those of RIVALS.
 RECORD, CHART = "docs/speed.tsv", "docs/speed-six.svg"
 README, SPEED = "README.md", "docs/SPEED.md"
 # What is compared with the Rust crate, in the order of the driver's ratios.
@@ -16,8 +15,8 @@ RIVALS = ["this library", "the same layout in `unsafe` Rust", "`IndexMap`", "`Ha
 # The workloads on numbers that have panels in the chart.
 PANELS = ["get, hit", "get, miss", "overwrite", "remove and put back", "walk", "clone"]
 # What to take in place of this library: the rivals, which have lines in the chart and columns in the README and in SPEED.md, and
-# SPEED.md's capacities, for them and for this library, and its workloads on numbers.
-CHOICES, CHOICE_CAPACITIES, OWN_CAPACITIES = [2, 3], [2, 4, 8, 16, 32], [2, 8, 32]
+# SPEED.md's capacities and its workloads on numbers.
+CHOICES, CHOICE_CAPACITIES = [2, 3], [2, 8, 32]
 CHOICE_WORDS = {
     "get, hit": "a stored key is found",
     "overwrite": "a value is overwritten",
@@ -30,7 +29,6 @@ CHOICE_WORDS = {
 }
 # The README's table has the times of one of these, at some capacities, in a row that begins with these words.
 FOUND, FOUND_CAPACITIES, FOUND_WORDS = "get, hit", [2, 4, 8, 16, 32], "Finds one of"
-NEW_MAPS = ["copied", "put one, hand on"]  # without which SPEED.md says the means too
 PART = r"(^<!-- made by tools/compare: ([^\n]*) -->\n).*?(^<!-- end -->$)"
 
 
@@ -98,35 +96,25 @@ def heading(first, others):
     return [row(names), row(["---"] + ["--:"] * (len(names) - 1))]
 
 
-def time_table(times):
-    """The ratios, the Rust crate's nanoseconds in brackets, and the geometric means over the capacities."""
-    lines = heading("Time relative to the Rust crate's (its ns)", [*next(iter(times.values())), "mean"])
-    for (subject, workload), cells in times.items():
-        own = (f"{shown(ratios[0])} ({nanoseconds:.1f})" for nanoseconds, ratios in cells.values())
-        lines.append(row([f"{subject}: {workload}", *own, shown(mean(ratios_of(cells, 0)))]))
-        for rival, name in enumerate(RIVALS[1:], 1):
-            if ratios := ratios_of(cells, rival):
-                lines.append(row([f"· {name}", *map(shown, [*ratios, mean(ratios)])]))
-    return lines
-
-
 def size_table(sizes):
-    lines = heading("Bytes (the Rust crate's)", next(iter(sizes.values())))
+    """A table of sizes, in which types of equal sizes share a row."""
+    names = defaultdict(list)
     for type_name, cells in sizes.items():
-        lines.append(row([f"`{type_name}`", *(f"{own} ({other})" for own, other in cells.values())]))
-    return lines
+        names[tuple(cells.values())].append(f"`{type_name}`")
+    rows = (row([", ".join(those), *(f"{own} ({other})" for own, other in cells)]) for cells, those in names.items())
+    return [*heading("Bytes (the Rust crate's)", next(iter(sizes.values()))), *rows]
 
 
 def choice_table(times):
     """A table of this library's times, and of those of what a user might take in its place over these."""
-    columns = [(rival, at) for rival in CHOICES for at in CHOICE_CAPACITIES]
-    heads = [("`Map`", OWN_CAPACITIES), *((RIVALS[it], CHOICE_CAPACITIES) for it in CHOICES)]
-    lines = heading("", (it for name, (first, *others) in heads for it in (f"{name} at {first}", *others)))
+    first, *others = CHOICE_CAPACITIES
+    names = ["`Map`, ns,", *(RIVALS[it] for it in CHOICES)]
+    lines = heading("", (it for name in names for it in (f"{name} at {first}", *others)))
     for workload, words in CHOICE_WORDS.items():
         cells = times["numbers", workload]
-        own = (cells[at][0] * cells[at][1][0][0] for at in OWN_CAPACITIES)
-        ratios = {rival: dict(zip(cells, over(cells, rival, 0))) for rival in CHOICES}
-        lines.append(row([words, *(f"{brief(it)} ns" for it in own), *(coarse(ratios[rival][at]) for rival, at in columns)]))
+        own = (brief(cells[at][0] * cells[at][1][0][0]) for at in CHOICE_CAPACITIES)
+        others = (dict(zip(cells, over(cells, rival, 0))) for rival in CHOICES)
+        lines.append(row([words, *own, *(coarse(it[at]) for it in others for at in CHOICE_CAPACITIES)]))
     return lines
 
 
@@ -136,25 +124,9 @@ def found_table(times, part):
     cells = times["numbers", FOUND]
     for at in FOUND_CAPACITIES:
         nanoseconds, ratios = cells[at]
-        yield row([f"{FOUND_WORDS} {at} numbers in", *(f"{brief(nanoseconds * ratios[rival][0])}{ratios[rival][1]} ns" for rival in [0, *CHOICES])])
+        found = (ratios[rival] for rival in [0, *CHOICES])
+        yield row([f"{FOUND_WORDS} {at} numbers in", *(f"{brief(nanoseconds * ratio)}{mark} ns" for ratio, mark in found)])
     yield "\nA `~` marks a figure that [isn't steady](docs/SPEED.md#how-it-was-measured)."
-
-
-def speed_list(times):
-    """In which workloads on numbers this library is as fast as the Rust crate, faster and slower, each with its least and its
-    greatest ratio."""
-    ratios = {name: ratios_of(cells, 0) for (subject, name), cells in times.items() if subject == "numbers"}
-    means = {name: round(mean(those)[0], 2) for name, those in ratios.items()}
-    ranges = {name: f"{min(those)[0]:.2f} to {max(those)[0]:.2f}" for name, those in ratios.items()}
-    groups = {
-        "As fast, to a twentieth": (0.95, 1.05),
-        "Faster": (0, 0.94),
-        "Slower": (1.06, 2),
-        "More than twice the time": (2.01, math.inf),
-    }
-    for words, (low, high) in groups.items():
-        names = [f"`{name}` ({ranges[name]})" for name, it in means.items() if low <= it <= high]
-        yield f"- {words}: {', '.join(names) or 'none'}."
 
 
 def own_of(cells):
@@ -165,26 +137,54 @@ def over_layout(cells):
     return over(cells, 0, 1)
 
 
+def mean_of_all(times, of):
+    """The mean of some ratios over all workloads."""
+    return f"{mean([one for cells in times.values() for one in of(cells)])[0]:.2f}"
+
+
+def summary(source, times):
+    """Where the figures are from, and what they come to."""
+    yield f"The figures are {source[0].lower()}{source[1:]}\n"
+    took, wins = f"this library takes {mean_of_all(times, own_of)} times its time", []
+    yield f"- **Beside the Rust crate**: in the mean of {len(times)} workloads {took}."
+    for at in times["numbers", FOUND]:
+        ratios = (times["numbers", it][at][1] for it in CHOICE_WORDS)
+        wins.append(f"{sum(it[0] < min(it[rival] for rival in CHOICES) for it in ratios)} with {at}")
+    uses = f"of the {len(CHOICE_WORDS)} uses in the next table"
+    yield f"- **Beside two hash maps**: {uses}, `Map` is the fastest in {', '.join(wins[:-1])} and {wins[-1]} keys."
+
+
+def speed_list(times):
+    """In which workloads this library is as fast as the Rust crate, faster and slower, each with its mean ratio, the least
+    and the greatest."""
+    ratios = {": ".join(it).removeprefix("numbers: "): own_of(cells) for it, cells in times.items()}
+    means = {name: round(mean(those)[0], 2) for name, those in ratios.items()}
+    cells = {name: f"`{name}` {shown(mean(those))} ({shown(min(those))}–{shown(max(those))})" for name, those in ratios.items()}
+    groups = {
+        "As fast, to a twentieth": (0.95, 1.05),
+        "Faster": (0, 0.94),
+        "Slower": (1.06, 2),
+        "More than twice the time": (2.01, math.inf),
+    }
+    for words, (low, high) in groups.items():
+        names = sorted((it for it in means if low <= means[it] <= high), key=means.get)
+        yield f"- {words}: {', '.join(map(cells.get, names)) or 'none'}."
+
+
 def worst(cells, ratios):
     """The mean of some ratios and the greatest, with its capacity."""
-    most, at = max((it, at) for (it, _), at in zip(ratios, cells))
-    return f"{mean(ratios)[0]:.2f}; {coarse((most, ''))} at {at}"
+    most, at = max(zip(ratios, cells))
+    return f"{shown(mean(ratios))}; {coarse(most)} at {at}"
 
 
-def causes_table(times, part):
-    """The table of what takes over a fifth longer than the layout, with the causes that it has, and what holds of the rest."""
-    known = dict(re.findall(r"^\| (\w[^|]*: [^|]*?) \|.*\| ([^|]+) \|$", part, re.M))
-    cells = {f"{subject}: {workload}": it for (subject, workload), it in times.items()}
-    causes = {name: known.get(name, "not looked into") for name, it in cells.items() if mean(over_layout(it))[0] > 1.2}
-    yield from ["| | Over the Rust crate | Over the layout | Cause |", "|---|---|---|---|"]
-    for name, cause in sorted(causes.items(), key=lambda it: -mean(over_layout(cells[it[0]]))[0]):
-        yield row([name, *(worst(cells[name], of(cells[name])) for of in (own_of, over_layout)), cause])
-    rest = [mean(over_layout(it))[0] for name, it in cells.items() if name not in causes]
-    yield f"\nAll others take {min(rest):.2f} to {max(rest):.2f} times the layout's time."
-    for words, without in ("over all workloads", []), (f"without `{'` and `'.join(NEW_MAPS)}`", NEW_MAPS):
-        kept = [it for (_, workload), it in times.items() if workload not in without]
-        own, layout = (mean([one for it in kept for one in of(it)])[0] for of in (own_of, over_layout))
-        yield f"The mean {words} is {own:.2f} over the Rust crate, and {layout:.2f} over the layout."
+def layout_table(times):
+    """The table of what takes over a fifth longer than the layout, and what holds of the rest and of all."""
+    means = {key: mean(over_layout(it))[0] for key, it in times.items()}
+    yield from ["| | Over the Rust crate | Over the layout |", "|---|---|---|"]
+    for key in sorted((it for it in means if means[it] > 1.2), key=means.get, reverse=True):
+        yield row([": ".join(key), *(worst(times[key], of(times[key])) for of in (own_of, over_layout))])
+    rest, of_all = [it for it in means.values() if it <= 1.2], mean_of_all(times, over_layout)
+    yield f"\nAll others take {min(rest):.2f} to {max(rest):.2f} times the layout's time. The mean of all is {of_all}."
 
 
 def drawn(source, times):
@@ -199,9 +199,10 @@ def made(text):
     source, times, sizes = parsed(text)
     makers = {
         "what it takes to find a key": lambda part: found_table(times, part),
+        "in short": lambda _: summary(source, times),
         "times relative to Map's": lambda _: choice_table(times),
         "times relative to the Rust crate's": lambda _: speed_list(times),
-        "what takes longer than the layout": lambda part: causes_table(times, part),
+        "what takes longer than the layout": lambda _: layout_table(times),
         "sizes in bytes": lambda _: size_table(sizes),
     }
 

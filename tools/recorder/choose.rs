@@ -1,30 +1,35 @@
 //! Chooses calls, at random but always the same, so that maps and sets are neither empty nor full for long. So each kind of
 //! call meets empty, full and partly filled ones, and equal keys with different marks.
 
+use crate::perform::{Case, Keys, Numbers};
 use crate::words::{Key, Stored};
 use std::collections::HashMap;
-use std::ops::{Range, RangeInclusive};
+use std::ops::Range;
 
-/// The headers of the cases, with the number of calls of each. After the last the first comes again.
-pub const CASES: &[(&str, usize)] = &[
-    ("map 3", 30),
-    ("map 0", 6),
-    ("map 1", 14),
-    ("map 2", 20),
-    ("map 5", 34),
-    ("map 8", 36),
-    ("maps 3 5", 16),
-    ("maps 0 3", 4),
-    ("maps 5 3", 16),
-    ("maps 5 5", 16),
-    ("sets 3 5", 34),
-    ("sets 0 3", 10),
-    ("sets 5 3", 34),
-    ("sets 5 5", 34),
+/// The headers of the cases, each with the number of its calls and what it creates. After the last the first comes again.
+pub const CASES: &[(&str, usize, fn() -> Box<dyn Case>)] = &[
+    ("map 3", 30, new::<Numbers<3>>),
+    ("map 0", 6, new::<Numbers<0>>),
+    ("map 1", 14, new::<Numbers<1>>),
+    ("map 2", 20, new::<Numbers<2>>),
+    ("map 5", 34, new::<Numbers<5>>),
+    ("map 8", 36, new::<Numbers<8>>),
+    ("maps 3 5", 16, new::<(Numbers<3>, Numbers<5>)>),
+    ("maps 0 3", 4, new::<(Numbers<0>, Numbers<3>)>),
+    ("maps 5 3", 16, new::<(Numbers<5>, Numbers<3>)>),
+    ("maps 5 5", 16, new::<(Numbers<5>, Numbers<5>)>),
+    ("sets 3 5", 34, new::<(Keys<3>, Keys<5>)>),
+    ("sets 0 3", 10, new::<(Keys<0>, Keys<3>)>),
+    ("sets 5 3", 34, new::<(Keys<5>, Keys<3>)>),
+    ("sets 5 5", 34, new::<(Keys<5>, Keys<5>)>),
 ];
 
+fn new<T: Case + Default + 'static>() -> Box<dyn Case> {
+    Box::<T>::default()
+}
+
 // Calls with the number of times that each comes before all come again. A word in capitals is chosen as
-// `Chooser::word` says. `ALIKE` is a call that makes two maps or sets more alike.
+// `Chooser::word` says, and `ALIKE` is a call that makes two maps or sets more alike.
 type Calls = &'static [(usize, &'static str)];
 
 const ON_MAP: Calls = &[
@@ -91,10 +96,18 @@ const ON_SETS: Calls = &[
     (2, "bitand"),
     (2, "sub"),
 ];
-const CALLS: [(&str, Calls); 3] = [("map", ON_MAP), ("maps", ON_MAPS), ("sets", ON_SETS)];
 const NAMES: [&str; 2] = ["a", "b"];
 
+fn calls_of(kind: &str) -> Calls {
+    match kind {
+        "map" => ON_MAP,
+        "maps" => ON_MAPS,
+        _ => ON_SETS,
+    }
+}
+
 /// A sequence of numbers that look random, by the generator SplitMix64.
+#[derive(Default)]
 struct Random(u64);
 
 impl Random {
@@ -106,9 +119,8 @@ impl Random {
         ((mixed ^ (mixed >> 31)) % bound as u64) as usize
     }
 
-    fn within(&mut self, range: RangeInclusive<i32>) -> i32 {
-        let (low, high) = range.into_inner();
-        low + self.below((high - low + 1) as usize) as i32
+    fn within(&mut self, range: Range<i32>) -> i32 {
+        range.start + self.below(range.len()) as i32
     }
 
     fn one_of<T: Copy>(&mut self, all: &[T]) -> T {
@@ -120,52 +132,25 @@ impl Random {
     }
 }
 
-/// Calls in a random order. When no allowed one is left, all of them are laid below the rest.
-struct Pile {
-    all: Calls,
-    rest: Vec<&'static str>,
-}
-
-impl Pile {
-    fn of(all: Calls) -> Self {
-        Pile { all, rest: Vec::new() }
-    }
-
-    /// Takes the first call that is allowed.
-    fn draw(&mut self, random: &mut Random, is_allowed: impl Fn(&str) -> bool) -> &'static str {
-        loop {
-            if let Some(place) = self.rest.iter().position(|call| is_allowed(call)) {
-                return self.rest.remove(place);
-            }
-            let mut more: Vec<_> = self.all.iter().flat_map(|&(times, call)| vec![call; times]).collect();
-            while !more.is_empty() {
-                let place = random.below(more.len());
-                self.rest.push(more.swap_remove(place));
-            }
-        }
-    }
+fn has(content: &[Stored], key: Key) -> bool {
+    content.iter().any(|it| it.key == key)
 }
 
 /// Chooses the calls of one case after the other.
+#[derive(Default)]
 pub struct Chooser {
     random: Random,
-    piles: HashMap<&'static str, Pile>,
     kind: &'static str,
     room: Vec<usize>,
     ids: Range<usize>,
-    values: RangeInclusive<i32>,
+    values: Range<i32>,
+    /// The calls of each kind that come before all of them come again.
+    left: HashMap<&'static str, Vec<&'static str>>,
 }
 
 impl Chooser {
     pub fn new(seed: u64) -> Self {
-        Chooser {
-            random: Random(seed),
-            piles: CALLS.map(|(kind, all)| (kind, Pile::of(all))).into(),
-            kind: CALLS[0].0,
-            room: Vec::new(),
-            ids: 0..0,
-            values: 0..=0,
-        }
+        Chooser { random: Random(seed), ..Default::default() }
     }
 
     /// Begins the case of a header. Its ids are few, so that keys come again, and at times end at the greatest.
@@ -173,13 +158,11 @@ impl Chooser {
         let (kind, room) = header.split_once(' ').expect("a kind and capacities");
         self.kind = kind;
         self.room = room.split(' ').map(|it| it.parse().expect("a capacity")).collect();
-        let width = match *self.room {
-            [only] => (only + 2).max(3),
-            _ => self.room.iter().max().expect("two capacities") + 1,
-        };
+        let most = *self.room.iter().max().expect("a capacity");
+        let width = if kind == "map" { (most + 2).max(3) } else { most + 1 };
         let start = self.random.one_of(&[0, 0, 0, 95, 246]);
         self.ids = start..start + width;
-        self.values = if kind == "maps" { 0..=1 } else { -9..=40 };
+        self.values = if kind == "maps" { 0..2 } else { -9..41 };
     }
 
     /// Returns the next call on maps or sets that hold this.
@@ -193,20 +176,29 @@ impl Chooser {
         let first = &contents[0];
         let is_short = first.len() == 1 || first.is_empty() && self.random.below(4) == 0;
         let is_small = first.iter().all(|it| it.value.unwrap_or(0).abs() <= 99);
-        let is_allowed = |call: &str| (is_short || call != "display") && (is_small || call != "double_all");
-        let pile = self.piles.get_mut(self.kind).expect("a pile of each kind");
-        match pile.draw(&mut self.random, is_allowed) {
+        match self.draw(|call| (is_short || call != "display") && (is_small || call != "double_all")) {
             "ALIKE" => self.alike(contents),
             call => self.words(call),
         }
     }
 
+    /// Takes the first call that is allowed. When none is left, all are laid below the rest in a random order.
+    fn draw(&mut self, is_allowed: impl Fn(&str) -> bool) -> &'static str {
+        let left = self.left.entry(self.kind).or_default();
+        loop {
+            if let Some(place) = left.iter().position(|call| is_allowed(call)) {
+                return left.remove(place);
+            }
+            let mut more: Vec<_> = calls_of(self.kind).iter().flat_map(|&(times, call)| vec![call; times]).collect();
+            while !more.is_empty() {
+                left.push(more.swap_remove(self.random.below(more.len())));
+            }
+        }
+    }
+
     fn key(&mut self) -> Key {
         let id = self.ids.start + self.random.below(self.ids.len());
-        Key {
-            id: id as u8,
-            mark: self.random.mark(),
-        }
+        Key { id: id as u8, mark: self.random.mark() }
     }
 
     fn value(&mut self) -> i32 {
@@ -222,20 +214,18 @@ impl Chooser {
         match word {
             "KEY" => self.key().to_string(),
             "VALUE" => self.value().to_string(),
-            "AMOUNT" => self.random.within(-9..=9).to_string(),
-            "MODULUS" => self.random.within(2..=3).to_string(),
-            "REST" => self.random.within(0..=1).to_string(),
+            "AMOUNT" => self.random.within(-9..10).to_string(),
+            "MODULUS" => self.random.within(2..4).to_string(),
+            "REST" => self.random.within(0..2).to_string(),
             "EITHER" => self.random.one_of(&NAMES).into(),
+            "PAIR" => Stored::from((self.key(), self.value())).to_string(),
             "KEYS" => {
-                let keys: Vec<String> = (0..self.random.below(4)).map(|_| self.key().to_string()).collect();
-                keys.join(" ")
+                let count = self.random.below(4);
+                self.words(&vec!["KEY"; count].join(" "))
             }
             "PAIRS" => {
                 let count = self.random.below(self.room[0] + 3);
-                let pairs: Vec<String> = (0..count)
-                    .map(|_| Stored::from((self.key(), self.value())).to_string())
-                    .collect();
-                pairs.join(" ")
+                self.words(&vec!["PAIR"; count].join(" "))
             }
             _ => word.into(),
         }
@@ -244,21 +234,17 @@ impl Chooser {
     /// Inserts a new key, since most other calls leave room.
     fn filling(&mut self, one: usize, content: &[Stored]) -> String {
         let mut key = self.key();
-        while content.iter().any(|it| it.key == key) {
+        while has(content, key) {
             key = self.key();
         }
+        let name = NAMES[one];
         match self.kind {
             "map" => {
-                let call = self
-                    .random
-                    .one_of(&["insert", "checked_insert", "or_insert", "vacant_insert"]);
+                let call = self.random.one_of(&["insert", "checked_insert", "or_insert", "vacant_insert"]);
                 format!("{call} {key} {}", self.value())
             }
-            "maps" => format!("{} insert {key} {}", NAMES[one], self.value()),
-            _ => {
-                let call = self.random.one_of(&["insert", "checked_insert", "replace"]);
-                format!("{} {call} {key}", NAMES[one])
-            }
+            "maps" => format!("{name} insert {key} {}", self.value()),
+            _ => format!("{name} {} {key}", self.random.one_of(&["insert", "checked_insert", "replace"])),
         }
     }
 
@@ -267,13 +253,11 @@ impl Chooser {
     fn alike(&mut self, contents: &[Vec<Stored>]) -> String {
         let one = self.random.below(2);
         let (name, ours, theirs) = (NAMES[one], &contents[one], &contents[1 - one]);
-        let has_key = |content: &[Stored], stored: &Stored| content.iter().any(|it| it.key == stored.key);
-        let is_ours = |stored: &&Stored| ours.iter().any(|it| it.key == stored.key && it.value == stored.value);
-        let lacking = theirs.iter().find(|it| !is_ours(it));
-        let extra = ours.iter().find(|it| !has_key(theirs, it));
+        let lacking = theirs.iter().find(|it| !ours.contains(it));
+        let extra = ours.iter().find(|it| !has(theirs, it.key));
         let mark = self.random.mark();
         match (lacking, extra) {
-            (Some(Stored { key, value }), _) if ours.len() < self.room[one] || ours.iter().any(|it| it.key == *key) => {
+            (Some(&Stored { key, value }), _) if ours.len() < self.room[one] || has(ours, key) => {
                 let value = value.map_or(String::new(), |it| format!(" {it}"));
                 format!("{name} insert {}{mark}{value}", key.id)
             }

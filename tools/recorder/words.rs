@@ -1,5 +1,6 @@
 //! The words of the language: keys, values and lists.
 
+use std::borrow::Borrow;
 use std::fmt;
 
 /// A key. Two keys are equal if their ids are, so that the mark shows which of them is stored.
@@ -24,7 +25,7 @@ impl fmt::Display for Key {
 }
 
 /// A pair of a map, or an item of a set, which has no value.
-#[derive(Clone, Copy)]
+#[derive(Clone, Copy, PartialEq)]
 pub struct Stored {
     pub key: Key,
     pub value: Option<i32>,
@@ -45,18 +46,9 @@ impl From<Key> for Stored {
     }
 }
 
-impl From<(Key, i32)> for Stored {
-    fn from((key, value): (Key, i32)) -> Self {
-        Stored {
-            key,
-            value: Some(value),
-        }
-    }
-}
-
-impl From<(&Key, &i32)> for Stored {
-    fn from((key, value): (&Key, &i32)) -> Self {
-        Stored::from((*key, *value))
+impl<K: Borrow<Key>, V: Borrow<i32>> From<(K, V)> for Stored {
+    fn from((key, value): (K, V)) -> Self {
+        Stored { key: *key.borrow(), value: Some(*value.borrow()) }
     }
 }
 
@@ -98,12 +90,4 @@ pub fn by_id<T: Into<Stored>>(items: impl IntoIterator<Item = T>) -> Vec<Stored>
     let mut stored: Vec<Stored> = items.into_iter().map(T::into).collect();
     stored.sort_by_key(|it| it.key.id);
     stored
-}
-
-/// The number of keys that are pairwise unequal.
-pub fn count_distinct(keys: impl IntoIterator<Item = Key>) -> usize {
-    let mut ids: Vec<u8> = keys.into_iter().map(|key| key.id).collect();
-    ids.sort_unstable();
-    ids.dedup();
-    ids.len()
 }

@@ -8,6 +8,7 @@ use crate::calls::{numbers_at, wide_at};
 use crate::inputs::key_of;
 use crate::numbers::Numbers;
 use crate::platform::Global;
+use crate::rust_crate::map_in_rust;
 use crate::texts::Texts;
 use crate::wide::Wide;
 use std::borrow::Borrow;
@@ -223,7 +224,7 @@ impl<K: Copy, V: Copy, const N: usize> Columns<K, V, N> {
     }
 }
 
-numbers_at! { Columns<u64, u64, N>,
+map_in_rust! { Columns,
     #[inline]
     fn note(&mut self, key: u64) {
         match self.index_of(&key) {
@@ -240,27 +241,12 @@ numbers_at! { Columns<u64, u64, N>,
 
     #[inline]
     fn total(&self) -> u64 {
-        let mut sum = 0u64;
-        for value in self.values.items() {
-            sum = sum.wrapping_add(*value);
-        }
-        sum
-    }
-
-    #[inline]
-    fn clone_and_find(&self, key: u64) -> u64 {
-        self.clone().found(key)
+        self.values.items().fold(0, |sum, value| sum.wrapping_add(*value))
     }
 
     #[inline]
     fn copy_and_find(&self, key: u64) -> u64 {
         self.copied().found(key)
-    }
-
-    #[inline]
-    fn collect_and_find(&self, _memory: Global, _room: u64, first: u64, key: u64) -> u64 {
-        let map: Self = (0..N as u64).map(|index| (key_of(index, first), index)).collect();
-        map.found(key)
     }
 }
 
@@ -279,26 +265,10 @@ impl<const N: usize> Both for Columns<u64, u64, N> {
     }
 }
 
-impl<const N: usize> Texts for Columns<String, u64, N> {
-    #[inline]
-    fn empty() -> Self {
-        Columns::new()
-    }
-
-    #[inline]
-    fn put(&mut self, _memory: Global, key: &str, value: u64) {
-        self.checked_insert(String::from(key), value);
-    }
-
-    #[inline]
-    fn find(&self, key: &str) -> Option<u64> {
-        self.get(key).copied()
-    }
-
-    #[inline]
-    fn count(&self) -> u64 {
-        self.len() as u64
-    }
+/// The sum of some bytes, each with the bits of `mask` flipped.
+#[inline]
+fn sum_of<'a>(items: impl Iterator<Item = &'a u8>, mask: u64) -> u64 {
+    items.fold(0, |sum, item| sum.wrapping_add(*item as u64 ^ mask))
 }
 
 impl<const N: usize> Bytes for Columns<u8, (), N> {
@@ -309,9 +279,7 @@ impl<const N: usize> Bytes for Columns<u8, (), N> {
 
     #[inline]
     fn put(&mut self, item: u8) {
-        if self.index_of(&item).is_none() {
-            self.push(item, ());
-        }
+        self.checked_insert(item, ());
     }
 
     #[inline]
@@ -321,11 +289,7 @@ impl<const N: usize> Bytes for Columns<u8, (), N> {
 
     #[inline]
     fn total(&self, mask: u64) -> u64 {
-        let mut sum = 0u64;
-        for item in self.keys.items() {
-            sum = sum.wrapping_add(*item as u64 ^ mask);
-        }
-        sum
+        sum_of(self.keys.items(), mask)
     }
 
     #[inline]
@@ -349,15 +313,8 @@ impl<const N: usize> Bytes for Columns<u8, (), N> {
 
     #[inline]
     fn total_apart_and_common(&self, other: &Self, mask: u64) -> u64 {
-        let mut sum = 0u64;
-        for item in self.keys.items().filter(|item| !other.has(**item)) {
-            sum = sum.wrapping_add(*item as u64 ^ mask);
-        }
-        for item in self.keys.items().filter(|item| other.has(**item)) {
-            sum = sum.wrapping_add(*item as u64 ^ mask);
-        }
-        sum
+        let apart = self.keys.items().filter(|item| !other.has(**item));
+        let common = self.keys.items().filter(|item| other.has(**item));
+        sum_of(apart, mask).wrapping_add(sum_of(common, mask))
     }
 }
-
-wide_at! { Columns<u64, [u64; 3], N> }

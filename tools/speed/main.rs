@@ -9,23 +9,18 @@
 //! `~` follows a ratio if the medians over the first half of the turns and over the second differ by more than a tenth. The
 //! bytes are this library's and the Rust crate's.
 
-// The files of workloads are those of the static library, so that both sides run the same text.
-#[path = "workloads/both.rs"]
-mod both;
-#[path = "workloads/bytes.rs"]
-mod bytes;
-#[path = "workloads/calls.rs"]
-mod calls;
-#[path = "workloads/inputs.rs"]
-mod inputs;
 mod layout;
-#[path = "workloads/numbers.rs"]
-mod numbers;
 mod rust_crate;
-#[path = "workloads/texts.rs"]
-mod texts;
-#[path = "workloads/wide.rs"]
-mod wide;
+// The files of the static library, so that both sides run the same text.
+mod workloads {
+    pub mod both;
+    pub mod bytes;
+    pub mod calls;
+    pub mod inputs;
+    pub mod numbers;
+    pub mod texts;
+    pub mod wide;
+}
 
 /// What the workloads take from the language, in the place of the module of that name in `workloads`.
 mod platform {
@@ -45,23 +40,27 @@ use platform::Global;
 use std::hint::black_box;
 use std::mem::size_of;
 use std::time::Instant;
+use workloads::*;
 
 extern "C" {
     fn micromap_speed(subject: u64, workload: u64, capacity: u64, salt: u64, rounds: u64) -> u64;
     fn micromap_speed_size(subject: u64, capacity: u64) -> u64;
 }
 
-const CAPACITIES: [u64; 6] = [2, 4, 8, 16, 32, 64];
+/// What an expression is at each capacity `N`.
+macro_rules! at_each_capacity {
+    ($what:expr) => {
+        at_each_capacity!($what, 2, 4, 8, 16, 32, 64)
+    };
+    ($what:expr, $($capacity:literal),*) => {
+        [$({
+            const N: usize = $capacity;
+            $what
+        }),*]
+    };
+}
 
-type NumberMap<const N: usize> = Map<u64, u64, N>;
-type ByteSet<const N: usize> = Set<u8, N>;
-type TextMap<const N: usize> = Map<String, u64, N>;
-type WideMap<const N: usize> = Map<u64, [u64; 3], N>;
-
-type NumberColumns<const N: usize> = Columns<u64, u64, N>;
-type ByteColumns<const N: usize> = Columns<u8, (), N>;
-type TextColumns<const N: usize> = Columns<String, u64, N>;
-type WideColumns<const N: usize> = Columns<u64, [u64; 3], N>;
+const CAPACITIES: [u64; 6] = at_each_capacity!(N as u64);
 
 /// Runs a workload, by its number, with a salt for some rounds.
 type Run = fn(Global, u64, u64, u64) -> u64;
@@ -79,47 +78,27 @@ struct Subject {
     sizes: [usize; 6],
 }
 
-macro_rules! runs {
-    ($workloads:ident, $map:ident) => {
-        [
-            $workloads::run::<$map<2>, 2>,
-            $workloads::run::<$map<4>, 4>,
-            $workloads::run::<$map<8>, 8>,
-            $workloads::run::<$map<16>, 16>,
-            $workloads::run::<$map<32>, 32>,
-            $workloads::run::<$map<64>, 64>,
-        ]
-    };
-}
-
 macro_rules! subject {
-    ($name:literal, $type_name:literal, $workloads:ident, $map:ident, $columns:ident, $rivals:expr) => {
+    ($name:literal, $workloads:ident, $map:ty, $columns:ty, $rivals:expr) => {
         Subject {
             name: $name,
-            type_name: $type_name,
+            type_name: stringify!($map),
             workloads: &$workloads::NAMES,
             rivals: &$rivals,
-            runs: runs!($workloads, $map),
-            layout_runs: runs!($workloads, $columns),
-            sizes: [
-                size_of::<$map<2>>(),
-                size_of::<$map<4>>(),
-                size_of::<$map<8>>(),
-                size_of::<$map<16>>(),
-                size_of::<$map<32>>(),
-                size_of::<$map<64>>(),
-            ],
+            runs: at_each_capacity!($workloads::run::<$map, N>),
+            layout_runs: at_each_capacity!($workloads::run::<$columns, N>),
+            sizes: at_each_capacity!(size_of::<$map>()),
         }
     };
 }
 
 fn subjects() -> [Subject; 5] {
     [
-        subject!("numbers", "Map<u64, u64, N>", numbers, NumberMap, NumberColumns, [0, 1, 2]),
-        subject!("two maps", "Map<u64, u64, N>", both, NumberMap, NumberColumns, [6]),
-        subject!("set of bytes", "Set<u8, N>", bytes, ByteSet, ByteColumns, [3]),
-        subject!("texts", "Map<String, u64, N>", texts, TextMap, TextColumns, [4]),
-        subject!("24-byte values", "Map<u64, [u64; 3], N>", wide, WideMap, WideColumns, [5]),
+        subject!("numbers", numbers, Map<u64, u64, N>, Columns<u64, u64, N>, [0, 1, 2]),
+        subject!("two maps", both, Map<u64, u64, N>, Columns<u64, u64, N>, [6]),
+        subject!("set of bytes", bytes, Set<u8, N>, Columns<u8, (), N>, [3]),
+        subject!("texts", texts, Map<String, u64, N>, Columns<String, u64, N>, [4]),
+        subject!("24-byte values", wide, Map<u64, [u64; 3], N>, Columns<u64, [u64; 3], N>, [5]),
     ]
 }
 
@@ -146,22 +125,13 @@ fn marked(ratios: &[f64]) -> String {
 /// A workload at one capacity, over a number of rounds.
 type Rounds = Box<dyn Fn(u64) -> u64>;
 
-/// A workload of the static library.
-fn linked(subject: u64, workload: u64, capacity: u64) -> Rounds {
-    // SAFETY: it is a function over numbers alone, which asks nothing of its caller.
-    Box::new(move |rounds| unsafe { micromap_speed(subject, workload, capacity, black_box(0), rounds) })
-}
-
 /// How many rounds take about half a millisecond.
 fn enough_rounds(run: &Rounds) -> u64 {
     let mut rounds = 16;
-    loop {
-        let (seconds, _) = timed(|| run(rounds));
-        if seconds > 0.0005 {
-            return rounds;
-        }
+    while timed(|| run(rounds)).0 <= 0.0005 {
         rounds *= 2;
     }
+    rounds
 }
 
 /// The seconds of some runs in each turn, and the number of their rounds. Each turn starts with another run. Fails where
@@ -186,8 +156,10 @@ fn in_turns(runs: &[Rounds], turns: usize, name: &str) -> (Vec<Vec<f64>>, f64) {
 fn measured(subject: &Subject, workload: usize, at: usize, turns: usize) -> (f64, Vec<String>) {
     let (number, capacity) = (workload as u64, CAPACITIES[at]);
     let in_rust = |run: Run| Box::new(move |rounds| run(Global, number, black_box(0), rounds)) as Rounds;
+    // SAFETY: it is a function over numbers alone, which asks nothing of its caller.
+    let linked = |rival| Box::new(move |rounds| unsafe { micromap_speed(rival, number, capacity, black_box(0), rounds) }) as Rounds;
     let mut runs = vec![in_rust(subject.runs[at])];
-    runs.extend(subject.rivals.iter().map(|rival| linked(*rival, number, capacity)));
+    runs.extend(subject.rivals.iter().map(|rival| linked(*rival)));
     runs.insert(2, in_rust(subject.layout_runs[at]));
     let name = format!("{}, {}, capacity {capacity}", subject.name, subject.workloads[workload]);
     let (seconds, rounds) = in_turns(&runs, turns, &name);
@@ -202,11 +174,7 @@ fn main() {
         for (workload, name) in subject.workloads.iter().enumerate() {
             for (at, capacity) in CAPACITIES.iter().enumerate() {
                 let (nanoseconds, ratios) = measured(&subject, workload, at, turns);
-                print!("time\t{}\t{name}\t{capacity}\t{nanoseconds:.2}", subject.name);
-                for ratio in ratios {
-                    print!("\t{ratio}");
-                }
-                println!();
+                println!("time\t{}\t{name}\t{capacity}\t{nanoseconds:.2}\t{}", subject.name, ratios.join("\t"));
             }
         }
     }

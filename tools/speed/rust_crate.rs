@@ -10,7 +10,53 @@ use crate::texts::Texts;
 use crate::wide::Wide;
 use micromap::{Map, Set};
 
-numbers_at! { Map<u64, u64, N>,
+/// The calls at a map of Rust, but for those that follow it.
+macro_rules! map_in_rust {
+    ($map:ident, $($own:tt)*) => {
+        numbers_at! { $map<u64, u64, N>,
+            #[inline]
+            fn clone_and_find(&self, key: u64) -> u64 {
+                self.clone().found(key)
+            }
+
+            #[inline]
+            fn collect_and_find(&self, _memory: Global, _room: u64, first: u64, key: u64) -> u64 {
+                let map: Self = (0..N as u64).map(|index| (key_of(index, first), index)).collect();
+                map.found(key)
+            }
+
+            $($own)*
+        }
+
+        impl<const N: usize> Texts for $map<String, u64, N> {
+            #[inline]
+            fn empty() -> Self {
+                Self::new()
+            }
+
+            #[inline]
+            fn put(&mut self, _memory: Global, key: &str, value: u64) {
+                self.checked_insert(String::from(key), value);
+            }
+
+            #[inline]
+            fn find(&self, key: &str) -> Option<u64> {
+                self.get(key).copied()
+            }
+
+            #[inline]
+            fn count(&self) -> u64 {
+                self.len() as u64
+            }
+        }
+
+        wide_at! { $map<u64, [u64; 3], N> }
+    };
+}
+
+pub(crate) use map_in_rust;
+
+map_in_rust! { Map,
     // At a full map the Rust crate panics, so it needs no test for room.
     #[inline]
     fn note(&mut self, key: u64) {
@@ -24,17 +70,6 @@ numbers_at! { Map<u64, u64, N>,
             sum = sum.wrapping_add(*value);
         }
         sum
-    }
-
-    #[inline]
-    fn clone_and_find(&self, key: u64) -> u64 {
-        self.clone().found(key)
-    }
-
-    #[inline]
-    fn collect_and_find(&self, _memory: Global, _room: u64, first: u64, key: u64) -> u64 {
-        let map: Self = (0..N as u64).map(|index| (key_of(index, first), index)).collect();
-        map.found(key)
     }
 }
 
@@ -52,28 +87,6 @@ impl<const N: usize> Both for Map<u64, u64, N> {
     }
 }
 
-impl<const N: usize> Texts for Map<String, u64, N> {
-    #[inline]
-    fn empty() -> Self {
-        Map::new()
-    }
-
-    #[inline]
-    fn put(&mut self, _memory: Global, key: &str, value: u64) {
-        self.checked_insert(String::from(key), value);
-    }
-
-    #[inline]
-    fn find(&self, key: &str) -> Option<u64> {
-        self.get(key).copied()
-    }
-
-    #[inline]
-    fn count(&self) -> u64 {
-        self.len() as u64
-    }
-}
-
 bytes_at! { Set<u8, N>,
     #[inline]
     fn join_and_find(&self, other: &Self, item: u8) -> u64 {
@@ -81,5 +94,3 @@ bytes_at! { Set<u8, N>,
         (set.has(item) as u64).wrapping_add(set.count())
     }
 }
-
-wide_at! { Map<u64, [u64; 3], N> }

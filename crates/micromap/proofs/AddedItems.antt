@@ -1,23 +1,14 @@
--- A list of pairwise unequal items, or the list of their clones, is put into a set item by item. Each item is new, and
+-- A list of distinct items, or the list of their clones, is put into a set item by item. Each item is new, and
 -- goes last.
 use Rattle.std.proofs.Common.{◌≡◌, ℕ, All, ◌<◌, ◌≤◌, Bool, true, false, not, ◌||◌, List, [], ◌∷◌, ◌++◌, filter, length, get_or}
 use Rattle.std.proofs.Common.{IsTrue, refl, ap, sym, subst, ◌∙◌, arith}
-use Rattle.std.specs.Cmp.{IsEquivalence}
-use Rattle.std.specs.List.{AllZip, IsDistinct}
-use Rattle.std.specs.Map.{keys_of}
-use Rattle.std.specs.Set.{is_member, ClonesAreEqual}
-use Rattle.std.proofs.Math.Seq.{get_or-append_seam}
+use Rattle.std.specs.{Cmp.IsEquivalence, List.AllZip, List.IsDistinct, Map.keys_of, Set.is_member, Set.ClonesAreEqual}
+use Rattle.std.proofs.{Math.Seq.get_or-append_seam, lemmas.List.Filters.length-filter_both}
 use Rattle.std.proofs.lemmas.List.Elements.{AllZip-push, length_all_zip}
-use Rattle.std.proofs.lemmas.List.Filters.{length-filter_both}
-use Rattle.micromap_core.proofs.DistinctLemmas.{new_behind}
-use Rattle.micromap_core.proofs.KeyedLemmas.{built_in_turn}
+use Rattle.micromap_core.proofs.{DistinctLemmas.new_behind, KeyedLemmas.built_in_turn}
 use Rattle.micromap_core.proofs.Walked.{walk_goes_on, walk_seam, walk_within, Walked}
-use Rattle.micromap.specs.Extend.{put_all_items}
-use Rattle.micromap.specs.Items.{put_item, item_fits, IsItems}
-use Rattle.micromap.specs.SetStream.{entries_of}
-use Rattle.micromap.proofs.ItemLemmas.{keys_put_all_items}
-use Rattle.micromap.proofs.Laws.SetLaws.{put_item_new}
-use Rattle.micromap.proofs.SetStreamLemmas.{keys_of-entries}
+use Rattle.micromap.specs.{Extend.put_all_items, Items.put_item, Items.item_fits, Items.IsItems, SetStream.entries_of}
+use Rattle.micromap.proofs.{ItemLemmas.keys_put_all_items, Laws.SetLaws.put_item_new, SetStreamLemmas.keys_of-entries}
 
 -- items that pass a test are no more than a set has room for
 pub length-passing : {T : Type 0} {eq : T → T → Bool} {N : ℕ} {xs ys : List T} → IsItems eq N xs → ys ≡ xs
@@ -26,13 +17,12 @@ length-passing {ys = ys} items is test =
     omega (arith, items.bounded, ap length is, length-filter_both test (λ x. not (test x)) (λ x. refl) ys)
 
 module _ {T : Type 0} {eq : T → T → Bool} (laws : IsEquivalence eq) where
-  -- a set that is built from pairwise unequal items has them in their order
+  -- a set that is built from distinct items has them in their order
   pub added_all : (xs : List T) → IsDistinct eq xs → put_all_items eq [] xs ≡ xs
   added_all xs distinct =
       let back = keys_of-entries xs in
       ap (put_all_items eq []) (sym back) ∙ sym (keys_put_all_items eq [] (entries_of xs))
-      ∙ ap keys_of (built_in_turn laws [] (entries_of xs)
-      (subst (IsDistinct eq) (sym back) distinct)) ∙ back
+      ∙ ap keys_of (built_in_turn laws [] (entries_of xs) (subst (IsDistinct eq) (sym back) distinct)) ∙ back
 
   module _ {C : T → T → Type 0} (equal : ClonesAreEqual eq C) where
     -- an item has an equal one among the clones where an equal item has one among their sources
@@ -55,8 +45,7 @@ module _ {T : Type 0} {C : T → T → Type 0} {members left set : List T}
   -- there is room for its clone, which is new and goes last
   pub clone_fits : (eq : T → T → Bool) (N : ℕ) (y : T) → length members ≤ N → IsTrue (item_fits eq N set y)
   clone_fits eq N y bounded =
-      let room : length set < N =
-      omega (arith, bounded, walk_within walked next, length_all_zip C walked.before set walked.holds) in
+      let room : length set < N = omega (arith, bounded, walk_within walked next, length_all_zip C walked.before set walked.holds) in
       grind (arith, room)
 
   pub clone_goes_on : {eq : T → T → Bool} → IsEquivalence eq → ClonesAreEqual eq C → IsDistinct eq members

@@ -1,17 +1,13 @@
 -- A set's items are the keys of its map. Each lemma says what a word on the map's pairs does to the keys.
 use Rattle.std.proofs.Common.{◌≡◌, ℕ, ◌+◌, Bool, ◌&&◌, not, List, [], ◌∷◌, All, take, is_some, if◌then◌else◌, refl, ap, sym, subst, ◌∙◌}
 use Rattle.std.proofs.Common.{arith, option_map}
-use Rattle.std.specs.List.{AllZip, find, list_any}
+use Rattle.std.specs.{List.AllZip, List.find, List.list_any, Set.remove_key, Set.swap_key}
 use Rattle.std.specs.Map.{keys_of, lookup_entry, remove_entry, set_value, set_key}
-use Rattle.std.specs.Set.{remove_key, swap_key}
 use Rattle.std.proofs.lemmas.List.{get_or-map, length-map, map_push, take-map}
-use Rattle.std.proofs.lemmas.Map.{keys-set_value}
-use Rattle.std.proofs.lemmas.Map.Entries.{length-keys_of}
-use Rattle.std.proofs.lemmas.Map.Made.{is_some-lookup}
+use Rattle.std.proofs.lemmas.{Map.keys-set_value, Map.Entries.length-keys_of, Map.Made.is_some-lookup}
 use Rattle.micromap_core.specs.Build.{each_fits, pair_fits, put_all, put_pair, MisfitIn}
-use Rattle.micromap_core.specs.Clones.{IsPairClone}
+use Rattle.micromap_core.{specs.Clones.IsPairClone, proofs.MapLemmas.keys_of-put_stored, proofs.MapLemmas.keys_of-put_new}
 use Rattle.micromap_core.specs.Pairs.{IsContent, fits, has, put, put_key, take_out}
-use Rattle.micromap_core.proofs.MapLemmas.{keys_of-put_stored, keys_of-put_new}
 use Rattle.micromap.specs.Extend.{put_all_items, ItemMisfitIn}
 use Rattle.micromap.specs.Items.{IsItems, put_item, replace_item, item_fits, take_item}
 
@@ -63,8 +59,7 @@ module _ {T V : Type 0} where
 
     -- where it is stored, nothing is changed
     pub tried-keys : (N : ℕ) (pairs : List (T × V)) → (if item_fits eq N (keys_of pairs) k then put_item eq (keys_of pairs) k else keys_of
-        pairs) ≡ keys_of (if has eq pairs k then pairs else if fits eq N pairs k then put eq pairs k v else
-        pairs)
+        pairs) ≡ keys_of (if has eq pairs k then pairs else if fits eq N pairs k then put eq pairs k v else pairs)
     unfolding put_item
     tried-keys N pairs = grind (arith, checked-keys N pairs, is_some-lookup (eq k) pairs)
 

@@ -3,26 +3,16 @@
 use Rattle.std.proofs.Common.{◌≡◌, ℕ, ◌<◌, ◌≤◌, Bool, true, false, List, [], ◌∷◌, length, Option, Some, None, option_map, option_and_then}
 use Rattle.std.proofs.Common.{ok_or, if◌then◌else◌, Result, Ok, Err, MatchResult, IfOk, IfErr, inr, int_eq, true≢false, lt-ltb, le-ltb}
 use Rattle.std.proofs.Common.{bytes_eq, string_bytes, string_cmp, string_eq, ℤ, refl, ap, sym, subst, ◌∙◌, arith}
-use Rattle.std.specs.Cmp.{IsEquivalence, int_eq_equiv}
-use Rattle.std.specs.Cmp.Lexicographic.{nat_list_eq_equiv}
-use Rattle.std.specs.List.{IsDistinct, fold}
-use Rattle.std.specs.List.Sorted.{IsStrictlySortedBy}
-use Rattle.std.specs.Map.{keys_of}
-use Rattle.std.specs.Result.{is_ok, result_map_both}
-use Rattle.std.proofs.lemmas.Map.Keys.{IsDistinct-from_sorted}
-use Rattle.std.proofs.lemmas.Map.Text.{is_eq-slice_cmp}
-use Rattle.serde_json.specs.View.{members_view}
-use Rattle.serde_json.proofs.Views.{Entry}
-use Rattle.micromap_core.specs.Build.{build}
-use Rattle.micromap_core.specs.Same.{Same, is_same}
-use Rattle.micromap_core.specs.SameLaws.{is_same_equiv}
+use Rattle.std.specs.{Cmp.IsEquivalence, Cmp.int_eq_equiv, Cmp.Lexicographic.nat_list_eq_equiv, List.IsDistinct, List.fold}
+use Rattle.std.specs.{List.Sorted.IsStrictlySortedBy, Map.keys_of, Result.is_ok, Result.result_map_both}
+use Rattle.std.proofs.lemmas.{Map.Keys.IsDistinct-from_sorted, Map.Text.is_eq-slice_cmp}
+use Rattle.serde_json.{specs.View.members_view, proofs.Views.Entry}
+use Rattle.micromap_core.specs.{Build.build, Same.Same, Same.is_same, SameLaws.is_same_equiv}
 use Rattle.micromap_core.specs.Texts.{item_texts, items_by, key_texts}
-use Rattle.micromap_core.proofs.KeyedLemmas.{built_in_turn}
-use Rattle.micromap_core.proofs.Laws.TextLaws.{same_texts}
+use Rattle.micromap_core.proofs.{KeyedLemmas.built_in_turn, Laws.TextLaws.same_texts}
 use Rattle.micromap.specs.Json.{Bytes, HasPairs, IsFault, Pairs, and_then, items_for, pairs_for, whole_members}
-use Rattle.micromap.specs.declared.json.JsonFault.{JsonFault}
+use Rattle.micromap.{specs.declared.json.JsonFault.JsonFault, proofs.Laws.SetTextLaws.unique_item_texts}
 use Rattle.micromap.specs.declared.json.JsonFault.TheVariants.{Memory, NotWhole, TooMany}
-use Rattle.micromap.proofs.Laws.SetTextLaws.{unique_item_texts}
 
 pub few : {X : Type 0} (N : ℕ) (xs : List X) → length xs ≤ N → items_for N xs ≡ Ok xs
 few N xs short = ap (λ b. if b then Err TooMany else Ok xs) (le-ltb N (length xs) short)
@@ -33,13 +23,11 @@ answer_of put N fault now all_fit rest = and_then (ok_or rest fault)
     (λ parts. if all_fit then items_for N (fold put now parts) else Err TooMany)
 
 pub record ReadsOn {B : Type 0} (put : List B → B → List B) (N : ℕ) (fault : JsonFault)
-    (now : List B) (all_fit : Bool) (rest : Option (List B)) (answer : Result (List B) JsonFault) :
-    Type 0 where
+    (now : List B) (all_fit : Bool) (rest : Option (List B)) (answer : Result (List B) JsonFault) : Type 0 where
   pub is : answer_of put N fault now all_fit rest ≡ answer
 
 module _ {B : Type 0} {put : List B → B → List B} {N : ℕ} {fault : JsonFault} {now : List B}
-    {all_fit : Bool} {rest : Option (List B)} {answer : Result (List B) JsonFault}
-    (has : ReadsOn put N fault now all_fit rest answer) where
+    {all_fit : Bool} {rest : Option (List B)} {answer : Result (List B) JsonFault} (has : ReadsOn put N fault now all_fit rest answer) where
   module _ {Y : Type 0} (part : Y → B) (later : Option (List B)) (next : Option Y)
       (first : rest ≡ option_and_then (λ y. option_map (λ more. part y ∷ more) later) next) where
     -- what comes next isn't read
@@ -94,8 +82,7 @@ members_built N es sorted = by (whole_members (members_view es)) refl
   where
     names : IsDistinct bytes_eq (item_texts (keys_of es))
     names = unique_item_texts string_bytes (keys_of es) (subst (λ eq. IsDistinct eq (keys_of es))
-        (λ i x y. is_eq-slice_cmp (string_bytes x) (string_bytes y) i)
-        (IsDistinct-from_sorted string_cmp (keys_of es) sorted))
+        (λ i x y. is_eq-slice_cmp (string_bytes x) (string_bytes y) i) (IsDistinct-from_sorted string_cmp (keys_of es) sorted))
 
     by : (o : Option (List (Bytes × ℤ))) → whole_members (members_view es) ≡ o → and_then (ok_or o NotWhole)
         (λ ps. items_for N (build bytes_eq ps)) ≡ and_then (ok_or o NotWhole) (items_for N)

@@ -2,32 +2,21 @@
 use Rattle.std.proofs.Common.{◌≡◌, ℕ, suc, ◌≤◌, Bool, true, false, ◌||◌, List, [], ◌∷◌, ◌++◌, length, map, Some}
 use Rattle.std.proofs.Common.{option_map, Ok, nat_cmp, String, Global, string_bytes, bytes_eq, ℤ, refl, ap}
 use Rattle.std.proofs.Common.{sym, subst, ◌∙◌, arith, int_eq}
-use Rattle.std.specs.BTreeMap.{insert_entry}
-use Rattle.std.specs.Cmp.{first_so}
-use Rattle.std.specs.Cmp.Derive.{both_true}
-use Rattle.std.specs.Cmp.Lexicographic.{nat_list_eq_equiv, slice_cmp}
-use Rattle.std.specs.List.{IsDistinct, list_all, list_any}
-use Rattle.std.specs.Map.{keys_of}
-use Rattle.std.specs.Set.{is_member}
-use Rattle.std.specs.String.{string_eq, string_eq_equiv}
+use Rattle.std.specs.{BTreeMap.insert_entry, Cmp.first_so, Cmp.Derive.both_true}
+use Rattle.std.specs.{Cmp.Lexicographic.nat_list_eq_equiv, Cmp.Lexicographic.slice_cmp, List.IsDistinct, List.list_all, List.list_any}
+use Rattle.std.specs.{Map.keys_of, Set.is_member, String.string_eq, String.string_eq_equiv}
 use Rattle.std.proofs.lemmas.List.{append_assoc, append-nil, length_push, map-append, map_push}
-use Rattle.std.proofs.lemmas.List.Folds.{list_any-append}
-use Rattle.std.proofs.lemmas.List.Sums.{fold_push}
-use Rattle.std.proofs.lemmas.Map.Text.{is_eq-slice_cmp}
+use Rattle.std.proofs.lemmas.{List.Folds.list_any-append, List.Sums.fold_push, Map.Text.is_eq-slice_cmp}
 use Rattle.serde_json.specs.Data.{Data, null, boolean, number, string, array, object, unsigned, negative, float}
 use Rattle.serde_json.specs.Data.{Members, no_members, member, depth, items_depth, members_depth, put}
-use Rattle.serde_json.specs.Find.{of_integer}
-use Rattle.serde_json.specs.Read.{read, max_depth}
-use Rattle.serde_json.specs.View.{view, items_of, items_view}
+use Rattle.serde_json.specs.{Find.of_integer, Read.read, Read.max_depth, View.view, View.items_of, View.items_view}
 use Rattle.serde_json.specs.Written.{compact_text, has_float, items_have_float, members_have_float}
 use Rattle.serde_json.specs.declared.value.Value.{Value}
 use Rattle.micromap.specs.Json.{Bytes, HasPairs, Pairs, all_texts, elements, members, texts_for, whole_number, whole_members}
 use Rattle.micromap_core.specs.Same.{Same, pair_eq}
 use Rattle.micromap_core.specs.Texts.{item_texts, items_by, key_texts, texts_by}
-use Rattle.micromap_core.proofs.DistinctLemmas.{new_behind}
-use Rattle.micromap_core.proofs.Walked.{walk_goes_on, walk_seam, Walked}
-use Rattle.micromap.proofs.AddedItems.{added_all}
-use Rattle.micromap.proofs.Laws.SetTextLaws.{length_item_texts, unique_item_texts}
+use Rattle.micromap_core.proofs.{DistinctLemmas.new_behind, Walked.walk_goes_on, Walked.walk_seam, Walked.Walked}
+use Rattle.micromap.proofs.{AddedItems.added_all, Laws.SetTextLaws.length_item_texts, Laws.SetTextLaws.unique_item_texts}
 use Rattle.micromap.proofs.JsonReading.{bytes_equiv, few}
 
 abbrev insert : List (Bytes × ℤ) → Bytes → ℤ → List (Bytes × ℤ)

@@ -1,18 +1,13 @@
--- The members of an operation on two lists of items are pairwise unequal. An operation that doesn't care which list is
+-- The members of an operation on two lists of items are distinct. An operation that doesn't care which list is
 -- first has equal members if the lists change places. For callers: `same_members`.
 use Rattle.std.proofs.Common.{◌≡◌, ◌+◌, Bool, true, not, ◌&&◌, ◌||◌, ◌↔◌, List, [], ◌∷◌, length, filter}
 use Rattle.std.proofs.Common.{if◌then◌else◌, IsTrue, refl, ap, sym, ◌∙◌, arith, length-append}
 use Rattle.std.specs.Cmp.{IsEquivalence, both_ways, first_so, second_so}
-use Rattle.std.specs.Cmp.Derive.{both_true}
-use Rattle.std.specs.List.{IsDistinct, list_all}
+use Rattle.std.specs.{Cmp.Derive.both_true, List.IsDistinct, List.list_all, Set.is_member}
 use Rattle.std.proofs.Math.Bool.{not-not, or-true}
-use Rattle.std.proofs.lemmas.Bool.{false≢true, not-true}
-use Rattle.std.proofs.lemmas.List.Folds.{list_any-append}
-use Rattle.std.proofs.lemmas.Map.Made.{is_member-filter}
+use Rattle.std.proofs.lemmas.{Bool.false≢true, Bool.not-true, List.Folds.list_any-append, Map.Made.is_member-filter}
 use Rattle.std.proofs.lemmas.Map.Steps.{list_any_congr}
-use Rattle.std.specs.Set.{is_member}
-use Rattle.micromap_core.specs.Same.{have_equal_items, HaveEqualItems}
-use Rattle.micromap_core.proofs.DistinctLemmas.{IsDistinct-append}
+use Rattle.micromap_core.{specs.Same.have_equal_items, specs.Same.HaveEqualItems, proofs.DistinctLemmas.IsDistinct-append}
 use Rattle.micromap.specs.Operations.{difference, intersection, symmetric_difference, union, Commutes, HaveEquals, IsDisjoint, IsSubset}
 use Rattle.micromap.proofs.OperationSteps.{length-parts}
 
@@ -50,7 +45,7 @@ module _ {T : Type 0} {eq : T → T → Bool} (laws : IsEquivalence eq) where
   pub symmetric_difference_turned : (xs ys : List T) → Commutes eq (symmetric_difference eq) xs ys
   symmetric_difference_turned xs ys q = grind (arith, is_member-symmetric_difference xs ys q, is_member-symmetric_difference ys xs q)
 
-  -- the members of both parts are pairwise unequal
+  -- the members of both parts are distinct
   pub IsDistinct-union : (xs ys : List T) → IsDistinct eq ys → IsDistinct eq (difference eq xs ys) → IsDistinct eq (union eq xs ys)
   unfolding union
   IsDistinct-union xs ys others beyond = IsDistinct-append laws ys (difference eq xs ys) others beyond
@@ -91,8 +86,7 @@ module _ {T : Type 0} {eq : T → T → Bool} (laws : IsEquivalence eq) where
 
   apart : (xs ys : List T) → IsTrue (list_all (λ x. not (is_member eq ys x)) xs) ↔ IsDisjoint eq xs ys
   apart xs ys =
-      let none = each_passes laws (λ x. not (is_member eq ys x))
-      (λ x y same. ap not (list_any_congr laws x y ys same)) xs in (
+      let none = each_passes laws (λ x. not (is_member eq ys x)) (λ x y same. ap not (list_any_congr laws x y ys same)) xs in (
         λ all q there. not-true _ (none.0 all q there),
         λ each. none.1 (λ q there. ap not (each q there)),
       )

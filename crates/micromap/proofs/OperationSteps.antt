@@ -1,18 +1,14 @@
 -- What an iterator over an operation has left after a call of `next`, and that its hint bounds the members left.
 use Rattle.std.proofs.Common.{◌≡◌, ℕ, zero, suc, ◌+◌, ◌-◌, ◌^◌, ◌≤◌, min, Bool, true, false, not, List, [], ◌∷◌, length}
 use Rattle.std.proofs.Common.{drop, filter, Option, Some, None, if◌then◌else◌, IfSome, refl, ap, sym, subst, ◌∙◌, arith}
-use Rattle.std.proofs.Common.{Bor}
-use Rattle.std.specs.Cmp.{IsEquivalence}
+use Rattle.std.proofs.{Common.Bor, iter.runs.Sources.as_is, iter.runs.Sources.from_front}
+use Rattle.std.specs.{Cmp.IsEquivalence, List.IsDistinct, List.after_first, List.position_or_len, Map.Iter.deref, Set.is_member}
 use Rattle.std.specs.Iterator.{MakesProgress, UpTo, at_most, item_count}
 use Rattle.std.specs.Iterator.Runs.{ItemsMapTo, EveryRun, YieldsInOrder}
-use Rattle.std.specs.List.{IsDistinct, after_first, position_or_len}
-use Rattle.std.specs.Map.Iter.{deref}
-use Rattle.std.proofs.iter.runs.Sources.{as_is, from_front}
-use Rattle.std.proofs.lemmas.List.Filters.{length-filter_both}
-use Rattle.std.proofs.lemmas.Map.Keys.{IsDistinct-tail}
+use Rattle.std.proofs.lemmas.{List.Filters.length-filter_both, Map.Keys.IsDistinct-tail}
 use Rattle.micromap_core.proofs.DistinctLemmas.{length-filter_members}
-use Rattle.std.specs.Set.{is_member}
-use Rattle.micromap.specs.Operations.{difference, difference_remaining, difference_advanced, intersection, sum_of, symmetric_remaining, symmetric_advanced}
+use Rattle.micromap.specs.Operations.{difference, difference_remaining, difference_advanced, intersection, sum_of, symmetric_remaining}
+use Rattle.micromap.specs.Operations.{symmetric_advanced}
 use Rattle.micromap.specs.Operations.{GivesNext, TwoWalks}
 
 module _ {S A X : Type 0} (shows : A → X) (left : S → List X) (on : S → S) where
@@ -23,8 +19,7 @@ module _ {S A X : Type 0} (shows : A → X) (left : S → List X) (on : S → S)
   -- a call that gives an item leaves fewer
   pub progress : (s t : S) (r : Option A) → GivesNext shows left on s r t → MakesProgress (λ _. Unit {0}) (item_count left) s r t
   progress s t None given = record { on = λ _. tt; keeps = tt; rests = λ _. tt }
-  progress s t (Some x) given =
-      record { on = λ _. (tt, tt, omega (arith, ap length given.member)); keeps = tt; rests = λ _. tt }
+  progress s t (Some x) given = record { on = λ _. (tt, tt, omega (arith, ap length given.member)); keeps = tt; rests = λ _. tt }
 
 pub items_in_order : {S X : Type 0} (left : S → List X) (on : S → S) → YieldsInOrder (GivesNext (λ (x : X). x) left on) left
 items_in_order left on p seen = as_is p (left p.from) (left_in_order (λ x. x) left on p seen)
@@ -39,8 +34,7 @@ module _ {T : Type 0} (test : T → Bool) where
   module _ {start now next : List T} (walk : MeetsNone start now) where
     pub meets_none : {x : T} → now ≡ x ∷ next → test x ≡ false → MeetsNone start next
     meets_none {x} first fails =
-        let further : (1 + position_or_len test next) + 1 ≡ suc (position_or_len test next + 1) =
-        omega arith in record {
+        let further : (1 + position_or_len test next) + 1 ≡ suc (position_or_len test next + 1) = omega arith in record {
           members = grind (arith, walk.members, first, fails);
           after = sym (ap (after_first test) first
               ∙ ap (λ b. drop ((if not b then 1 + position_or_len test next else 0) + 1) (x ∷ next)) fails
@@ -50,7 +44,10 @@ module _ {T : Type 0} (test : T → Bool) where
     -- it gives the item that it meets, or nothing at the end
     pub walk_gives : {x : Bor T} → now ≡ x.now ∷ next → test x.now ≡ true
         → GivesNext deref (filter test) (after_first test) start (Some x) next
-    walk_gives first passes = record { member = grind (arith, walk.members, first, passes); state = grind (arith, walk.after, first, passes) }
+    walk_gives first passes = record {
+      member = grind (arith, walk.members, first, passes);
+      state = grind (arith, walk.after, first, passes);
+    }
 
     pub walk_ends : now ≡ [] → next ≡ [] → GivesNext deref (filter test) (after_first test) start None next
     walk_ends none end = record {

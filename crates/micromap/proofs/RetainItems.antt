@@ -1,9 +1,7 @@
 -- A set passes its map a closure that calls the set's own closure with each key. The calls of the one tell the calls of
 -- the other.
 use Rattle.std.proofs.Common.{Bool, List, [], ◌∷◌, ap, ◌∙◌}
-use Rattle.std.specs.List.{FoldsTo}
-use Rattle.std.specs.Map.{keys_of}
-use Rattle.std.specs.Map.Calls.{CallableOnEachPair, SomeCallAtPair}
+use Rattle.std.specs.{List.FoldsTo, Map.keys_of, Map.Calls.CallableOnEachPair, Map.Calls.SomeCallAtPair}
 use Rattle.std.proofs.lemmas.List.{map-append}
 use Rattle.micromap_core.specs.Closures.{AtEachTurn}
 
@@ -22,6 +20,5 @@ module _ {F G T V : Type 0} (S : F → T → V → Bool → V → F → Type 0) 
       → AtEachTurn (λ h x t. (b : Bool) × R h x b t) (look f) (keys_of pairs) Q → CallableOnEachPair S (λ s k v. Q (look s) k) f pairs
   callable_inner Q f pairs may = record {
     at = λ before after s k v parts calls. may.each (keys_of before) (keys_of after) k (look s)
-        (ap keys_of parts ∙ map-append (λ p. p.0) before ((k, v) ∷ after))
-        (calls_inner f s before calls);
+        (ap keys_of parts ∙ map-append (λ p. p.0) before ((k, v) ∷ after)) (calls_inner f s before calls);
   }

@@ -1,15 +1,10 @@
 -- For callers: the rulesets. `caller` has all laws that a search finds by itself. The others are its parts, for a search
 -- that reaches a limit with all of them.
-use Rattle.std.proofs.lemmas.Int.{ints, to_z-of_z}
-use Rattle.std.proofs.lemmas.Str.Pattern.{starts_text}
-use Rattle.micromap_core.proofs.Laws.ComparisonLaws.{same_laws}
-use Rattle.micromap_core.proofs.Laws.CountLaws.{count_laws}
+use Rattle.std.proofs.lemmas.{Int.ints, Int.to_z-of_z, Str.Pattern.starts_text}
+use Rattle.micromap_core.proofs.{Laws.ComparisonLaws.same_laws, Laws.CountLaws.count_laws, Laws.MapLaws.map_laws}
 use Rattle.micromap_core.proofs.Laws.LoopLaws.{closure_laws, each_left_map, loop_laws, sum_laws, walk_laws}
-use Rattle.micromap_core.proofs.Laws.MapLaws.{map_laws}
 use Rattle.micromap_core.proofs.Laws.TextLaws.{extended_texts, text_laws}
-use Rattle.micromap.proofs.Laws.ChainLaws.{chain_laws}
-use Rattle.micromap.proofs.Laws.SetLaws.{set_laws}
-use Rattle.micromap.proofs.Laws.SetLoopLaws.{item_counts, set_loop_laws}
+use Rattle.micromap.proofs.{Laws.ChainLaws.chain_laws, Laws.SetLaws.set_laws, Laws.SetLoopLaws.item_counts, Laws.SetLoopLaws.set_loop_laws}
 use Rattle.micromap.proofs.Laws.SetTextLaws.{extended_item_texts, set_text_laws}
 
 -- changes of a map or a set, texts, sums, closures, chains of iterators, and loops that find, count, add up or merge, or

@@ -1,14 +1,10 @@
 -- Entries of a stream whose values are `()`. The set that is read from them has the keys of the map that they make. For
 -- callers: `items_read`.
 use Rattle.std.proofs.Common.{◌≡◌, ℕ, Bool, List, [], ◌∷◌, Result, Ok, refl, ap, sym, ◌∙◌}
-use Rattle.std.specs.Map.{keys_of}
-use Rattle.std.specs.Result.{result_map_both}
+use Rattle.std.specs.{Map.keys_of, Result.result_map_both}
 use Rattle.std.proofs.lemmas.Map.Entries.{length-keys_of}
-use Rattle.micromap_core.specs.Pairs.{IsContent}
-use Rattle.micromap_core.specs.Stream.{Stream, ReadsWhole}
-use Rattle.micromap.specs.Extend.{distinct}
-use Rattle.micromap.specs.SetStream.{entries_of}
-use Rattle.micromap.specs.Items.{IsItems}
+use Rattle.micromap_core.specs.{Pairs.IsContent, Stream.Stream, Stream.ReadsWhole}
+use Rattle.micromap.specs.{Extend.distinct, SetStream.entries_of, Items.IsItems}
 use Rattle.micromap.proofs.ItemLemmas.{keys_put_all_items}
 
 module _ {T : Type 0} where

@@ -66,29 +66,35 @@ module _ {T : Type 0} (eq : T → T → Bool) where
   abbrev pub Commutes : (List T → List T → List T) → List T → List T → Type 0
   Commutes op xs ys = HaveEquals (op xs ys) (op ys xs)
 
-  -- the members that are left
+  -- the members that a difference has left
   unfoldable pub difference_remaining : Walk T (List T) → List T
   difference_remaining w = difference w.rest w.other
 
+  -- the members that an intersection has left
   unfoldable pub intersection_remaining : Walk T (List T) → List T
   intersection_remaining w = intersection w.rest w.other
 
+  -- the members that a union has left
   unfoldable pub union_remaining : UnionWalk T (List T) → List T
   union_remaining w = w.others ++ difference_remaining w.beyond
 
+  -- the members that a symmetric difference has left
   unfoldable pub symmetric_remaining : TwoWalks T (List T) (List T) → List T
   symmetric_remaining w = difference_remaining w.first ++ difference_remaining w.second
 
-  -- where a call of `next` leads: past the next member, or to the end where there is none
+  -- where a call of `next` leads a difference: past the next member, or to the end where there is none
   unfoldable pub difference_advanced : Walk T (List T) → Walk T (List T)
   difference_advanced w = record w { rest = after_first (λ x. not (is_member eq w.other x)) w.rest }
 
+  -- where a call of `next` leads an intersection
   unfoldable pub intersection_advanced : Walk T (List T) → Walk T (List T)
   intersection_advanced w = record w { rest = after_first (is_member eq w.other) w.rest }
 
+  -- where a call of `next` leads a union: through the other set's items, then through the difference
   unfoldable pub union_advanced : UnionWalk T (List T) → UnionWalk T (List T)
   union_advanced w = record { others = drop 1 w.others; beyond = if_empty w.others (difference_advanced w.beyond) w.beyond }
 
+  -- where a call of `next` leads a symmetric difference: through the first difference, then through the second
   unfoldable pub symmetric_advanced : TwoWalks T (List T) (List T) → TwoWalks T (List T) (List T)
   symmetric_advanced w = record { first = difference_advanced w.first; second = if_empty (difference_remaining w.first) (difference_advanced w.second) w.second }
 
@@ -107,19 +113,22 @@ sum_of None n = None
 sum_of (Some m) None = None
 sum_of (Some m) (Some n) = if nat_lt (m + n) (2 ^ 64) then Some (m + n) else None
 
--- the hint of two iterators one after the other
+-- the hint of two iterators one after the other: the sums of their bounds, the lower one at most `2 ^ 64 - 1`
 abbrev pub both_hints : ℕ × Option ℕ → ℕ × Option ℕ → ℕ × Option ℕ
 both_hints a b = (min (a.0 + b.0) (2 ^ 64 - 1), sum_of a.1 b.1)
 
--- the hints: a lower bound of the number of members left, and an upper one
+-- the hint of a difference: a lower bound of the number of members left, and an upper one
 abbrev pub difference_hint : {T : Type 0} → Walk T (List T) → ℕ × Option ℕ
 difference_hint w = (length w.rest - length w.other, Some (length w.rest))
 
+-- the hint of an intersection
 abbrev pub intersection_hint : {T : Type 0} → Walk T (List T) → ℕ × Option ℕ
 intersection_hint w = (0, Some (min (length w.rest) (length w.other)))
 
+-- the hint of a union: that of the other set's items left, and then that of the difference
 abbrev pub union_hint : {T : Type 0} → UnionWalk T (List T) → ℕ × Option ℕ
 union_hint w = both_hints (length w.others, Some (length w.others)) (difference_hint w.beyond)
 
+-- the hint of a symmetric difference: that of both differences
 abbrev pub symmetric_hint : {T : Type 0} → TwoWalks T (List T) (List T) → ℕ × Option ℕ
 symmetric_hint w = both_hints (difference_hint w.first) (difference_hint w.second)

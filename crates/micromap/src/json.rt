@@ -35,11 +35,6 @@ pub enum JsonFault {
 
 impl JsonFault {
     /// Returns the fault's number, from 1 in this order.
-    ///
-    /// ```
-    /// let read = set_from_json::<2>(alloc, "{}");
-    /// assert!(rt; read.is_err_and(|fault| fault.code() == 3));
-    /// ```
     pub fn code(&self) -> u8
         ensures { result ≡ code self.now }
     {
@@ -55,9 +50,6 @@ impl JsonFault {
     }
 }
 
-/// It prints `the text is not JSON`, `the text is not an object`, `the text is not an array`, `a value is not a whole number
-/// of 64 bits`, `an element is not a text`, `there are more distinct texts than there is room for` or `a request for memory
-/// was refused`, in the order of the faults above.
 impl fmt::Display for JsonFault {
     ghost output = { λ fault. Some (message fault) };
 

@@ -26,11 +26,10 @@ pub use operations::{Difference, DifferenceRef, Intersection, SymmetricDifferenc
 use std::marker::Model;
 pub use walk::{Drain, IntoIter, Iter};
 
-/// A set of at most `N` pairwise unequal items, which are found by `==`, from the front.
+/// A set of at most `N` distinct items, which are found by `==`, from the front.
 ///
-/// A contract sees it as the list of its items, from front to end. It is a map with the value `()`, and no call
-/// allocates memory of its own. A *scan* compares the items from the front, each at most once. Before that it compares
-/// all of them if there are 16 slots or more, of at most 4 bytes each, as for bytes. How many are compared isn't proved.
+/// A contract sees it as the list of its items, from front to end. It is a map with the value `()`: it compares items as
+/// a `Map` compares keys, and no call allocates memory of its own.
 ///
 /// ```
 /// let mut seen: Set<&str, 2> = Set::new();
@@ -62,13 +61,7 @@ impl<T: Eq, const N: usize> Model for Set<T, N> {
 }
 
 impl<T: Eq, const N: usize> Set<T, N> {
-    /// Creates an empty set.
-    ///
-    /// ```
-    /// let set: Set<u8, 4> = Set::new();
-    /// assert!(rt; set.is_empty());
-    /// assert_eq!(rt; set.capacity(), 4);
-    /// ```
+    /// Creates an empty set, as `Set::default` does.
     #[inline]
     pub fn new() -> Self
         ensures answer { result ≡ [] }
@@ -79,15 +72,8 @@ impl<T: Eq, const N: usize> Set<T, N> {
 
     /// Returns the number of items.
     ///
-    /// The clause `content` states three facts of the set: no two items are equal, there are at most `N` items, and the
+    /// The clause `content` states three facts of the set: its items are distinct, there are at most `N` items, and the
     /// equality of items is lawful (reflexive, symmetric and transitive).
-    ///
-    /// ```
-    /// let mut set: Set<u8, 4> = Set::new();
-    /// set.put(1);
-    /// set.put(1);
-    /// assert_eq!(rt; set.len(), 1);
-    /// ```
     #[inline]
     pub fn len(&self) -> usize
         ensures answer { result ≡ length self.now }
@@ -97,13 +83,6 @@ impl<T: Eq, const N: usize> Set<T, N> {
     }
 
     /// Returns `true` if the set has no items.
-    ///
-    /// ```
-    /// let mut set: Set<u8, 4> = Set::new();
-    /// assert!(rt; set.is_empty());
-    /// set.put(1);
-    /// assert!(rt; !set.is_empty());
-    /// ```
     #[inline]
     pub fn is_empty(&self) -> bool
         ensures answer { result ≡ (length self.now == 0) }
@@ -112,12 +91,6 @@ impl<T: Eq, const N: usize> Set<T, N> {
     }
 
     /// Returns the greatest number of items, which is `N`.
-    ///
-    /// ```
-    /// let mut set: Set<u8, 4> = Set::new();
-    /// set.put(1);
-    /// assert_eq!(rt; set.capacity(), 4);
-    /// ```
     #[inline]
     pub fn capacity(&self) -> usize
         ensures { result ≡ N }
@@ -128,13 +101,6 @@ impl<T: Eq, const N: usize> Set<T, N> {
 
 impl<T: Eq + Drop, const N: usize> Set<T, N> {
     /// Removes and drops every item.
-    ///
-    /// ```
-    /// let mut set = Set::from([1, 2]);
-    /// set.clear();
-    /// assert!(rt; set.is_empty());
-    /// assert!(rt; set.put(3));
-    /// ```
     pub fn clear(&mut self)
         ensures emptied { self.new ≡ [] }
         ensures content { AreItems T.eq N self.old self.new }
@@ -147,11 +113,6 @@ impl<T: Eq, const N: usize> Default for Set<T, N> {
     ghost is_default = { λ s. (s ≡ []) × IsItems T.eq N s };
 
     /// Creates an empty set.
-    ///
-    /// ```
-    /// let set: Set<u8, 4> = Set::default();
-    /// assert!(rt; set.is_empty());
-    /// ```
     fn default() -> Self {
         Set::new()
     }

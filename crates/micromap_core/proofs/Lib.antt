@@ -14,7 +14,6 @@ pub mod PrintLemmas
 pub mod PuttingLemmas
 pub mod SameLemmas
 pub mod ScanLemmas
-pub mod Sizes
 pub mod SlotsLemmas
 pub mod StepsLemmas
 pub mod StreamLemmas

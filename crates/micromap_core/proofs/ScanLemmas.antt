@@ -20,36 +20,24 @@ module _ {K : Type 0} (test : K → Bool) where
   pub not_yet-start : (all : List K) → NotYet 0 all all
   not_yet-start all = record { counted = omega arith; first = omega arith }
 
-  fails-on : (x : K) (rest : List K) → test x ≡ false
-      → position_or_len test (x ∷ rest) ≡ 1 + position_or_len test rest
+  fails-on : (x : K) (rest : List K) → test x ≡ false → position_or_len test (x ∷ rest) ≡ 1 + position_or_len test rest
   fails-on x rest fails = ap (λ b. if not b then 1 + position_or_len test rest else 0) fails
 
   passes-here : (x : K) (rest : List K) → test x ≡ true → position_or_len test (x ∷ rest) ≡ 0
   passes-here x rest passes = ap (λ b. if not b then 1 + position_or_len test rest else 0) passes
 
-module _ {K : Type 0} {test : K → Bool} {count : ℕ} {left all : List K}
-    (scan : NotYet test count left all) where
+module _ {K : Type 0} {test : K → Bool} {count : ℕ} {left all : List K} (scan : NotYet test count left all) where
   module _ {x : K} {rest : List K} (parts : left ≡ x ∷ rest) where
     pub not_yet-on : test x ≡ false → NotYet test (count + 1) rest all
     not_yet-on fails = record {
       counted = omega (arith, scan.counted, ap length parts);
-      first = omega (
-        arith,
-        scan.first,
-        ap (position_or_len test) parts,
-        fails-on test x rest fails,
-      );
+      first = omega (arith, scan.first, ap (position_or_len test) parts, fails-on test x rest fails);
     }
 
     pub not_yet-found : test x ≡ true → position test all ≡ Some count
     not_yet-found passes =
         let here : position_or_len test all ≡ count =
-        omega (
-          arith,
-          scan.first,
-          ap (position_or_len test) parts,
-          passes-here test x rest passes,
-        ) in
+        omega (arith, scan.first, ap (position_or_len test) parts, passes-here test x rest passes) in
         grind (arith, common_steps, here, scan.counted, ap length parts)
 
   pub not_yet-missing : left ≡ [] → position test all ≡ None

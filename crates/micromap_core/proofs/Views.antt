@@ -2,8 +2,7 @@
 use Rattle.std.proofs.Common.{◌≡◌, ℕ, ◌&&◌, ◌||◌, [], ◌∷◌, ◌∙◌, ap, arith, false, map, option_map, refl, Bool, List, Option, Some}
 use Rattle.std.specs.Fmt.{◌++?◌, comma_space, debug_items}
 use Rattle.std.specs.List.{find, list_all, list_any, AllByRecursion, IsDistinct}
-use Rattle.std.specs.Ordering.{on}
-use Rattle.std.specs.Set.{remove_key}
+use Rattle.std.specs.{Ordering.on, Set.remove_key}
 use Rattle.std.proofs.lemmas.List.Folds.{list_all-map}
 use Rattle.micromap_core.specs.Same.{have_equal_items}
 
@@ -18,15 +17,13 @@ module _ {X Y : Type 0} (f : X → Y) where
     find-map [] = refl
     find-map (x ∷ xs) = grind (arith, find-map xs)
 
-    pub remove_key-map : (xs : List X)
-        → map f (remove_key (λ x. test (f x)) xs) ≡ remove_key test (map f xs)
+    pub remove_key-map : (xs : List X) → map f (remove_key (λ x. test (f x)) xs) ≡ remove_key test (map f xs)
     remove_key-map [] = refl
     remove_key-map (x ∷ xs) = grind (arith, remove_key-map xs)
 
   -- by an equality of what is seen
   module _ (eq : Y → Y → Bool) where
-    apart-map : (x : X) (xs : List X) → AllByRecursion (λ y. on f eq x y ≡ false) xs
-        → AllByRecursion (λ y. eq (f x) y ≡ false) (map f xs)
+    apart-map : (x : X) (xs : List X) → AllByRecursion (λ y. on f eq x y ≡ false) xs → AllByRecursion (λ y. eq (f x) y ≡ false) (map f xs)
     apart-map x [] apart = tt
     apart-map x (y ∷ xs) apart = (apart.0, apart-map x xs apart.1)
 
@@ -43,21 +40,15 @@ module _ {X Y : Type 0} (f : X → Y) where
     pub distinct-from_map : (xs : List X) → IsDistinct eq (map f xs) → IsDistinct (on f eq) xs
     unfolding IsDistinct
     distinct-from_map [] distinct = tt
-    distinct-from_map (x ∷ xs) distinct =
-        (apart-from_map x xs distinct.0, distinct-from_map xs distinct.1)
+    distinct-from_map (x ∷ xs) distinct = (apart-from_map x xs distinct.0, distinct-from_map xs distinct.1)
 
-    within-map : (a b : List X)
-        → list_all (λ x. list_any (eq x) (map f b))
-        (map f a) ≡ list_all (λ x. list_any (on f eq x) b) a
-    within-map a b = list_all-map _ f a
-        ∙ ap (λ test. list_all test a) (λ i x. any-map (eq (f x)) b i)
+    within-map : (a b : List X) → list_all (λ x. list_any (eq x) (map f b)) (map f a) ≡ list_all (λ x. list_any (on f eq x) b) a
+    within-map a b = list_all-map _ f a ∙ ap (λ test. list_all test a) (λ i x. any-map (eq (f x)) b i)
 
-    pub equal_items-map : (a b : List X)
-        → have_equal_items eq (map f a) (map f b) ≡ have_equal_items (on f eq) a b
+    pub equal_items-map : (a b : List X) → have_equal_items eq (map f a) (map f b) ≡ have_equal_items (on f eq) a b
     equal_items-map a b = λ i. within-map a b i && within-map b a i
 
   pub printed-map : (text : Y → Option (List ℕ)) (lead : List ℕ) (xs : List X)
       → debug_items text lead (map f xs) ≡ debug_items (λ x. text (f x)) lead xs
   printed-map text lead [] = refl
-  printed-map text lead (x ∷ xs) =
-      ap (λ rest. Some lead ++? text (f x) ++? rest) (printed-map text comma_space xs)
+  printed-map text lead (x ∷ xs) = ap (λ rest. Some lead ++? text (f x) ++? rest) (printed-map text comma_space xs)

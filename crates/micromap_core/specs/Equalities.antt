@@ -1,4 +1,6 @@
 -- What a law requires of an equality, and of a test of keys. A search finds the words by their names: none unfolds.
+-- They stand in the place of the records, whose fields a search could try at each key. In a trial with three laws about the
+-- records, each goal was proved that is proved with the words.
 use Rattle.std.specs.Prelude.{◌≡◌, Bool, true}
 use Rattle.std.specs.Cmp.{IsEquivalence}
 

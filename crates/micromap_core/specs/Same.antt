@@ -24,6 +24,7 @@ module _ {K V : Type 0} (eq : K → K → Bool) (same : V → V → Bool) where
   abbrev pub is_same : List (K × V) → List (K × V) → Bool
   is_same = have_equal_items pair_eq
 
+  -- each pair of either list has an equal key with an equal value in the other
   abbrev pub Same : List (K × V) → List (K × V) → Type 0
   Same = HaveEqualItems pair_eq
 

@@ -64,7 +64,7 @@ module _ {K V E : Type 0} (eq : K → K → Bool) (N : ℕ) (old new : Stream (K
     pub many : N < distinct_count eq (keys_of (before ++ item ∷ []))
     pub faultless : Faultless (λ s. s.faults) (λ s. s.last_fault) old new
 
-  -- a reading of a map: what it returns says how far it came
+  -- a reading of a map: `build` of the entries if all fit, else the first fault, or `TooMany` at the first that doesn't fit
   abbrev pub MapReads : Result (List (K × V)) (ReadFault E) → Type 0
   MapReads (Ok map) = ReadsWhole map
   MapReads (Err (Source fault)) = ReadsToFault fault

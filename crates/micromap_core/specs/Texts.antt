@@ -18,17 +18,19 @@ texts_by bytes_of value_of pairs = map (λ p. (bytes_of p.0, value_of p.1)) pair
 unfoldable pub items_by : {T : Type 0} → (T → List ℕ) → List T → List (List ℕ)
 items_by bytes_of items = map bytes_of items
 
--- of `String`: the keys by their bytes and the values as they are, both by their bytes, and a set's items
+-- the pairs with each `String` key as its bytes
 abbrev pub key_texts : {Z V : Type 0} → List (String Z × V) → List (List ℕ × V)
 key_texts pairs = texts_by string_bytes (λ v. v) pairs
 
+-- the pairs with each `String` key and each `String` value as its bytes
 abbrev pub texts : {Y Z : Type 0} → List (String Y × String Z) → List (List ℕ × List ℕ)
 texts pairs = texts_by string_bytes string_bytes pairs
 
+-- a set's `String` items, each as its bytes
 abbrev pub item_texts : {Z : Type 0} → List (String Z) → List (List ℕ)
 item_texts items = items_by string_bytes items
 
--- of `&str`, likewise
+-- of `&str`, the keys by their bytes and the values as they are, both by their bytes, and a set's items
 abbrev pub key_strs : {V : Type 0} → List (Bor (List ℕ) × V) → List (List ℕ × V)
 key_strs pairs = texts_by (λ s. s.now) (λ v. v) pairs
 

@@ -11,7 +11,6 @@ pub enum InsertError<P> {
     Full(P),
 }
 
-/// It prints `the key is stored already`, or `the key is new, and there is no room for it`, of an item too.
 impl<P> fmt::Display for InsertError<P> {
     ghost use Rattle.micromap_core.specs.Print.{insert_error_text};
 

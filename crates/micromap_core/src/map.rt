@@ -25,12 +25,16 @@ use micromap_walk::hint;
 pub use micromap_walk::{Drain, IntoIter, IntoKeys, IntoValues, Iter, Keys, Values};
 use std::marker::Model;
 
-/// A map of at most `N` pairs with pairwise unequal keys, which are found by `==`, from the front.
+/// A map of at most `N` pairs with distinct keys, which are found by `==`, from the front.
 ///
 /// A contract sees it as the list of its pairs, from front to end. All `N` slots are part of the value, so no call
-/// allocates memory of its own. A *scan* compares the keys from the front, each at most once. Before that it compares all
-/// of them if there are 16 slots or more, of at most 4 bytes each, as for bytes. How many keys are compared isn't proved.
-/// What `get_counted` and `eq_with_counted` add to their counter is.
+/// allocates memory of its own.
+///
+/// A *scan* compares the keys from the front, each at most once. If there are 32 slots or more, of at most 4 bytes each,
+/// as for `u8`, it first compares all keys, except in a call by probe that only reads. Unless its text says otherwise, a
+/// call that takes a key or a probe makes one scan, one that takes an iterator makes one for each item, and any other
+/// compares no key. How many keys are compared isn't proved. What `get_counted` and `eq_with_counted` add to their
+/// counter is.
 ///
 /// ```
 /// let mut ages: Map<&str, u8, 2> = Map::new();
@@ -55,13 +59,7 @@ impl<K: Eq, V, const N: usize> Model for Map<K, V, N> {
 }
 
 impl<K: Eq, V, const N: usize> Map<K, V, N> {
-    /// Creates an empty map.
-    ///
-    /// ```
-    /// let map: Map<u8, char, 4> = Map::new();
-    /// assert!(rt; map.is_empty());
-    /// assert_eq!(rt; map.capacity(), 4);
-    /// ```
+    /// Creates an empty map, as `Map::default` does.
     #[inline]
     pub fn new() -> Self
         ensures answer { result ≡ [] }
@@ -73,11 +71,6 @@ impl<K: Eq, V, const N: usize> Map<K, V, N> {
     }
 
     /// Creates an empty map. Requires that `capacity` is `N`.
-    ///
-    /// ```
-    /// let map: Map<u8, char, 4> = Map::with_capacity(4);
-    /// assert!(rt; map.is_empty());
-    /// ```
     #[inline]
     pub fn with_capacity(capacity: usize) -> Self
         requires { capacity ≡ N }
@@ -90,9 +83,8 @@ impl<K: Eq, V, const N: usize> Map<K, V, N> {
 
     /// Returns the number of pairs.
     ///
-    /// The clause `content` states three facts of the map: no two keys are equal, there are at most `N` pairs, and the
-    /// equality of keys is lawful (reflexive, symmetric and transitive). A call that makes a map states them of the result,
-    /// and one that changes the map itself of the map before and after.
+    /// The clause `content` states three facts of the map: its keys are distinct (no two are equal), there are at most `N`
+    /// pairs, and the equality of keys is lawful (reflexive, symmetric and transitive).
     ///
     /// ```
     /// let mut map: Map<u8, char, 4> = Map::new();
@@ -109,13 +101,6 @@ impl<K: Eq, V, const N: usize> Map<K, V, N> {
     }
 
     /// Returns `true` if the map has no pairs.
-    ///
-    /// ```
-    /// let mut map: Map<u8, char, 4> = Map::new();
-    /// assert!(rt; map.is_empty());
-    /// map.put(1, 'a');
-    /// assert!(rt; !map.is_empty());
-    /// ```
     #[inline]
     pub fn is_empty(&self) -> bool
         ensures answer { result ≡ (length self.now == 0) }
@@ -124,12 +109,6 @@ impl<K: Eq, V, const N: usize> Map<K, V, N> {
     }
 
     /// Returns the greatest number of pairs, which is `N`.
-    ///
-    /// ```
-    /// let mut map: Map<u8, char, 4> = Map::new();
-    /// map.put(1, 'a');
-    /// assert_eq!(rt; map.capacity(), 4);
-    /// ```
     #[inline]
     pub fn capacity(&self) -> usize
         ensures { result ≡ N }
@@ -140,13 +119,6 @@ impl<K: Eq, V, const N: usize> Map<K, V, N> {
 
 impl<K: Eq + Drop, V: Drop, const N: usize> Map<K, V, N> {
     /// Removes and drops every pair.
-    ///
-    /// ```
-    /// let mut map = Map::from([(1, 'a'), (2, 'b')]);
-    /// map.clear();
-    /// assert!(rt; map.is_empty());
-    /// assert!(rt; map.put(3, 'c'));
-    /// ```
     pub fn clear(&mut self)
         ensures emptied { self.new ≡ [] }
         ensures content { AreContents K.eq N self.old self.new }
@@ -159,11 +131,6 @@ impl<K: Eq, V, const N: usize> Default for Map<K, V, N> {
     ghost is_default = { λ m. (m ≡ []) × IsContent K.eq N m };
 
     /// Creates an empty map.
-    ///
-    /// ```
-    /// let map: Map<u8, char, 4> = Map::default();
-    /// assert!(rt; map.is_empty());
-    /// ```
     fn default() -> Self {
         Map::new()
     }

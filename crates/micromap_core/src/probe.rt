@@ -7,7 +7,7 @@ ghost use Rattle.micromap_core.specs.Probe.{alike, equal, is_str, is_text};
 /// A value by which a stored key can be found.
 ///
 /// An implementation says which keys it matches, and proves two laws: equal keys match alike, and two keys that match
-/// are equal. So at most one stored key matches, and a map's calls by probe act on that key.
+/// are equal. So at most one stored key matches.
 ///
 /// ```
 /// assert!(rt; Text("Ada").matches(&"Ada"));

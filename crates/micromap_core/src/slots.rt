@@ -35,16 +35,6 @@ impl<T, const N: usize> Model for Slots<T, N> {
 }
 
 impl<T, const N: usize> Slots<T, N> {
-    /// Creates an empty list.
-    #[inline]
-    pub(crate) fn new() -> Self
-        ensures { result ≡ [] }
-    {
-        Slots {
-            slots: ArrayVec::new(),
-        }
-    }
-
     /// Returns the number of items.
     #[inline]
     pub(crate) fn len(&self) -> usize

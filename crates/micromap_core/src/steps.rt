@@ -3,10 +3,7 @@ ghost use Rattle.std.specs.Prelude.{◌≡◌, ℕ, ◌+◌, ◌*◌, ◌^◌, �
 
 use std::marker::Model;
 
-/// Counts comparisons of keys.
-///
-/// A contract sees it as their number. `Map::get_counted` and `Map::eq_with_counted` compare keys by `same`. What each
-/// call adds to the number is proved.
+/// Counts comparisons of keys. A contract sees it as their number.
 #[derive(Debug, Drop)]
 pub struct Steps {
     counted: u128,

@@ -76,7 +76,6 @@ pub enum ReadFault<E> {
     TooMany,
 }
 
-/// It prints `the source failed: ` and the source's error, or `a pair has a new key, and there is no room for it`.
 impl<E: fmt::Display> fmt::Display for ReadFault<E> {
     ghost output = { read_fault_text E.output };
 

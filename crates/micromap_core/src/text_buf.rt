@@ -15,10 +15,10 @@ use std::cmp::Ordering;
 use std::fmt;
 use std::marker::Model;
 
-/// An owned text, for a key, a value or an item: to [`Text`] what `String` is to `&str`. A contract sees it as its bytes.
+/// An owned text, for a key, a value or an item, which a call by probe finds by `&Text(..)`. A contract sees it as its
+/// bytes.
 ///
-/// Its clone is the same value, so a map or a set of texts has the contracts of one of numbers. A call by probe finds it
-/// by `&Text(..)`.
+/// Its clone is the same value, so a map or a set of texts has the contracts of one of numbers.
 ///
 /// ```
 /// let name: TextBuf = String::from_str(alloc, "Ada")?.into();
@@ -39,14 +39,7 @@ impl Model for TextBuf {
 }
 
 impl TextBuf {
-    /// Returns a copy of a text.
-    ///
-    /// The result is `Err` only if memory is refused.
-    ///
-    /// ```
-    /// let name = TextBuf::new(alloc, "Ada")?;
-    /// assert_eq!(rt; name.as_str(), "Ada");
-    /// ```
+    /// Returns a copy of a text, or `Err` if memory is refused.
     pub fn new(alloc: Global, text: &str) -> Result<TextBuf, AllocError>
         ensures { IfOk result (λ new. new ≡ text.now) }
     {
@@ -55,11 +48,6 @@ impl TextBuf {
     }
 
     /// Returns the text as a `&str`.
-    ///
-    /// ```
-    /// let name = TextBuf::new(alloc, "Ada")?;
-    /// assert!(rt; name.as_str().starts_with("A"));
-    /// ```
     pub fn as_str(&self) -> &str
         ensures { result.now ≡ self.now }
     {
@@ -67,11 +55,6 @@ impl TextBuf {
     }
 
     /// Returns the text as a `String`, without a copy.
-    ///
-    /// ```
-    /// let name = TextBuf::new(alloc, "Ada")?.into_string();
-    /// assert_eq!(rt; name.as_str(), "Ada");
-    /// ```
     pub fn into_string(self) -> String
         ensures { string_bytes result ≡ self }
     {
@@ -92,11 +75,6 @@ impl TextBuf {
     }
 
     /// Returns `true` if the text is empty.
-    ///
-    /// ```
-    /// assert!(rt; TextBuf::new(alloc, "")?.is_empty());
-    /// assert!(rt; !TextBuf::new(alloc, "Ada")?.is_empty());
-    /// ```
     pub fn is_empty(&self) -> bool
         ensures { result ≡ (length self.now == 0) }
     {
@@ -104,12 +82,6 @@ impl TextBuf {
     }
 
     /// Returns `true` if this is the text.
-    ///
-    /// ```
-    /// let name = TextBuf::new(alloc, "Ada")?;
-    /// assert!(rt; name.is("Ada"));
-    /// assert!(rt; !name.is("ada"));
-    /// ```
     pub fn is(&self, text: &str) -> bool
         ensures { result ≡ bytes_eq self.now text.now }
     {

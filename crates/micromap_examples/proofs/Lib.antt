@@ -1,7 +1,5 @@
-pub mod AffectedLemmas
 mod HeadLemmas
 pub mod OrderLemmas
 pub mod ReachLemmas
 mod RecencyLemmas
 pub mod ScopeLemmas
-mod UseLemmas

@@ -3,7 +3,7 @@ use Rattle.std.proofs.Common.{◌≡◌, ℕ, ℤ, List, [], ◌∷◌, ◌++◌
 use Rattle.std.proofs.lemmas.Grind.{common_steps}
 use Rattle.std.specs.Option.{option_or}
 use Rattle.micromap.specs.Pairs.{at, has, put}
-use Rattle.micromap_examples.specs.Scopes.{assigned, visible}
+use Rattle.micromap_examples.specs.Frame.{assigned, visible}
 
 pub visible_last : (scopes : List (List (ℕ × ℤ))) (inner : List (ℕ × ℤ)) (name : ℕ) → visible (scopes ++ inner ∷ []) name ≡ option_or (at nat_eq inner name) (visible scopes name)
 visible_last [] inner name = grind (arith, common_steps)

@@ -5,5 +5,3 @@ pub mod Headers
 pub mod Heads
 pub mod Order
 pub mod Recency
-pub mod Scopes
-pub mod Uses

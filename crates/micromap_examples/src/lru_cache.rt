@@ -7,9 +7,8 @@ ghost use Rattle.std.specs.Borrow.{sem};
 ghost use Rattle.std.specs.Map.Iter.{ShowsInOrder, deref_pair};
 ghost use Rattle.std.specs.Option.{option_copied};
 ghost use Rattle.micromap.specs.Pairs.{IsContent, at, fits, has, take_out};
-ghost use Rattle.micromap_examples.specs.Recency.{displaced, put_last, used};
+ghost use Rattle.micromap_examples.specs.Recency.{displaced, last_keys, put_last, used, uses};
 ghost use Rattle.micromap_examples.specs.CacheLends.{ends_as};
-ghost use Rattle.micromap_examples.specs.Uses.{last_keys, uses};
 
 use micromap::Map;
 use micromap::map::Iter;
@@ -129,7 +128,7 @@ impl<K: Eq + Drop, V: Drop, const N: usize> LruCache<K, V, N> {
 impl<K: Eq + Copy, V: Copy, const N: usize> LruCache<K, V, N> {
     /// Makes the calls one after the other.
     ///
-    /// The cache then has the last `N` different keys that were used, in the order of their last use. What it had before
+    /// The cache then has the last `N` distinct keys that were used, in the order of their last use. What it had before
     /// counts as used in its order. A `get` of a key that isn't there uses none.
     pub fn run(&mut self, calls: &[Call<K, V>])
         ensures { self.new ≡ last_keys K.eq N (uses K.eq N self.old calls.now) }

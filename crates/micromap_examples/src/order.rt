@@ -101,7 +101,7 @@ fn next_affected<const D: usize, const N: usize>(
 }
 
 // Returns `true` if one of those that are needed is the target, or was met.
-#[tactic(auto, using(crate::proofs::AffectedLemmas::any_touched))]
+#[tactic(auto, using(crate::proofs::OrderLemmas::any_touched))]
 fn needs_met<const D: usize, const N: usize>(
     needs: &Set<u8, D>,
     target: u8,

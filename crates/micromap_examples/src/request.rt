@@ -2,7 +2,7 @@
 //! names came, but for those of some names.
 //!
 //! Names are written in small letters, and the values of a name that comes again behind the first, after a comma. A head
-//! that isn't well formed, has more than 8,192 bytes, 100 fields or 32 names, has no `host`, or has two different values of
+//! that isn't well formed, has more than 8,192 bytes, 100 fields or 32 names, has no `host`, or has two distinct values of
 //! `host` or `content-length`, is a fault.
 #![tactic(auto)]
 

@@ -2,7 +2,7 @@
 ghost use Rattle.std.specs.Prelude.{◌≡◌, ◌↔◌, ◌∷◌, ◌++◌, [], IfErr, IfOk, IsNone, is_some};
 ghost use Rattle.std.specs.Option.{option_to_list};
 ghost use Rattle.std.specs.Vec.{vec_items};
-ghost use Rattle.micromap_examples.specs.Scopes.{assigned, visible};
+ghost use Rattle.micromap_examples.specs.Frame.{assigned, visible};
 
 use crate::frame::{Frame, update};
 use micromap::Map;

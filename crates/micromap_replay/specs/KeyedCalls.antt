@@ -8,10 +8,10 @@ use Rattle.micromap_testing.specs.declared.marked.Marked.{Marked}
 use Rattle.micromap_replay.specs.declared.answer.Answer.{Answer}
 use Rattle.micromap_replay.specs.declared.answer.Answer.TheVariants.{Refused, Vacant, Occupied, Truth, Value, Key, Pair, MaybeValue, MaybePair, Checked}
 use Rattle.micromap_replay.specs.declared.answer.Pair as answer_pair
-use Rattle.micromap_replay.specs.declared.calls.map.KeyedCall.{KeyedCall}
-use Rattle.micromap_replay.specs.declared.calls.map.KeyedCall.TheVariants.{Insert, InsertKeyValue, CheckedInsert, Get, GetKeyValue, ContainsKey, GetMut, Remove, RemoveEntry, Index}
-use Rattle.micromap_replay.specs.declared.calls.map.EntryCall.{EntryCall}
-use Rattle.micromap_replay.specs.declared.calls.map.EntryCall.TheVariants.{OrInsert, AndModifyOrInsert, InsertEntry, OccupiedInsert, OccupiedRemove, OccupiedRemoveEntry, VacantInsert, VacantIntoKey}
+use Rattle.micromap_replay.specs.declared.calls.KeyedCall.{KeyedCall}
+use Rattle.micromap_replay.specs.declared.calls.KeyedCall.TheVariants.{Insert, InsertKeyValue, CheckedInsert, Get, GetKeyValue, ContainsKey, GetMut, Remove, RemoveEntry, Index}
+use Rattle.micromap_replay.specs.declared.calls.EntryCall.{EntryCall}
+use Rattle.micromap_replay.specs.declared.calls.EntryCall.TheVariants.{OrInsert, AndModifyOrInsert, InsertEntry, OccupiedInsert, OccupiedRemove, OccupiedRemoveEntry, VacantInsert, VacantIntoKey}
 
 -- keys are equal where their ids are
 abbrev pub same_id : Marked → Marked → Bool

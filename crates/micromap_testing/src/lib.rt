@@ -6,17 +6,15 @@
 
 mod calls;
 mod counted;
-mod lists;
+mod expected;
 mod marked;
 mod refusing;
 mod report;
 mod rows;
-mod texts;
 
 pub use calls::{Call, lockstep};
 pub use counted::{Counted, Counts, counted_map, counted_set, drops_all};
-pub use lists::{gives, holds};
+pub use expected::{debugs, displays, gives, holds};
 pub use marked::{Digit, Id, Marked};
 pub use refusing::Refusing;
 pub use rows::run_rows;
-pub use texts::{debugs, displays};

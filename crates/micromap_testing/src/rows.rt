@@ -5,15 +5,10 @@ ghost use Rattle.std.specs.Io.KnownBytes.{Appends};
 ghost use Rattle.std.specs.List.{flat_map};
 ghost use Rattle.micromap_testing.specs.Rows.{ok_line};
 
-mod built;
 mod compared;
-mod counted;
-mod json;
-mod keyed;
-mod operations;
+mod maps;
 mod sets;
 mod streamed;
-mod walked;
 
 use crate::report::write_rows;
 use std::alloc::Global;
@@ -38,38 +33,38 @@ pub fn run_rows<W: Write>(alloc: Global, out: &mut W) -> u8
 // Returns whether the values of the row with this number came out. A row that finds no memory is wrong.
 fn is_ok(alloc: Global, number: usize) -> bool {
     match number {
-        1 => keyed::row_1(),
-        2 => keyed::row_2(),
-        3 => keyed::row_3(),
+        1 => maps::row_1(),
+        2 => maps::row_2(),
+        3 => maps::row_3(),
         4 => compared::row_4(),
         5 => compared::row_5(),
         6 => compared::row_6(),
-        7 => keyed::row_7(),
+        7 => maps::row_7(),
         8 => sets::row_8(),
-        9 => walked::row_9(),
-        10 => walked::row_10(),
-        11 => built::row_11(),
-        12 => keyed::row_12(),
-        13 => walked::row_13(),
+        9 => maps::row_9(),
+        10 => maps::row_10(),
+        11 => maps::row_11(),
+        12 => maps::row_12(),
+        13 => maps::row_13(),
         14 => sets::row_14(),
-        15 => operations::row_15(),
+        15 => sets::row_15(),
         16 => sets::row_16(),
         17 => sets::row_17(alloc),
-        18 => json::row_18(alloc).unwrap_or(false),
-        19 => counted::row_19(),
+        18 => streamed::row_18(alloc).unwrap_or(false),
+        19 => compared::row_19(),
         20 => compared::row_20(),
-        21 => operations::row_21(),
-        22 => operations::row_22(alloc).unwrap_or(false),
-        23 => operations::row_23().unwrap_or(false),
-        24 => keyed::row_24(alloc).unwrap_or(false),
+        21 => sets::row_21(),
+        22 => sets::row_22(alloc).unwrap_or(false),
+        23 => sets::row_23().unwrap_or(false),
+        24 => maps::row_24(alloc).unwrap_or(false),
         25 => streamed::row_25(),
         26 => streamed::row_26(),
-        27 => json::row_27(alloc).unwrap_or(false),
-        28 => built::row_28(),
-        29 => walked::row_29(),
-        30 => walked::row_30(),
+        27 => streamed::row_27(alloc).unwrap_or(false),
+        28 => maps::row_28(),
+        29 => maps::row_29(),
+        30 => maps::row_30(),
         31 => compared::row_31(),
-        32 => counted::row_32(),
+        32 => compared::row_32(),
         _ => false,
     }
 }

@@ -1,1 +1,4 @@
+pub mod ExchangeLaws
 pub mod PermissionLaws
+pub mod ValueLaws
+pub mod WordLaws

@@ -1,3 +1,4 @@
 pub mod Graphs
 pub mod Permissions
 pub mod Signed
+pub mod Words

@@ -12,8 +12,9 @@ ghost use Rattle.micromap.specs.Pairs.{at, has};
 use micromap::Map;
 
 /// Puts pairs into a map in a loop, until one doesn't fit.
-/// If it returns `false`, the map and the list have more than `N` different keys together. Of the map the contract says
+/// If it returns `false`, the map and the list have more than `N` distinct keys together. Of the map the contract says
 /// nothing then.
+#[tactic(auto, using(micromap::proofs::Rules::loops))]
 pub fn put_each<K: Eq + Copy + Drop, const N: usize>(
     map: &mut Map<K, u8, N>,
     items: &[(K, u8)],
@@ -33,6 +34,7 @@ pub fn put_each<K: Eq + Copy + Drop, const N: usize>(
 /// Puts a map over another, all or nothing.
 /// It returns `false`, and nothing changes, exactly if they don't all fit. By `is_ok()` the search finds no proof of keys
 /// of any type.
+#[tactic(auto)]
 pub fn put_over<K: Eq + Copy, V: Copy, const N: usize, const M: usize>(
     map: &mut Map<K, V, N>,
     other: &Map<K, V, M>,
@@ -64,8 +66,9 @@ pub fn count_votes<const N: usize>(votes: &[u8]) -> Option<Map<u8, usize, N>>
     Some(counts)
 }
 
-/// Counts the different keys of a list, in a local map, which has to fit in memory.
+/// Counts the distinct keys of a list, in a local map, which has to fit in memory.
 /// The contract says only that they are at most `N`. For numbers `requires { N ≤ 1000 }` serves, and for a set `SetFits`.
+#[tactic(auto)]
 pub fn count_keys<K: Eq + Copy, V: Copy, const N: usize>(pairs: &[(K, V)]) -> Option<usize>
     requires { MapFits K.row V.row N.row K.eq }
     ensures { IfSome result (λ count. count ≤ N) }
@@ -93,6 +96,7 @@ pub fn first_drained<K: Eq + Drop, V: Drop, const N: usize>(
 
 /// Copies the pairs whose keys another map lacks, by a closure that says what it returns.
 /// In its clauses `other.entry.now` is the map behind a captured reference.
+#[tactic(auto, using(micromap_core::proofs::Laws::LoopLaws::closure_laws))]
 pub fn lacking_any<const N: usize, const M: usize>(
     pairs: &Map<u8, u32, N>,
     other: &Map<u8, u32, M>,

@@ -1,7 +1,7 @@
 //! Changing a map or a set in place.
-#![tactic(auto, using(micromap::proofs::Rules::caller))]
+#![tactic(auto, using(micromap::proofs::Rules::calls))]
 
-ghost use Rattle.std.specs.Prelude.{◌≡◌, ◌&&◌, ◌*◌, ◌-◌, ◌<◌, ◌^◌, ◌≤◌, ◌↔◌, [], IfSome, IsFalse, IsNone, IsTrue, None, Some, count_by, drop, filter, if◌then◌else◌, length, map, min, nat_eq, nat_le, nat_lt, not, slice_get};
+ghost use Rattle.std.specs.Prelude.{◌≡◌, ◌&&◌, ◌*◌, ◌-◌, ◌<◌, ◌^◌, ◌≤◌, ◌↔◌, [], IfSome, IsFalse, IsNone, IsTrue, None, Some, count_by, drop, filter, if◌then◌else◌, length, map, min, nat_eq, nat_le, nat_lt, not, slice_get, true};
 ghost use Rattle.std.specs.Bool.{OnTrue};
 ghost use Rattle.std.specs.List.{All, Contains, list_all};
 ghost use Rattle.std.specs.Map.{values_of};
@@ -36,6 +36,18 @@ pub fn tick(timers: &mut Map<u8, u8, 16>)
 {
     timers.update_all(|_, turns| *turns = turns.saturating_sub(1));
     timers.retain(|_, turns| *turns > 0);
+}
+
+/// Sets a value that is within a limit, so that a bound of all values is kept.
+/// It returns whether it did, and else changes nothing. The law that a `put` keeps the bound is in the line `tactic`.
+#[tactic(auto, using(micromap_core::proofs::Laws::MapLaws::map_laws, crate::proofs::ValueLaws::all_values_put))]
+pub fn set_within(levels: &mut Map<u8, u8, 16>, key: u8, level: u8) -> bool
+    requires { list_all (λ v. nat_le v 100) (values_of levels.old) ≡ true }
+    ensures bounded { list_all (λ v. nat_le v 100) (values_of levels.new) ≡ true }
+    ensures answer { result ≡ (nat_le level 100 && fits nat_eq 16 levels.old key) }
+    ensures levels { levels.new ≡ (if result then put nat_eq levels.old key level else levels.old) }
+{
+    level <= 100 && levels.checked_insert(key, level).is_some()
 }
 
 // Returns whether each amount times a factor fits.

@@ -1,5 +1,5 @@
 //! Counting, adding up, and totals by key.
-#![tactic(auto, using(micromap::proofs::Rules::caller))]
+#![tactic(auto, using(micromap::proofs::Rules::calls))]
 
 ghost use Rattle.std.specs.Prelude.{◌≡◌, ◌↔◌, ◌&&◌, ◌+◌, ◌-◌, ◌<◌, ◌^◌, ◌≤◌, ℕ, [], IfSome, IsFalse, IsNone, None, Option, Some, count_by, fold, if◌then◌else◌, length, nat_eq, nat_lt, sum, unwrap_or};
 ghost use Rattle.std.specs.Bool.{OnTrue};
@@ -21,7 +21,7 @@ fn all_counts(list: &[u8]) -> Option<Map<u8, usize, 16>>
     Map::counts_of(list.iter().map(|x| *x))
 }
 
-/// Counts how often each item of a list comes, or returns `None` exactly if there are more than 16 different ones.
+/// Counts how often each item of a list comes, or returns `None` exactly if there are more than 16 distinct ones.
 /// What a function makes of those that pass goes the same way, by `filter` and another `map`. A list of `&str` is counted
 /// by `count_words`.
 pub fn counts_or_none(list: &[u8]) -> Option<Map<u8, usize, 16>>

@@ -1,5 +1,5 @@
 //! Asking, and finding what is stored.
-#![tactic(auto, using(micromap::proofs::Rules::caller))]
+#![tactic(auto, using(micromap::proofs::Rules::calls))]
 
 ghost use Rattle.std.specs.Prelude.{◌≡◌, ◌+◌, ◌-◌, ◌==◌, IfSome, IsFalse, IsNone, IsTrue, Some, length, max, nat_eq, nat_lt, not, slice_get, unwrap_or};
 ghost use Rattle.std.specs.List.{find, list_all, list_any, range_with_len, reduce};

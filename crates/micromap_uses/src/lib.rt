@@ -14,3 +14,4 @@ pub mod passing;
 pub mod registers;
 pub mod scopes;
 pub mod texts;
+pub mod words;

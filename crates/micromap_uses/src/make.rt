@@ -28,7 +28,7 @@ fn whole(list: &[(u8, u8)]) -> Option<Map<u8, u8, 16>>
     Map::from_all(list.iter().map(|p| *p))
 }
 
-/// Makes a map of all pairs of a list, or `None` exactly if they have more than 16 different keys.
+/// Makes a map of all pairs of a list, or `None` exactly if they have more than 16 distinct keys.
 pub fn whole_or_none(list: &[(u8, u8)]) -> Option<Map<u8, u8, 16>>
     ensures made { IfSome result (λ m. m ≡ build nat_eq list.now) }
     ensures refused { IsNone result ↔ (16 < distinct_count nat_eq (keys_of list.now)) }
@@ -59,7 +59,7 @@ fn whole_set(list: &[u8]) -> Option<Set<u8, 16>>
     Set::from_all(list.iter().map(|x| *x))
 }
 
-/// Makes a set of the different items of a list, or `None` exactly if there are more than 16.
+/// Makes a set of the distinct items of a list, or `None` exactly if there are more than 16.
 /// Each stands where it first came.
 pub fn unique(list: &[u8]) -> Option<Set<u8, 16>>
     ensures made { IfSome result (λ s. s ≡ distinct nat_eq list.now) }
@@ -106,7 +106,7 @@ pub fn parted(pairs: &Map<u8, u32, 16>, limit: u32) -> (Map<u8, u32, 16>, Map<u8
 
 /// Copies the pairs that pass into a map of another capacity, or returns an error exactly if they don't all fit.
 /// The error is the copy in the old capacity, of which the contract says nothing. Into a capacity that is known to
-/// be enough the search proves that there is none, as in `outgrow` of `micromap_map_tests/src/tests/capacity.rt`.
+/// be enough the search proves that there is none, as in `outgrow` of `micromap_tests/src/tests/building.rt`.
 pub fn above_in(pairs: &Map<u8, u32, 32>) -> Result<Map<u8, u32, 8>, Map<u8, u32, 32>>
     ensures made { IfOk result (λ m. m ≡ filter (λ p. nat_lt 9 p.1) pairs.now) }
     ensures refused { IsErr result ↔ (8 < length (filter (λ p. nat_lt 9 p.1) pairs.now)) }

@@ -1,7 +1,7 @@
 //! Enums and structs of one's own: as keys or values, as errors, and around a map.
-#![tactic(auto, using(micromap::proofs::Rules::caller))]
+#![tactic(auto, using(micromap::proofs::Rules::calls))]
 
-ghost use Rattle.std.specs.Prelude.{◌≡◌, ◌↔◌, ◌+◌, ◌<◌, ◌==◌, ◌^◌, [], Err, IfSome, IsFalse, IsOk, IsTrue, None, OnErr, OnOk, Option, Some, drop, fold, if◌then◌else◌, nat_eq, nat_lt, unwrap_or, ℕ};
+ghost use Rattle.std.specs.Prelude.{◌≡◌, ◌↔◌, ◌+◌, ◌<◌, ◌==◌, ◌^◌, [], Err, IfOk, IfSome, IsFalse, IsOk, IsTrue, None, OnErr, OnOk, Option, Some, drop, fold, if◌then◌else◌, nat_eq, nat_lt, unwrap_or, ℕ};
 ghost use Rattle.std.proofs.Common.{rules};
 ghost use Rattle.std.proofs.lemmas.Cmp.{nat_eq_equiv};
 ghost use Rattle.std.specs.Bool.{OnTrue};
@@ -10,12 +10,15 @@ ghost use Rattle.std.specs.List.{list_any, zip};
 ghost use Rattle.std.specs.Map.{lookup, values_of};
 ghost use Rattle.std.specs.Option.{option_and_then, option_eq, option_map_or};
 ghost use Rattle.std.specs.Ordering.{on};
+ghost use Rattle.micromap.specs.Clones.{copies_are_equal};
 ghost use Rattle.micromap.specs.Pairs.{at, fits, has, put, put_if_fits};
 ghost use Rattle.micromap.specs.Probe.{alike, equal};
 ghost use Rattle.micromap.specs.Same.{Same};
 ghost use Rattle.micromap_uses.specs.Permissions.{permission_eq};
+ghost use Rattle.micromap_uses.specs.contracts.own_types.AccountEq.TheImpl.Laws.{laws-law};
 
-use micromap::{Map, Probe};
+use micromap::{EqualClone, Map, Probe, TextBuf};
+use std::alloc::AllocError;
 use std::marker::Model;
 
 /// A square of a board.
@@ -106,7 +109,7 @@ pub fn is_held(holders: &Map<u8, Permission, 16>, permission: Permission) -> boo
 /// Finds a key with a certain value of an enum.
 /// Then `get` finds this value at the key. The contract says nothing of `None`. The laws of the derived `==` are in
 /// the line `tactic`.
-#[tactic(auto, using(micromap::proofs::Rules::caller, crate::proofs::PermissionLaws::lawful_permission))]
+#[tactic(auto, using(micromap::proofs::Rules::calls, crate::proofs::PermissionLaws::lawful_permission))]
 pub fn user_with(holders: &Map<u8, Permission, 16>, permission: Permission) -> Option<u8>
     ensures { IfSome result (λ user. at nat_eq holders.now user ≡ Some permission) }
 {
@@ -259,4 +262,38 @@ impl Stock {
         self.set(article, sum);
         self.pieces(article)
     }
+}
+
+/// An account of a bank: a key that isn't `Copy`, since it has a text of its own.
+#[derive(PartialEq, Eq, Drop)]
+pub struct Account {
+    /// The number of the bank.
+    pub bank: u16,
+    /// The name of the holder.
+    pub holder: TextBuf,
+}
+
+/// A clone of an account is the same value.
+impl EqualClone for Account {
+    ghost is_equal_clone = { λ key new. new ≡ key };
+
+    ghost never_fails = { λ _. ⊥ };
+
+    ghost clones_are_equal = { copies_are_equal laws-law };
+
+    fn equal_clone(&self) -> Result<Account, AllocError> {
+        let holder = self.holder.clone()?;
+        Ok(Account {
+            bank: self.bank,
+            holder,
+        })
+    }
+}
+
+/// Clones a map whose keys are of a type of one's own that isn't `Copy`, by the trait `Clone`.
+/// The type says by `EqualClone` what a clone of a key is. With it a map of such maps can be cloned too.
+pub fn cloned_rates(rates: &Map<Account, u32, 16>) -> Result<Map<Account, u32, 16>, AllocError>
+    ensures { IfOk result (λ m. m ≡ rates.now) }
+{
+    Clone::clone(rates)
 }

@@ -1,8 +1,9 @@
 //! What passes a test, what doesn't, and pairs that are exchanged: the keys that pass as a set, and how many pairs went.
-#![tactic(auto, using(micromap::proofs::Rules::caller))]
+#![tactic(auto, using(micromap::proofs::Rules::calls))]
 
-ghost use Rattle.std.specs.Prelude.{◌≡◌, [], IfSome, count_by, filter, fold, map, nat_eq, nat_lt, not};
-ghost use Rattle.std.specs.Map.{keys_of};
+ghost use Rattle.std.specs.Prelude.{◌≡◌, ◌↔◌, ◌<◌, [], IfSome, IsNone, count_by, filter, fold, length, map, nat_eq, nat_lt, not};
+ghost use Rattle.std.specs.Map.{keys_of, values_of};
+ghost use Rattle.std.specs.Set.{distinct_count};
 ghost use Rattle.micromap.specs.Build.{build_or_refuse};
 ghost use Rattle.micromap.specs.Items.{put_item_if_fits};
 
@@ -48,12 +49,15 @@ fn exchanged(codes: &Map<u8, u16, 16>) -> Option<Map<u16, u8, 16>>
     Map::from_all(codes.iter().map(|(k, v)| (*v, *k)))
 }
 
-/// Exchanges key and value, or returns `None` if two values are equal.
+/// Exchanges key and value, or returns `None` exactly if two values are equal.
+#[tactic(auto, using(micromap::proofs::Rules::calls, crate::proofs::ExchangeLaws::count_exchanged))]
 pub fn inverted(codes: &Map<u8, u16, 16>) -> Option<Map<u16, u8, 16>>
-    ensures { IfSome result (λ m. m ≡ map (λ p. (p.1, p.0)) codes.now) }
+    ensures inverted { IfSome result (λ m. m ≡ map (λ p. (p.1, p.0)) codes.now) }
+    ensures refused { IsNone result ↔ (distinct_count nat_eq (values_of codes.now) < length codes.now) }
 {
+    let count = codes.len();
     let inverted = exchanged(codes)?;
-    if inverted.len() == codes.len() {
+    if inverted.len() == count {
         Some(inverted)
     } else {
         None

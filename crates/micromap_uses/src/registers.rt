@@ -1,5 +1,5 @@
 //! A struct of one's own around a map, generic in key and value.
-#![tactic(auto, using(micromap::proofs::Rules::caller))]
+#![tactic(auto, using(micromap::proofs::Rules::calls))]
 
 ghost use Rattle.std.specs.Prelude.{◌≡◌, ◌↔◌, [], length, IsTrue};
 ghost use Rattle.std.specs.Option.{option_copied};
@@ -33,7 +33,7 @@ impl<K: Eq, V, const N: usize> Register<K, V, N> {
     }
 
     /// Returns the number of values.
-    /// A caller knows from this call that keys are unequal and fit, as from `len` of a map.
+    /// A caller knows from this call that keys are distinct and fit, as from `len` of a map.
     pub fn len(&self) -> usize
         ensures answer { result ≡ length self.now }
         ensures content { IsContent K.eq N self.now }

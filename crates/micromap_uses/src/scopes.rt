@@ -1,5 +1,5 @@
 //! Scopes of variables: a slice of maps, the innermost first.
-#![tactic(auto, using(micromap::proofs::Rules::caller))]
+#![tactic(auto, using(micromap::proofs::Rules::calls))]
 
 ghost use Rattle.std.specs.Prelude.{◌≡◌, [], IsFalse, List, None, Option, Some, fold, get_or, nat_eq, slice_set, ℕ};
 ghost use Rattle.std.specs.List.{list_any, position};

@@ -130,7 +130,7 @@ fn all_counts<'a>(words: &[&'a str]) -> Option<Map<&'a str, usize, 64>>
     Map::counts_of(words.iter().map(|word| *word))
 }
 
-/// Counts how often each word of a list comes, or returns `None` exactly if there are more than 64 different ones.
+/// Counts how often each word of a list comes, or returns `None` exactly if there are more than 64 distinct ones.
 pub fn count_words<'a>(words: &[&'a str]) -> Option<Map<&'a str, usize, 64>>
     ensures counted { IfSome result (λ m. m ≡ counts str_eq words.now) }
     ensures refused { IsNone result ↔ (64 < distinct_count str_eq words.now) }
@@ -138,7 +138,7 @@ pub fn count_words<'a>(words: &[&'a str]) -> Option<Map<&'a str, usize, 64>>
     all_counts(words)
 }
 
-/// Counts how often each word of a text comes, or returns `None` if there are more than 64 different ones.
+/// Counts how often each word of a text comes, or returns `None` if there are more than 64 distinct ones.
 /// The words are those that `split_whitespace` yields.
 pub fn count_words_in<'a>(text: &'a str) -> Option<Map<&'a str, usize, 64>>
     ensures { (split : _) × (words : _) × (split_whitespace_rest split ≡ text.now) × Drains split_whitespace_steps split words × (result ≡ counts_or_refuse str_eq 64 words) }

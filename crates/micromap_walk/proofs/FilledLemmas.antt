@@ -13,12 +13,10 @@ module _ {X : Type 0} where
   items_of-map (x ∷ xs) = ap (λ ys. x ∷ ys) (items_of-map xs)
 
   -- so slots that are made of items are filled
-  pub AreFilled-from : (slots : List (Option X)) (items : List X) → slots ≡ map Some items
-      → AreFilled slots
+  pub AreFilled-from : (slots : List (Option X)) (items : List X) → slots ≡ map Some items → AreFilled slots
   AreFilled-from slots items made = rw (made, items_of-map) refl
 
-  some_at_made : (items : List X) (i : ℕ) (d : Option X) → i < length items
-      → is_some (get_or (map Some items) i d) ≡ true
+  some_at_made : (items : List X) (i : ℕ) (d : Option X) → i < length items → is_some (get_or (map Some items) i d) ≡ true
   some_at_made [] i d within = absurd (omega arith)
   some_at_made (x ∷ xs) zero d within = refl
   some_at_made (x ∷ xs) (suc i) d within = some_at_made xs i d (omega arith)
@@ -29,29 +27,24 @@ module _ {X : Type 0} where
 
     -- a slot within is filled
     pub some_at : (i : ℕ) (d : Option X) → i < length slots → is_some (get_or slots i d) ≡ true
-    some_at i d within =
-        ap (λ ps. is_some (get_or ps i d)) filled
-        ∙ some_at_made (items_of slots) i d (rw length_filled within)
+    some_at i d within = ap (λ ps. is_some (get_or ps i d)) filled ∙ some_at_made (items_of slots) i d (rw length_filled within)
 
     -- the first slot, and those behind it
     module _ (slot : Option X) (rest : List (Option X)) (parts : slots ≡ slot ∷ rest) where
       pub first_some : is_some slot ≡ true
-      first_some = ap (λ ps. is_some (get_or ps 0 None)) (sym parts)
-          ∙ some_at 0 None (rw parts (omega arith))
+      first_some = ap (λ ps. is_some (get_or ps 0 None)) (sym parts) ∙ some_at 0 None (rw parts (omega arith))
 
       module _ (x : X) (some : slot ≡ Some x) where
         pub rest_filled : AreFilled rest
         rest_filled =
-            let whole : AreFilled (Some x ∷ rest) =
-            subst AreFilled (rw (parts, some) refl) filled in
+            let whole : AreFilled (Some x ∷ rest) = subst AreFilled (rw (parts, some) refl) filled in
             ap (drop 1) whole
 
         pub items_first : items_of slots ≡ x ∷ items_of rest
         items_first = rw (parts, some) refl
 
 -- a list in place of one that is as long
-pub refill_set : {X : Type 0} (xs : List X) (i : ℕ) (y : X)
-    → refill (length xs) xs (set xs i y) ≡ set xs i y
+pub refill_set : {X : Type 0} (xs : List X) (i : ℕ) (y : X) → refill (length xs) xs (set xs i y) ≡ set xs i y
 refill_set xs i y = grind (arith, common_steps)
 
 -- the slot at an index of which on none is empty, and those behind it once it is
@@ -68,22 +61,13 @@ module _ {X : Type 0} (slots : List (Option X)) (i : ℕ) (filled : AreFilled (d
 
   module _ (x : X) (some : slot ≡ Some x) where
     pub taken_items : items_of (drop i slots) ≡ x ∷ items_of (drop (i + 1) (set slots i None))
-    taken_items = items_first (drop i slots) filled slot (drop (i + 1) slots) parts x some
-        ∙ ap (λ l. x ∷ items_of l) (sym emptied)
+    taken_items = items_first (drop i slots) filled slot (drop (i + 1) slots) parts x some ∙ ap (λ l. x ∷ items_of l) (sym emptied)
 
     pub taken_filled : AreFilled (drop (i + 1) (set slots i None))
-    taken_filled = subst AreFilled (sym emptied)
-        (rest_filled (drop i slots) filled slot (drop (i + 1) slots) parts x some)
+    taken_filled = subst AreFilled (sym emptied) (rest_filled (drop i slots) filled slot (drop (i + 1) slots) parts x some)
 
 -- as many items are left of both columns
 pub left_equal : {X Y : Type 0} (front : ℕ) (xs : List (Option X)) (ys : List (Option Y))
     → AreLeft front xs ys → length (items_of (drop front xs)) ≡ length (items_of (drop front ys))
 left_equal front xs ys left =
-    omega (
-      arith,
-      length_filled _ left.keys,
-      length_filled _ left.values,
-      length-drop front xs,
-      length-drop front ys,
-      left.equal,
-    )
+    omega (arith, length_filled _ left.keys, length_filled _ left.values, length-drop front xs, length-drop front ys, left.equal)

@@ -5,8 +5,7 @@ use Rattle.std.specs.Map.{keys_of, values_of}
 
 module _ {K V : Type 0} where
   -- as many pairs as keys
-  pub length_zip : (ks : List K) (vs : List V) → length ks ≡ length vs
-      → length (zip ks vs) ≡ length ks
+  pub length_zip : (ks : List K) (vs : List V) → length ks ≡ length vs → length (zip ks vs) ≡ length ks
   length_zip ks vs same = omega (arith, same, length-zip ks vs)
 
   -- their keys and values are the columns
@@ -17,10 +16,8 @@ module _ {K V : Type 0} where
   values_zip ks vs same = seconds-zip ks vs (sym same)
 
   -- the parts of both
-  pub zip_append : (ks ls : List K) (vs ws : List V) → length ks ≡ length vs
-      → zip (ks ++ ls) (vs ++ ws) ≡ zip ks vs ++ zip ls ws
+  pub zip_append : (ks ls : List K) (vs ws : List V) → length ks ≡ length vs → zip (ks ++ ls) (vs ++ ws) ≡ zip ks vs ++ zip ls ws
   zip_append [] ls [] ws same = refl
   zip_append [] ls (v ∷ vs) ws same = absurd (omega (arith, same))
   zip_append (k ∷ ks) ls [] ws same = absurd (omega (arith, same))
-  zip_append (k ∷ ks) ls (v ∷ vs) ws same =
-      ap (λ l. (k, v) ∷ l) (zip_append ks ls vs ws (omega (arith, same)))
+  zip_append (k ∷ ks) ls (v ∷ vs) ws same = ap (λ l. (k, v) ∷ l) (zip_append ks ls vs ws (omega (arith, same)))

@@ -1,5 +1,5 @@
 //! Workloads on two maps of numbers.
-use crate::inputs::odd;
+use crate::inputs::{in_rounds, odd};
 use crate::numbers::{Numbers, filled};
 use crate::platform::Global;
 
@@ -16,29 +16,23 @@ pub trait Both: Numbers {
 fn compare<M: Both, const N: usize>(memory: Global, salt: u64, rounds: u64) -> u64 {
     let mut first: M = filled::<M, N>(memory, salt);
     let mut second: M = filled::<M, N>(memory, salt);
-    let mut sum = 0u64;
-    for round in 0..rounds {
+    in_rounds!(rounds, |round, sum| {
         let _old = first.put(salt, round);
         let _old = second.put(salt, round);
-        if first.is_same(&second) {
-            sum = sum.wrapping_add(1);
-        }
-    }
-    sum
+        first.is_same(&second) as u64
+    })
 }
 
 // Puts a full map into a new one.
 #[inline(never)]
 fn put_whole<M: Both, const N: usize>(memory: Global, salt: u64, rounds: u64) -> u64 {
     let mut from: M = filled::<M, N>(memory, salt);
-    let mut sum = 0u64;
-    for round in 0..rounds {
+    in_rounds!(rounds, |round, sum| {
         let _old = from.put(salt, odd(round, salt));
         let mut map = M::with_room(memory, N as u64);
         map.put_all(&from);
-        sum = sum.wrapping_add(map.found(salt));
-    }
-    sum
+        map.found(salt)
+    })
 }
 
 /// The names of the workloads, by their numbers.

@@ -1,5 +1,5 @@
 //! Workloads on sets of bytes.
-use crate::inputs::{SEED, below, next, odd};
+use crate::inputs::{below, in_rounds, in_states, odd};
 use crate::platform::{Drop, Global};
 
 /// A set of bytes with room for a few items.
@@ -47,43 +47,26 @@ fn filled<S: Bytes, const N: usize>(salt: u64) -> S {
 #[inline(never)]
 fn contains_miss<S: Bytes, const N: usize>(salt: u64, rounds: u64) -> u64 {
     let set: S = filled::<S, N>(salt);
-    let mut state = SEED;
-    let mut sum = 0u64;
-    for _ in 0..rounds {
-        state = next(state);
-        if set.has(byte(below::<N>(state), salt) | 128) {
-            sum = sum.wrapping_add(1);
-        }
-    }
-    sum
+    in_states!(rounds, |state, sum| set.has(byte(below::<N>(state), salt) | 128) as u64)
 }
 
 #[inline(never)]
 fn fill<S: Bytes, const N: usize>(salt: u64, rounds: u64) -> u64 {
-    let mut sum = 0u64;
-    for round in 0..rounds {
+    in_rounds!(rounds, |round, sum| {
         let first = odd(round, salt);
         let mut set: S = S::empty();
         for index in 0..N as u64 {
             set.put(byte(index.wrapping_mul(first), salt));
         }
-        if set.has(byte(sum, salt)) {
-            sum = sum.wrapping_add(1);
-        }
-        sum = sum.wrapping_add(set.count());
-    }
-    sum
+        (set.has(byte(sum, salt)) as u64).wrapping_add(set.count())
+    })
 }
 
+// Each round has another sum, so that none can be taken over from the one before.
 #[inline(never)]
 fn walk<S: Bytes, const N: usize>(salt: u64, rounds: u64) -> u64 {
     let set: S = filled::<S, N>(salt);
-    let mut sum = 0u64;
-    for round in 0..rounds {
-        // Each round has another sum, so that none can be taken over from the one before.
-        sum = sum.wrapping_add(set.total(round));
-    }
-    sum
+    in_rounds!(rounds, |round, sum| set.total(round))
 }
 
 // Keeps half of the items, from another one on in each round, and puts the others back.
@@ -91,21 +74,18 @@ fn walk<S: Bytes, const N: usize>(salt: u64, rounds: u64) -> u64 {
 fn retain<S: Bytes, const N: usize>(salt: u64, rounds: u64) -> u64 {
     let mut set: S = filled::<S, N>(salt);
     let bit = byte((N as u64) >> 1, 0);
-    let mut state = SEED;
-    let mut sum = 0u64;
-    for _ in 0..rounds {
-        state = next(state);
+    in_states!(rounds, |state, sum| {
         let first = byte(below::<N>(state), 0);
         set.keep_half(first, bit);
-        sum = sum.wrapping_add(set.count());
+        let kept = set.count();
         for index in 0..N as u64 {
             let item = byte(index, salt);
             if item.wrapping_add(first) & bit == 0 {
                 set.put(item);
             }
         }
-    }
-    sum
+        kept
+    })
 }
 
 // A set that has half as many items as there is room for, from another index on.
@@ -123,11 +103,7 @@ fn half_filled<S: Bytes, const N: usize>(from: u64, salt: u64) -> S {
 fn union<S: Bytes, const N: usize>(salt: u64, rounds: u64) -> u64 {
     let first: S = half_filled::<S, N>(0, salt);
     let second: S = half_filled::<S, N>((N as u64) >> 2, salt);
-    let mut sum = 0u64;
-    for _ in 0..rounds {
-        sum = sum.wrapping_add(first.join_and_find(&second, byte(sum, salt)));
-    }
-    sum
+    in_rounds!(rounds, |_round, sum| first.join_and_find(&second, byte(sum, salt)))
 }
 
 // The difference and the intersection of such sets, item by item.
@@ -135,11 +111,7 @@ fn union<S: Bytes, const N: usize>(salt: u64, rounds: u64) -> u64 {
 fn walk_apart_and_common<S: Bytes, const N: usize>(salt: u64, rounds: u64) -> u64 {
     let first: S = half_filled::<S, N>(0, salt);
     let second: S = half_filled::<S, N>((N as u64) >> 2, salt);
-    let mut sum = 0u64;
-    for round in 0..rounds {
-        sum = sum.wrapping_add(first.total_apart_and_common(&second, round));
-    }
-    sum
+    in_rounds!(rounds, |round, sum| first.total_apart_and_common(&second, round))
 }
 
 /// The names of the workloads, by their numbers.

@@ -1,5 +1,30 @@
-//! The numbers and texts that the workloads take. A look-up at one key after the other follows a sequence of states that
-//! no compiler foresees.
+//! The rounds of the workloads, and the numbers and texts that they take. A look-up at one key after the other follows a
+//! sequence of states that no compiler foresees.
+
+// The sum of what each round finds, by its number and the sum so far.
+macro_rules! in_rounds {
+    ($rounds:ident, |$round:ident, $sum:ident| $found:expr) => {{
+        let mut $sum = 0u64;
+        for $round in 0..$rounds {
+            let found = $found;
+            $sum = $sum.wrapping_add(found);
+        }
+        $sum
+    }};
+}
+
+// The same, by the state of each round in the place of its number.
+macro_rules! in_states {
+    ($rounds:ident, |$state:ident, $sum:ident| $found:expr) => {{
+        let mut $state = $crate::inputs::SEED;
+        $crate::inputs::in_rounds!($rounds, |_round, $sum| {
+            $state = $crate::inputs::next($state);
+            $found
+        })
+    }};
+}
+
+pub(crate) use {in_rounds, in_states};
 
 /// The state that each sequence starts from.
 pub const SEED: u64 = 88172645463325252;

@@ -1,5 +1,5 @@
 //! Workloads on maps of numbers.
-use crate::inputs::{SEED, below, beyond, key_of, next, odd, value_of};
+use crate::inputs::{SEED, below, beyond, in_rounds, in_states, key_of, next, odd, value_of};
 use crate::platform::{Drop, Global};
 
 /// A map of numbers with room for a few keys.
@@ -80,76 +80,42 @@ pub fn filled<M: Numbers, const N: usize>(memory: Global, salt: u64) -> M {
 #[inline(never)]
 fn get_hit<M: Numbers, const N: usize>(memory: Global, salt: u64, rounds: u64) -> u64 {
     let map: M = filled::<M, N>(memory, salt);
-    let mut state = SEED;
-    let mut sum = 0u64;
-    for _ in 0..rounds {
-        state = next(state);
-        if let Some(value) = map.find(below::<N>(state) ^ salt) {
-            sum = sum.wrapping_add(value);
-        }
-    }
-    sum
+    in_states!(rounds, |state, sum| map.find(below::<N>(state) ^ salt).unwrap_or(0))
 }
 
 #[inline(never)]
 fn get_miss<M: Numbers, const N: usize>(memory: Global, salt: u64, rounds: u64) -> u64 {
     let map: M = filled::<M, N>(memory, salt);
-    let mut state = SEED;
-    let mut sum = 0u64;
-    for _ in 0..rounds {
-        state = next(state);
-        if map.find(beyond(state)).is_some() {
-            sum = sum.wrapping_add(1);
-        }
-    }
-    sum
+    in_states!(rounds, |state, sum| map.find(beyond(state)).is_some() as u64)
 }
 
 #[inline(never)]
 fn overwrite<M: Numbers, const N: usize>(memory: Global, salt: u64, rounds: u64) -> u64 {
     let mut map: M = filled::<M, N>(memory, salt);
-    let mut state = SEED;
-    let mut sum = 0u64;
-    for _ in 0..rounds {
-        state = next(state);
-        if let Some(old) = map.put(below::<N>(state) ^ salt, state) {
-            sum = sum.wrapping_add(old);
-        }
-    }
-    sum
+    in_states!(rounds, |state, sum| map.put(below::<N>(state) ^ salt, state).unwrap_or(0))
 }
 
 #[inline(never)]
 fn fill<M: Numbers, const N: usize>(memory: Global, salt: u64, rounds: u64) -> u64 {
-    let mut sum = 0u64;
-    for round in 0..rounds {
+    in_rounds!(rounds, |round, sum| {
         let first = odd(round, salt);
         let mut map: M = M::with_room(memory, N as u64);
         for index in 0..N as u64 {
             let _old = map.put(key_of(index, first), round);
         }
-        if map.find(sum).is_some() {
-            sum = sum.wrapping_add(1);
-        }
-        sum = sum.wrapping_add(map.count());
-    }
-    sum
+        (map.find(sum).is_some() as u64).wrapping_add(map.count())
+    })
 }
 
 #[inline(never)]
 fn put_back<M: Numbers, const N: usize>(memory: Global, salt: u64, rounds: u64) -> u64 {
     let mut map: M = filled::<M, N>(memory, salt);
-    let mut state = SEED;
-    let mut sum = 0u64;
-    for _ in 0..rounds {
-        state = next(state);
+    in_states!(rounds, |state, sum| {
         let key = below::<N>(state) ^ salt;
-        if let Some(value) = map.take_out(key) {
-            sum = sum.wrapping_add(value);
-            let _old = map.put(key, value);
-        }
-    }
-    sum
+        let value = map.take_out(key).unwrap_or(0);
+        let _old = map.put(key, value);
+        value
+    })
 }
 
 // Keeps half of the keys, from another one on in each round, and puts the others back.
@@ -157,103 +123,77 @@ fn put_back<M: Numbers, const N: usize>(memory: Global, salt: u64, rounds: u64) 
 fn retain<M: Numbers, const N: usize>(memory: Global, salt: u64, rounds: u64) -> u64 {
     let mut map: M = filled::<M, N>(memory, salt);
     let bit = (N as u64) >> 1;
-    let mut state = SEED;
-    let mut sum = 0u64;
-    for _ in 0..rounds {
-        state = next(state);
+    in_states!(rounds, |state, sum| {
         let first = below::<N>(state);
         map.keep_half(first, bit);
-        sum = sum.wrapping_add(map.count());
+        let kept = map.count();
         for index in 0..N as u64 {
             let key = index ^ salt;
             if key.wrapping_add(first) & bit == 0 {
                 let _old = map.put(key, state);
             }
         }
-    }
-    sum
+        kept
+    })
 }
 
 // Counts four times as many keys as there is room for, from a new map.
 #[inline(never)]
 fn count_keys<M: Numbers, const N: usize>(memory: Global, salt: u64, rounds: u64) -> u64 {
     let mut state = SEED ^ salt;
-    let mut sum = 0u64;
-    for _ in 0..rounds {
+    in_rounds!(rounds, |_round, sum| {
         let mut map: M = M::with_room(memory, N as u64);
         for _ in 0..(N as u64) << 2 {
             state = next(state);
             map.note(below::<N>(state));
         }
-        if let Some(times) = map.find(1) {
-            sum = sum.wrapping_add(times);
-        }
-        sum = sum.wrapping_add(map.count());
-    }
-    sum
+        map.found(1)
+    })
 }
 
 #[inline(never)]
 fn walk<M: Numbers, const N: usize>(memory: Global, salt: u64, rounds: u64) -> u64 {
     let mut map: M = filled::<M, N>(memory, salt);
-    let mut sum = 0u64;
-    for round in 0..rounds {
+    in_rounds!(rounds, |round, sum| {
         let _old = map.put(salt, round);
-        sum = sum.wrapping_add(map.total());
-    }
-    sum
+        map.total()
+    })
 }
 
 #[inline(never)]
 fn cloned<M: Numbers, const N: usize>(memory: Global, salt: u64, rounds: u64) -> u64 {
     let mut map: M = filled::<M, N>(memory, salt);
-    let mut sum = 0u64;
-    for round in 0..rounds {
+    in_rounds!(rounds, |round, sum| {
         let _old = map.put(salt, round);
-        sum = sum.wrapping_add(map.clone_and_find(salt));
-    }
-    sum
+        map.clone_and_find(salt)
+    })
 }
 
 #[inline(never)]
 fn copied<M: Numbers, const N: usize>(memory: Global, salt: u64, rounds: u64) -> u64 {
     let mut map: M = filled::<M, N>(memory, salt);
-    let mut sum = 0u64;
-    for round in 0..rounds {
+    in_rounds!(rounds, |round, sum| {
         let _old = map.put(salt, round);
-        sum = sum.wrapping_add(map.copy_and_find(salt));
-    }
-    sum
+        map.copy_and_find(salt)
+    })
 }
 
 #[inline(never)]
 fn collect<M: Numbers, const N: usize>(memory: Global, salt: u64, rounds: u64) -> u64 {
     let map: M = M::with_room(memory, 0);
-    let mut sum = 0u64;
-    for round in 0..rounds {
-        sum = sum.wrapping_add(map.collect_and_find(memory, N as u64, odd(round, salt), sum));
-    }
-    sum
+    in_rounds!(rounds, |round, sum| map.collect_and_find(memory, N as u64, odd(round, salt), sum))
 }
 
 #[inline(never)]
 fn collect_all<M: Numbers, const N: usize>(memory: Global, salt: u64, rounds: u64) -> u64 {
     let map: M = M::with_room(memory, 0);
-    let mut sum = 0u64;
-    for round in 0..rounds {
-        sum = sum.wrapping_add(map.all_and_find(memory, N as u64, odd(round, salt), sum));
-    }
-    sum
+    in_rounds!(rounds, |round, sum| map.all_and_find(memory, N as u64, odd(round, salt), sum))
 }
 
 #[inline(never)]
 fn from_array<M: Numbers, const N: usize>(memory: Global, salt: u64, rounds: u64) -> u64 {
     let map: M = M::with_room(memory, 0);
-    let mut sum = 0u64;
-    for round in 0..rounds {
-        sum = sum.wrapping_add(map.from_array_and_find(memory, N as u64, odd(round, salt), sum));
-    }
-    sum
+    in_rounds!(rounds, |round, sum| map.from_array_and_find(memory, N as u64, odd(round, salt), sum))
 }
 
 #[inline(never)]
@@ -270,13 +210,11 @@ fn consumed<M: Numbers>(map: M, key: u64) -> u64 {
 
 #[inline(never)]
 fn hand_on<M: Numbers, const N: usize>(memory: Global, salt: u64, rounds: u64) -> u64 {
-    let mut sum = 0u64;
-    for round in 0..rounds {
+    in_rounds!(rounds, |round, sum| {
         let key = round ^ salt;
         let map: M = with_one::<M, N>(memory, key);
-        sum = sum.wrapping_add(consumed(map, key));
-    }
-    sum
+        consumed(map, key)
+    })
 }
 
 /// The names of the workloads, by their numbers.

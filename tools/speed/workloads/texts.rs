@@ -1,5 +1,5 @@
 //! Workloads on maps with texts as keys, looked up by a borrowed text.
-use crate::inputs::{SEED, below, next, value_of, word};
+use crate::inputs::{below, in_rounds, in_states, value_of, word};
 use crate::platform::{Drop, Global};
 
 /// A map from texts to numbers with room for a few keys.
@@ -29,31 +29,18 @@ fn filled<M: Texts, const N: usize>(memory: Global, salt: u64) -> M {
 #[inline(never)]
 fn get_hit<M: Texts, const N: usize>(memory: Global, salt: u64, rounds: u64) -> u64 {
     let map: M = filled::<M, N>(memory, salt);
-    let mut state = SEED;
-    let mut sum = 0u64;
-    for _ in 0..rounds {
-        state = next(state);
-        if let Some(value) = map.find(word(below::<N>(state) ^ salt)) {
-            sum = sum.wrapping_add(value);
-        }
-    }
-    sum
+    in_states!(rounds, |state, sum| map.find(word(below::<N>(state) ^ salt)).unwrap_or(0))
 }
 
 #[inline(never)]
 fn fill<M: Texts, const N: usize>(memory: Global, salt: u64, rounds: u64) -> u64 {
-    let mut sum = 0u64;
-    for round in 0..rounds {
+    in_rounds!(rounds, |round, sum| {
         let mut map: M = M::empty();
         for index in 0..N as u64 {
             map.put(memory, word(index ^ salt), round);
         }
-        if map.find(word(sum ^ salt)).is_some() {
-            sum = sum.wrapping_add(1);
-        }
-        sum = sum.wrapping_add(map.count());
-    }
-    sum
+        (map.find(word(sum ^ salt)).is_some() as u64).wrapping_add(map.count())
+    })
 }
 
 /// The names of the workloads, by their numbers.

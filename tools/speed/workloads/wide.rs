@@ -1,5 +1,5 @@
 //! A workload on maps of numbers to values of 24 bytes.
-use crate::inputs::{SEED, below, next, value_of};
+use crate::inputs::{below, in_states, value_of};
 use crate::platform::{Drop, Global};
 
 /// A map from numbers to wide values with room for a few keys.
@@ -23,15 +23,10 @@ fn filled<M: Wide, const N: usize>(salt: u64) -> M {
 #[inline(never)]
 fn overwrite<M: Wide, const N: usize>(salt: u64, rounds: u64) -> u64 {
     let mut map: M = filled::<M, N>(salt);
-    let mut state = SEED;
-    let mut sum = 0u64;
-    for _ in 0..rounds {
-        state = next(state);
-        if let Some(old) = map.put(below::<N>(state) ^ salt, [state, sum, salt]) {
-            sum = sum.wrapping_add(old[0]).wrapping_add(old[2]);
-        }
-    }
-    sum
+    in_states!(rounds, |state, sum| {
+        let old = map.put(below::<N>(state) ^ salt, [state, sum, salt]).unwrap_or([0; 3]);
+        old[0].wrapping_add(old[2])
+    })
 }
 
 /// The names of the workloads, by their numbers.

@@ -3,20 +3,12 @@
 -- search needs.
 use Rattle.std.proofs.Common.{◌≡◌, ℕ, Bool, List, [], ◌∷◌, length, refl, ap, sym, ◌∙◌, arith, bytes_eq, option_map}
 use Rattle.std.proofs.Common.{Some, None, if◌then◌else◌}
-use Rattle.std.specs.List.{IsDistinct, find, list_any}
-use Rattle.std.specs.Ordering.{on}
-use Rattle.std.specs.Set.{is_member, remove_key}
-use Rattle.std.proofs.lemmas.List.{length-map, map-append}
-use Rattle.std.proofs.lemmas.Map.Made.{find_same}
-use Rattle.std.proofs.lemmas.Slice.Eq.{bytes_eq-Decides}
-use Rattle.micromap_core.specs.Same.{have_equal_items}
-use Rattle.micromap_core.specs.Texts.{items_by}
-use Rattle.micromap_core.proofs.Views.{any-map, distinct-map, equal_items-map}
-use Rattle.micromap_core.proofs.Views.{find-map, remove_key-map}
-use Rattle.micromap_core.proofs.Laws.Equalities.{equalities, Trigger}
-use Rattle.micromap_core.proofs.Laws.TextLaws.{compares_by, ComparesBy}
-use Rattle.micromap.specs.Extend.{put_all_items}
-use Rattle.micromap.specs.Items.{put_item, find_item, take_item}
+use Rattle.std.specs.{List.IsDistinct, List.find, List.list_any, Ordering.on, Set.is_member, Set.remove_key}
+use Rattle.std.proofs.lemmas.{List.length-map, List.map-append, Map.Made.find_same, Slice.Eq.bytes_eq-Decides}
+use Rattle.micromap_core.specs.{Same.have_equal_items, Texts.items_by}
+use Rattle.micromap_core.proofs.{Views.any-map, Views.distinct-map, Views.equal_items-map, Views.find-map, Views.remove_key-map}
+use Rattle.micromap_core.proofs.{Laws.Equalities.equalities, Laws.Equalities.Trigger, Laws.TextLaws.compares_by, Laws.TextLaws.ComparesBy}
+use Rattle.micromap.specs.{Extend.put_all_items, Items.put_item, Items.find_item, Items.take_item}
 use Rattle.micromap.proofs.Laws.SetLaws.{length_put_item, put_item_back}
 
 module _ {T : Type 0} (bytes_of : T → List ℕ) where
@@ -29,26 +21,22 @@ module _ {T : Type 0} (bytes_of : T → List ℕ) where
     unfolding items_by
     length_item_texts = length-map items bytes_of
 
-    pub unique_item_texts : IsDistinct (on bytes_of bytes_eq) items
-        → IsDistinct bytes_eq (items_by bytes_of items)
+    pub unique_item_texts : IsDistinct (on bytes_of bytes_eq) items → IsDistinct bytes_eq (items_by bytes_of items)
     unfolding items_by
     unique_item_texts distinct = distinct-map bytes_of bytes_eq items distinct
 
     module _ (bs : List ℕ) where
-      pub is_member_item_texts :
-          is_member bytes_eq (items_by bytes_of items) bs ≡ list_any (λ x. bytes_eq bs (bytes_of x)) items
+      pub is_member_item_texts : is_member bytes_eq (items_by bytes_of items) bs ≡ list_any (λ x. bytes_eq bs (bytes_of x)) items
       unfolding items_by
       is_member_item_texts = any-map bytes_of (bytes_eq bs) items
 
-      pub item_texts_remove_key :
-          take_item bytes_eq (items_by bytes_of items) bs
+      pub item_texts_remove_key : take_item bytes_eq (items_by bytes_of items) bs
           ≡ items_by bytes_of (remove_key (λ x. bytes_eq bs (bytes_of x)) items)
       unfolding items_by take_item
       item_texts_remove_key = sym (remove_key-map bytes_of (bytes_eq bs) items)
 
       -- the item that a probe finds, and whether it finds one
-      pub find_item_item_texts :
-          find_item bytes_eq (items_by bytes_of items) bs
+      pub find_item_item_texts : find_item bytes_eq (items_by bytes_of items) bs
           ≡ option_map bytes_of (find (λ x. bytes_eq bs (bytes_of x)) items)
       unfolding items_by
       find_item_item_texts = find-map bytes_of (bytes_eq bs) items
@@ -57,8 +45,7 @@ module _ {T : Type 0} (bytes_of : T → List ℕ) where
       pub item_texts_put_item : ComparesBy bytes_of eq
           → items_by bytes_of (put_item eq items x) ≡ put_item bytes_eq (items_by bytes_of items) (bytes_of x)
       unfolding items_by put_item
-      item_texts_put_item compares =
-          ap (λ e. items_by bytes_of (put_item e items x)) (compares_by bytes_of eq compares)
+      item_texts_put_item compares = ap (λ e. items_by bytes_of (put_item e items x)) (compares_by bytes_of eq compares)
           ∙ grind (arith, any-map bytes_of (bytes_eq (bytes_of x)) items, map-append bytes_of items (x ∷ []))
 
   -- two sets: they have equal items exactly if they have equal texts
@@ -72,25 +59,19 @@ module _ {T : Type 0} (bytes_of : T → List ℕ) where
 module _ {T : Type 0} (bytes_of : T → List ℕ) where
   module _ (eq : T → T → Bool) where
     pub item_texts_put_all : (items xs : List T) → ComparesBy bytes_of eq
-        → items_by bytes_of (put_all_items eq items xs) ≡ put_all_items bytes_eq (items_by bytes_of items)
-        (items_by bytes_of xs)
+        → items_by bytes_of (put_all_items eq items xs) ≡ put_all_items bytes_eq (items_by bytes_of items) (items_by bytes_of xs)
     unfolding items_by
     item_texts_put_all items [] compares = refl
-    item_texts_put_all items (x ∷ xs) compares =
-        item_texts_put_all (put_item eq items x) xs compares
-        ∙ ap (λ l. put_all_items bytes_eq l (items_by bytes_of xs))
-        (item_texts_put_item bytes_of items eq x compares)
+    item_texts_put_all items (x ∷ xs) compares = item_texts_put_all (put_item eq items x) xs compares
+        ∙ ap (λ l. put_all_items bytes_eq l (items_by bytes_of xs)) (item_texts_put_item bytes_of items eq x compares)
 
   -- what is put of texts is put of their items, so that a search finds what a set extended by another has
-  pub extended_item_texts : (items xs : List T)
-      → put_all_items bytes_eq (items_by bytes_of items) (items_by bytes_of xs)
+  pub extended_item_texts : (items xs : List T) → put_all_items bytes_eq (items_by bytes_of items) (items_by bytes_of xs)
       ≡ items_by bytes_of (put_all_items (on bytes_of bytes_eq) items xs)
-  extended_item_texts items xs =
-      sym (item_texts_put_all (on bytes_of bytes_eq) items xs (λ x y. refl))
+  extended_item_texts items xs = sym (item_texts_put_all (on bytes_of bytes_eq) items xs (λ x y. refl))
 
 -- the item that an owned text finds is that text
-pub stored_item : (items : List (List ℕ)) (text : List ℕ)
-    → Trigger (find_item bytes_eq items text)
+pub stored_item : (items : List (List ℕ)) (text : List ℕ) → Trigger (find_item bytes_eq items text)
     (find_item bytes_eq items text ≡ (if is_member bytes_eq items text then Some text else None))
 stored_item items text = (refl, find_same bytes_eq-Decides text items)
 

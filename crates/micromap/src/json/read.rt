@@ -48,10 +48,9 @@ pub fn map_from_json<const N: usize>(
     }
 }
 
-/// Creates a set of an array's texts, or returns why there is none.
+/// Creates a set of an array's texts, each distinct one as it first came, or returns why there is none.
 ///
-/// Each distinct text is stored as it first came, in that order. Allocates memory for the values that are read, and
-/// never returns `Memory` for an empty text. Makes one scan for each text, up to the first that doesn't fit.
+/// Allocates memory as `map_from_json` does. Makes one scan for each text, up to the first that doesn't fit.
 ///
 /// ```
 /// let seen: Set<String, 2> = set_from_json(alloc, r#"["foo", "bar", "foo"]"#)?;

@@ -41,7 +41,7 @@ pub fn map_to_json<const N: usize>(
     Ok(Value::Object(members).to_string(alloc)?)
 }
 
-/// Returns the array of the set's items, from front to end, as text with no white space between its parts.
+/// Returns the array of the set's items as text, from front to end, with no white space between its parts.
 ///
 /// Allocates memory for a copy of each item and for the text.
 ///

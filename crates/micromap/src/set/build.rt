@@ -13,10 +13,10 @@ use crate::Overfull;
 
 impl<T: Eq + Drop, const N: usize> Set<T, N> {
     /// Inserts the items of an iterator one after the other, as `insert` does, or returns the position of the first that
-    /// doesn't fit, counted from 0.
+    /// doesn't fit.
     ///
-    /// Requires that the iterator ends, after fewer than `usize::MAX` items. After an `Err`, the set is full, and has all
-    /// items before that position. The item at it is dropped, and no later item is taken. Makes one scan for each item.
+    /// Requires that the iterator ends, after fewer than `usize::MAX` items. After an `Err` the set is full, and has all
+    /// items before that position.
     ///
     /// ```
     /// let mut seen: Set<u8, 2> = Set::new();
@@ -44,14 +44,16 @@ impl<T: Eq + Drop, const N: usize> Set<T, N> {
         Ok(())
     }
 
-    /// Creates a set of an iterator's items, inserted one after the other as `insert` does, or returns the position of
-    /// the first that doesn't fit, counted from 0.
+    /// Creates a set of an iterator's items as `try_extend` inserts them, or returns the position of the first that
+    /// doesn't fit.
     ///
     /// Requires that the iterator ends, after fewer than `usize::MAX` items. The result is `Err` exactly if more than
-    /// `N` of the items are distinct. Then at least `N` items came before the one that didn't fit, and these and those left
-    /// are dropped. Makes one scan for each item.
+    /// `N` of the items are distinct. Then all items are dropped, and at least `N` came before the one that didn't fit.
     ///
     /// ```
+    /// let first = Set::from([1, 2]);
+    /// let second = Set::from([2, 3]);
+    ///
     /// let both: Set<i32, 4> = Set::try_from_iter(first.union(&second).copied())?;
     /// assert_eq!(rt; both.len(), 3);
     /// ```
@@ -90,11 +92,10 @@ impl<T: Eq + Drop, const N: usize> Set<T, N> {
         all_fit
     }
 
-    /// Creates a set of all items of an iterator, inserted one after the other as `insert` does, or returns `None` if
-    /// they don't all fit.
+    /// Creates a set of all items of an iterator, as `insert` inserts them, or returns `None` if more than `N` of them
+    /// are distinct.
     ///
-    /// Requires that the iterator ends. Takes every item, even after one that doesn't fit. The result is `None` exactly
-    /// if more than `N` of the items are distinct: then all are dropped. Makes one scan for each item.
+    /// Requires that the iterator ends. Takes every item, even after one that doesn't fit.
     ///
     /// ```
     /// let halves: Option<Set<u8, 2>> = Set::from_all([4, 5, 6].iter().map(|x| *x / 2));
@@ -115,15 +116,8 @@ impl<T: Eq + Drop, const N: usize> Set<T, N> {
         }
     }
 
-    /// Creates a set of those items of an iterator that fit, inserted one after the other.
-    ///
-    /// Requires that the iterator ends. A new item doesn't fit a full set: it is dropped, and the next ones are taken.
-    /// Makes one scan for each item.
-    ///
-    /// ```
-    /// let set: Set<u8, 2> = Set::from_fitting([5, 6, 7, 5].into_iter());
-    /// assert!(rt; set.iter().eq(&[5, 6]));
-    /// ```
+    /// Creates a set of those items of an iterator that fit, as `checked_insert` inserts them. Requires that the
+    /// iterator ends.
     pub fn from_fitting<I: Iterator<Item = T>>(items: I) -> Self
         requires can { I.can_next items }
         requires ends { IsFinite (I.remaining items) }
@@ -138,21 +132,11 @@ impl<T: Eq + Drop, const N: usize> Set<T, N> {
 }
 
 impl<T: Eq + Copy, const N: usize> Set<T, N> {
-    /// Inserts all items of another set, one after the other, as `insert` does, or none. If they don't all fit, returns
-    /// the position of the first that doesn't, counted from 0.
+    /// Inserts all items of another set, one after the other, as `insert` does. If they don't all fit, inserts none, and
+    /// returns the position of the first that doesn't.
     ///
     /// After `Ok`, this set is the union: its own items, and then the others' that were no members. The result is `Err`
-    /// exactly if the two sets together have more than `N` distinct items. Then this set is unchanged, where `try_extend`
-    /// keeps the items before that position. Works on a copy of this set if there might not be room for all, and makes one
-    /// scan for each item of `other`.
-    ///
-    /// ```
-    /// let mut seen: Set<u8, 3> = Set::from([5, 6, 5]);
-    /// assert_eq!(rt; seen.try_extend_from(&Set::from([6, 7])), Ok(()));
-    /// let ended = seen.try_extend_from(&Set::from([5, 8]));
-    /// assert_eq!(rt; ended, Err(Overfull { at: 1 }));
-    /// assert!(rt; seen.iter().eq(&[5, 6, 7]));
-    /// ```
+    /// exactly if the two sets together have more than `N` distinct items. It costs what `Map::try_extend_from` costs.
     pub fn try_extend_from<const M: usize>(&mut self, other: &Set<T, M>) -> Result<(), Overfull>
         ensures items { OnOk result (self.new ≡ put_all_items T.eq self.old other.now) }
         ensures many { IsErr result ↔ (N < length (put_all_items T.eq self.old other.now)) }
@@ -167,9 +151,8 @@ impl<T: Eq + Copy, const N: usize> Set<T, N> {
 impl<T: Eq + Copy, const N: usize> From<[T; N]> for Set<T, N> {
     ghost from_gives = { λ items set. (set ≡ distinct T.eq items) × IsTrue (all_items_fit T.eq N items) × IsItems T.eq N set };
 
-    /// Creates a set of the items of an array: each distinct item as it first came.
-    ///
-    /// Every item fits. Makes one scan for each item.
+    /// Creates a set of the items of an array, which all fit: each distinct item as it first came. Makes one scan for
+    /// each item.
     ///
     /// ```
     /// let set = Set::from([2, 1, 2]);

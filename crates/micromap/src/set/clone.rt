@@ -13,16 +13,8 @@ use std::alloc::AllocError;
 impl<T: Eq + Clone + Drop, const N: usize> Set<T, N> {
     /// Returns a set of the clones of all items, in the same order.
     ///
-    /// Requires that an item's clone is equal to the item. The result is `Err` only if the clone of an item is; then
-    /// the clones made so far are dropped. This set is unchanged in any case. Compares no item.
-    ///
-    /// ```
-    /// let mut names: Set<TextBuf, 2> = Set::new();
-    /// names.put(TextBuf::new(alloc, "Ada")?);
-    /// let clone = names.clone()?;
-    /// names.clear();
-    /// assert!(rt; clone.first().is_some_and(|name| name.is("Ada")));
-    /// ```
+    /// Requires that an item's clone is equal to the item. The result is `Err` only if the clone of an item is. Then the
+    /// clones made so far are dropped. If the items have `EqualClone`, a set has the trait `Clone` too.
     pub fn clone(&self) -> Result<Self, AllocError>
         requires { ClonesAreEqual T.eq T.is_clone }
         ensures clones { IfOk result (AllZip T.is_clone self.now) }
@@ -38,14 +30,7 @@ impl<T: Eq + Clone + Drop, const N: usize> Set<T, N> {
 impl<T: Eq + Copy, const N: usize> Set<T, N> {
     /// Returns a copy of this set: the same items, in the same order.
     ///
-    /// Copies all items of a full set at once, of any other one after the other. Compares no item.
-    ///
-    /// ```
-    /// let mut set = Set::from([1, 2]);
-    /// let before = set.copied();
-    /// set.clear();
-    /// assert!(rt; before.iter().eq(&[1, 2]));
-    /// ```
+    /// Copies the items of a full set at once, and those of any other one after the other.
     pub fn copied(&self) -> Self
         ensures answer { result ≡ self.now }
         ensures content { IsItems T.eq N result }
@@ -56,8 +41,7 @@ impl<T: Eq + Copy, const N: usize> Set<T, N> {
     }
 }
 
-/// A set has the trait too if a clone of an item equals it, so that a map of sets can be cloned. `set.clone()` is the call
-/// above.
+/// The trait is for what is generic, as the clone of a map of sets. `set.clone()` is the call above.
 impl<T: EqualClone, const N: usize> Clone for Set<T, N> {
     ghost is_clone = { λ items new. (AreIdentical T.is_equal_clone → new ≡ items) × AllZip T.is_equal_clone items new × IsItems T.eq N new };
 

@@ -8,10 +8,8 @@ ghost use Rattle.micromap.specs.Items.{AreItems, MayRetainItems};
 use super::Set;
 
 impl<T: Eq + Drop, const N: usize> Set<T, N> {
-    /// Keeps the items for which `keep` returns `true`, and drops the others.
-    ///
-    /// The kept items stay in their order. `keep` is called on the items from front to end, once each. Moves each kept
-    /// item at most once. Compares no item.
+    /// Keeps the items for which `keep` returns `true`, and drops the others. The kept items stay in their order. `keep`
+    /// is called as by `Map::retain`.
     ///
     /// ```
     /// let mut set = Set::from([1, 2, 3]);

@@ -9,9 +9,8 @@ use super::Set;
 use super::operations::Wanted;
 
 impl<T: Eq, const N: usize> Set<T, N> {
-    /// Returns `true` if each item of either set has an equal one in the other, so that both contain the same items.
-    /// Neither order nor capacity matters. After `==` of two sets the law `same_members` says what the clause
-    /// `members` says here.
+    /// Returns `true` if each item of either set has an equal one in the other. Neither order nor capacity matters. `==`
+    /// is `eq_with` within one type. After `==` the law `same_members` says what the clause `members` says here.
     ///
     /// Compares no item if the lengths differ. Else it costs what `is_subset` costs.
     ///
@@ -30,11 +29,6 @@ impl<T: Eq, const N: usize> Set<T, N> {
 }
 
 /// `==` is `eq_with` within one type.
-///
-/// ```
-/// assert!(rt; Set::from([1, 2]) == Set::from([2, 1]));
-/// assert!(rt; Set::from([1, 2]) != Set::from([1, 1]));
-/// ```
 impl<T: Eq, const N: usize> PartialEq for Set<T, N> {
     ghost eq = { have_equal_items T.eq };
 

@@ -10,8 +10,7 @@ use crate::InsertError;
 impl<T: Eq + Drop, const N: usize> Set<T, N> {
     /// Inserts the item, and returns `true` if it is new.
     ///
-    /// Requires that an equal item is stored or the set has room, which `fits` tests. A stored item stays. A new item
-    /// goes last. Makes one scan.
+    /// Requires `fits(&item)`. A stored item stays. A new item goes last.
     ///
     /// ```
     /// let mut set: Set<u8, 1> = Set::new();
@@ -31,13 +30,7 @@ impl<T: Eq + Drop, const N: usize> Set<T, N> {
         self.map.insert(item, ()).is_none()
     }
 
-    /// Inserts the item as `insert` does, with the same precondition. It is safe, and kept for ported code.
-    ///
-    /// ```
-    /// let mut set = Set::from([1, 2]);
-    /// assert!(rt; set.fits(&2));
-    /// assert!(rt; !set.insert_unchecked(2));
-    /// ```
+    /// Does what `insert` does, and requires the same. It is safe, and kept for ported code.
     #[inline]
     pub fn insert_unchecked(&mut self, item: T) -> bool
         requires { IsTrue (item_fits T.eq N self.old item) }
@@ -48,9 +41,9 @@ impl<T: Eq + Drop, const N: usize> Set<T, N> {
         self.insert(item)
     }
 
-    /// Inserts the item in the place of an equal one or last, and returns the one that was there, or `None`.
+    /// Inserts the item in the place of an equal one, which it returns, or else last, and returns `None`.
     ///
-    /// Requires that an equal item is stored or the set has room, which `fits` tests. Makes one scan.
+    /// Requires `fits(&item)`.
     ///
     /// ```
     /// let mut set = Set::from([1, 2]);
@@ -69,9 +62,8 @@ impl<T: Eq + Drop, const N: usize> Set<T, N> {
 
     /// Inserts the item if it fits. Returns `Some(item)` if an equal one is stored, else `None`, inserted or refused.
     ///
-    /// A stored item stays, and the one that was passed is returned. A new item goes last. A new item doesn't fit a
-    /// full set: then the set is unchanged, and the item is dropped. `try_insert` tells that from an insertion. Makes
-    /// one scan.
+    /// A stored item stays, and the one that was passed is returned. A new item goes last, or is dropped if the
+    /// set is full. `try_insert` tells the two apart.
     ///
     /// ```
     /// let mut seen: Set<u8, 2> = Set::new();
@@ -90,10 +82,8 @@ impl<T: Eq + Drop, const N: usize> Set<T, N> {
         }
     }
 
-    /// Inserts the item if it fits, and returns `true` if it did.
-    ///
-    /// A stored item stays, and the one that was passed is dropped. A new item goes last. A new item doesn't fit a full
-    /// set: then the set is unchanged, and the item is dropped. Makes one scan.
+    /// Inserts the item as `checked_insert` does, and returns `true` if it fits. If an equal one is stored, the one that
+    /// was passed is dropped.
     ///
     /// ```
     /// let mut set: Set<u8, 1> = Set::new();
@@ -110,11 +100,10 @@ impl<T: Eq + Drop, const N: usize> Set<T, N> {
         self.map.put(item, ())
     }
 
-    /// Inserts the item if it is new and there is room. Returns `Err(Occupied(item))` if an equal one is stored, and
-    /// `Err(Full(item))` if the item is new and the set is full.
+    /// Inserts the item last if it is new and there is room. Returns `Err(Occupied(item))` if an equal one is stored,
+    /// and `Err(Full(item))` if the item is new and the set is full.
     ///
-    /// A new item goes last. A stored item stays: after an `Err` the set is unchanged, and the item that was passed comes
-    /// back. Makes one scan.
+    /// After an `Err` the set is unchanged.
     ///
     /// ```
     /// let mut seen: Set<u8, 1> = Set::new();

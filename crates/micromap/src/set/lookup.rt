@@ -7,7 +7,7 @@ ghost use Rattle.micromap.specs.Items.{find_item, item_fits};
 use super::Set;
 
 impl<T: Eq, const N: usize> Set<T, N> {
-    /// Returns a reference to the stored item that equals `item`, or `None` if there is none. Makes one scan.
+    /// Returns a reference to the stored item that equals `item`, or `None` if there is none.
     ///
     /// ```
     /// let set = Set::from(["foo", "bar"]);
@@ -22,14 +22,7 @@ impl<T: Eq, const N: usize> Set<T, N> {
         Some(stored)
     }
 
-    /// Returns a reference to the first item, or `None` if the set is empty. Compares no item.
-    ///
-    /// ```
-    /// let mut set = Set::from([2, 1]);
-    /// assert_eq!(rt; set.first(), Some(&2));
-    /// set.clear();
-    /// assert_eq!(rt; set.first(), None);
-    /// ```
+    /// Returns a reference to the first item, or `None` if the set is empty.
     #[inline]
     pub fn first(&self) -> Option<&T>
         ensures answer { option_copied result ≡ slice_get self.now 0 }
@@ -38,14 +31,7 @@ impl<T: Eq, const N: usize> Set<T, N> {
         Some(item)
     }
 
-    /// Returns a reference to the last item, or `None` if the set is empty. Compares no item.
-    ///
-    /// ```
-    /// let mut set = Set::from([2, 1]);
-    /// assert_eq!(rt; set.last(), Some(&1));
-    /// set.clear();
-    /// assert_eq!(rt; set.last(), None);
-    /// ```
+    /// Returns a reference to the last item, or `None` if the set is empty.
     #[inline]
     pub fn last(&self) -> Option<&T>
         ensures answer { option_copied result ≡ slice_get self.now (length self.now - 1) }
@@ -54,7 +40,7 @@ impl<T: Eq, const N: usize> Set<T, N> {
         Some(item)
     }
 
-    /// Returns `true` if a stored item equals `item`. Makes one scan.
+    /// Returns `true` if a stored item equals `item`.
     ///
     /// ```
     /// let set = Set::from([1, 2]);
@@ -68,15 +54,8 @@ impl<T: Eq, const N: usize> Set<T, N> {
         self.map.contains_key(item)
     }
 
-    /// Returns `true` if the item can be inserted: an equal one is stored, or there is room.
-    ///
-    /// Compares no item if there is room. Else it makes one scan.
-    ///
-    /// ```
-    /// let full = Set::from([1, 2]);
-    /// assert!(rt; full.fits(&2));
-    /// assert!(rt; !full.fits(&3));
-    /// ```
+    /// Returns `true` if the item can be inserted: an equal one is stored, or there is room. Compares no item if there
+    /// is room.
     #[inline]
     pub fn fits(&self, item: &T) -> bool
         ensures answer { result ≡ item_fits T.eq N self.now item.now }

@@ -4,8 +4,8 @@ ghost use Rattle.micromap.specs.Print.{set_text};
 use super::Set;
 use std::fmt;
 
-/// `{a, b}`, from the front. Width and other flags are passed to the items. An error of the writer ends the printing
-/// and is returned.
+/// Prints `{a, b}`, from the front. Passes width and other flags to the items. Ends at an error of the writer, and
+/// returns it.
 ///
 /// ```
 /// let set = Set::from([2, 1]);

@@ -10,13 +10,7 @@ use super::{Set, item_of};
 use crate::Probe;
 
 impl<T: Eq, const N: usize> Set<T, N> {
-    /// Returns a reference to the item that matches, or `None` if none does. Makes one scan.
-    ///
-    /// ```
-    /// let seen = Set::from(["foo", "bar"]);
-    /// assert_eq!(rt; seen.get_by(&Text("foo")), Some(&"foo"));
-    /// assert_eq!(rt; seen.get_by(&Text("qux")), None);
-    /// ```
+    /// Returns a reference to the item that matches, or `None` if none does.
     #[inline]
     pub fn get_by<P: Probe<T>>(&self, probe: &P) -> Option<&T>
         ensures answer { option_copied result ≡ find (P.matches probe.now) self.now }
@@ -25,7 +19,7 @@ impl<T: Eq, const N: usize> Set<T, N> {
         Some(stored)
     }
 
-    /// Returns `true` if a stored item matches. Makes one scan.
+    /// Returns `true` if a stored item matches.
     ///
     /// ```
     /// let seen = Set::from(["foo", "bar"]);
@@ -39,16 +33,8 @@ impl<T: Eq, const N: usize> Set<T, N> {
         self.map.contains_key_by(probe)
     }
 
-    /// Returns `true` if an item that matches can be inserted: a stored item matches, or there is room.
-    ///
-    /// No item need be made to ask. Compares no item if there is room. Else it makes one scan.
-    ///
-    /// ```
-    /// let mut seen: Set<TextBuf, 1> = Set::new();
-    /// seen.put(TextBuf::new(alloc, "foo")?);
-    /// assert!(rt; seen.fits_by(&Text("foo")));
-    /// assert!(rt; !seen.fits_by(&Text("bar")));
-    /// ```
+    /// Returns `true` if an item that matches can be inserted: a stored item matches, or there is room. Compares no item
+    /// if there is room.
     #[inline]
     pub fn fits_by<P: Probe<T>>(&self, probe: &P) -> bool
         ensures answer { result ≡ item_fits_by (P.matches probe.now) N self.now }
@@ -58,17 +44,7 @@ impl<T: Eq, const N: usize> Set<T, N> {
 }
 
 impl<T: Eq + Drop, const N: usize> Set<T, N> {
-    /// Removes the item that matches, and returns it, or `None` if none does.
-    ///
-    /// The others keep their order: those behind it move up by one. After `None` the set is unchanged. Makes one scan.
-    ///
-    /// ```
-    /// let mut seen: Set<TextBuf, 4> = Set::new();
-    /// seen.put(TextBuf::new(alloc, "foo")?);
-    /// let taken = seen.take_by(&Text("foo"));
-    /// assert!(rt; taken.is_some_and(|word| word.is("foo")));
-    /// assert!(rt; seen.take_by(&Text("foo")).is_none());
-    /// ```
+    /// Removes the item that matches, as `take` does, and returns it, or `None` if none matches.
     #[inline]
     pub fn take_by<P: Probe<T>>(&mut self, probe: &P) -> Option<T>
         ensures answer { result ≡ find (P.matches probe.now) self.old }
@@ -78,15 +54,7 @@ impl<T: Eq + Drop, const N: usize> Set<T, N> {
         item_of(self.map.remove_entry_by(probe))
     }
 
-    /// Removes the item that matches, and returns `true` if there was one.
-    ///
-    /// The others keep their order: those behind it move up by one. After `false` the set is unchanged. Makes one scan.
-    ///
-    /// ```
-    /// let mut seen = Set::from(["foo", "bar"]);
-    /// assert!(rt; seen.remove_by(&Text("foo")));
-    /// assert!(rt; !seen.remove_by(&Text("foo")));
-    /// ```
+    /// Removes the item that matches, as `take` does, and returns `true` if there was one.
     #[inline]
     pub fn remove_by<P: Probe<T>>(&mut self, probe: &P) -> bool
         ensures answer { result ≡ is_some (find (P.matches probe.now) self.old) }

@@ -30,13 +30,7 @@ impl<T: Eq, const N: usize> Set<T, N> {
         self.all_are(other, Wanted::Common)
     }
 
-    /// Returns `true` if each item of `other` has an equal one in this set. It is `other.is_subset(self)`.
-    ///
-    /// ```
-    /// let set = Set::from([1, 2]);
-    /// assert!(rt; set.is_superset(&Set::from([2])));
-    /// assert!(rt; !set.is_superset(&Set::from([3])));
-    /// ```
+    /// Returns `true` if each item of `other` has an equal one in this set. It costs what `other.is_subset(self)` costs.
     pub fn is_superset<const M: usize>(&self, other: &Set<T, M>) -> bool
         ensures answer { result ≡ list_all (is_member T.eq self.now) other.now }
         ensures members { IsTrue result ↔ IsSubset T.eq other.now self.now }

@@ -8,7 +8,7 @@ use super::{Set, item_of};
 impl<T: Eq + Drop, const N: usize> Set<T, N> {
     /// Removes the item that equals `item`, and returns it, or `None` if there is none.
     ///
-    /// The others keep their order: those behind it move up by one. After `None` the set is unchanged. Makes one scan.
+    /// The others keep their order: those behind it move up by one. After `None` the set is unchanged.
     ///
     /// ```
     /// let mut set = Set::from([1, 2, 3]);
@@ -25,9 +25,7 @@ impl<T: Eq + Drop, const N: usize> Set<T, N> {
         item_of(self.map.remove_entry(item))
     }
 
-    /// Removes the item that equals `item`, and returns `true` if there was one.
-    ///
-    /// The others keep their order: those behind it move up by one. After `false` the set is unchanged. Makes one scan.
+    /// Removes the item that equals `item`, as `take` does, and returns `true` if there was one.
     ///
     /// ```
     /// let mut set = Set::from([1, 2]);
@@ -43,16 +41,7 @@ impl<T: Eq + Drop, const N: usize> Set<T, N> {
         self.take(item).is_some()
     }
 
-    /// Removes the first item, and returns it, or `None` if the set is empty.
-    ///
-    /// The others keep their order: each moves up by one. Compares no item.
-    ///
-    /// ```
-    /// let mut set = Set::from([2, 1]);
-    /// assert_eq!(rt; set.pop_first(), Some(2));
-    /// assert_eq!(rt; set.pop_first(), Some(1));
-    /// assert_eq!(rt; set.pop_first(), None);
-    /// ```
+    /// Removes the first item, and returns it, or `None` if the set is empty. Each other item moves up by one.
     #[inline]
     pub fn pop_first(&mut self) -> Option<T>
         ensures answer { result ≡ slice_get self.old 0 }
@@ -62,16 +51,7 @@ impl<T: Eq + Drop, const N: usize> Set<T, N> {
         item_of(self.map.pop_first())
     }
 
-    /// Removes the last item, and returns it, or `None` if the set is empty.
-    ///
-    /// The others stay where they are. Compares no item.
-    ///
-    /// ```
-    /// let mut set = Set::from([2, 1]);
-    /// assert_eq!(rt; set.pop_last(), Some(1));
-    /// assert_eq!(rt; set.pop_last(), Some(2));
-    /// assert_eq!(rt; set.pop_last(), None);
-    /// ```
+    /// Removes the last item, and returns it, or `None` if the set is empty. The others stay where they are.
     #[inline]
     pub fn pop_last(&mut self) -> Option<T>
         ensures answer { result ≡ slice_get self.old (length self.old - 1) }

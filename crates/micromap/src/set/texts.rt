@@ -9,16 +9,7 @@ use super::Set;
 use micromap_core::TextBuf;
 
 impl<const N: usize> Set<String, N> {
-    /// Returns this set with each item as a [`TextBuf`], in the same order.
-    ///
-    /// Moves each item once. Compares no item, and takes no memory.
-    ///
-    /// ```
-    /// let mut seen: Set<String, 2> = Set::new();
-    /// seen.put(String::from_str(alloc, "foo")?);
-    /// let seen: Set<TextBuf, 2> = seen.into_text_bufs();
-    /// assert!(rt; seen.contains_by(&Text("foo")));
-    /// ```
+    /// Returns this set with each item as a `TextBuf`, in the same order. Moves each item once, and takes no memory.
     pub fn into_text_bufs(self) -> Set<TextBuf, N>
         ensures answer { result ≡ item_texts self.entry }
         ensures content { IsItems bytes_eq N result }
@@ -31,16 +22,7 @@ impl<const N: usize> Set<String, N> {
 }
 
 impl<const N: usize> Set<TextBuf, N> {
-    /// Returns this set with each item as a `String`, in the same order.
-    ///
-    /// Moves each item once. Compares no item, and takes no memory.
-    ///
-    /// ```
-    /// let mut seen: Set<TextBuf, 2> = Set::new();
-    /// seen.put(TextBuf::new(alloc, "foo")?);
-    /// let seen: Set<String, 2> = seen.into_strings();
-    /// assert!(rt; seen.contains_by(&Text("foo")));
-    /// ```
+    /// Returns this set with each item as a `String`, in the same order. Moves each item once, and takes no memory.
     pub fn into_strings(self) -> Set<String, N>
         ensures answer { item_texts result ≡ self.entry }
         ensures content { IsItems string_eq N result }

@@ -36,14 +36,8 @@ impl<T: Eq, const N: usize> Set<T, N> {
 impl<T: Eq + Drop, const N: usize> Set<T, N> {
     /// Removes all items, and returns an iterator over them by value, from the front.
     ///
-    /// The set is empty as soon as the call returns. Items that aren't taken are dropped with the iterator. A caller that
-    /// is generic in `T` requires `SetIntoIterFits T.row N.row`, or calls `pop_first`.
-    ///
-    /// ```
-    /// let mut set = Set::from([2, 1]);
-    /// assert_eq!(rt; set.drain().next(), Some(2));
-    /// assert!(rt; set.is_empty());
-    /// ```
+    /// The set is empty as soon as the call returns. A caller that is generic in `T` requires `SetIntoIterFits T.row
+    /// N.row`, or calls `pop_first`.
     #[inline]
     pub fn drain(&mut self) -> Drain<T, N>
         ensures answer { result ≡ self.old }
@@ -64,16 +58,8 @@ impl<T: Eq + Drop, const N: usize> Set<T, N> {
     }
 }
 
-/// A loop over a set yields its items by value, from the front. Items that aren't taken are dropped with the iterator. A
-/// caller that is generic in `T` requires `SetIntoIterFits T.row N.row`.
-///
-/// ```
-/// let mut largest = 0;
-/// for item in Set::from([1, 3, 2]) {
-///     largest = largest.max(item);
-/// }
-/// assert_eq!(rt; largest, 3);
-/// ```
+/// A loop over a set yields its items by value, from the front. A caller that is generic in `T` requires
+/// `SetIntoIterFits T.row N.row`.
 impl<T: Eq + Drop, const N: usize> IntoIterator for Set<T, N> {
     type Item = T;
 
@@ -87,15 +73,6 @@ impl<T: Eq + Drop, const N: usize> IntoIterator for Set<T, N> {
 }
 
 /// A loop over a reference to a set yields references to its items, from the front.
-///
-/// ```
-/// let set = Set::from([1, 3, 2]);
-/// let mut largest = 0;
-/// for item in &set {
-///     largest = largest.max(*item);
-/// }
-/// assert!(rt; set.contains(&largest));
-/// ```
 impl<'a, T: Eq, const N: usize> IntoIterator for &'a Set<T, N> {
     type Item = &'a T;
 

@@ -1,27 +1,20 @@
 -- For callers: the equalities that are known to be lawful, and the tests that are known to be probes for them. For an
 -- equality of your own, `lawful` proves `lawful_mine : Lawful my_eq` in one line.
 use Rattle.std.proofs.Common.{◌≡◌, ◌∙◌, ℕ, nat_eq, string_bytes, sym, true, Bool, List, String}
-use Rattle.std.specs.Bool.{beq}
-use Rattle.std.specs.Cmp.{bool_eq_equiv, both_ways, IsEquivalence}
-use Rattle.std.specs.Cmp.Lexicographic.{pointwise}
-use Rattle.std.specs.Ordering.{int_eq, on}
-use Rattle.std.specs.String.{string_eq, string_eq_equiv}
+use Rattle.std.specs.{Bool.beq, Cmp.bool_eq_equiv, Cmp.both_ways, Cmp.IsEquivalence, Cmp.Lexicographic.pointwise}
+use Rattle.std.specs.{Ordering.int_eq, Ordering.on, String.string_eq, String.string_eq_equiv}
 use Rattle.std.proofs.lemmas.Cmp.{int_eq_equiv, nat_eq_equiv, nat_list_eq_equiv, on_equiv}
-use Rattle.micromap_core.specs.Equalities.{IsProbe, Lawful, Probes}
+use Rattle.micromap_core.specs.{Equalities.IsProbe, Equalities.Lawful, Equalities.Probes, Texts.str_eq}
 use Rattle.micromap_core.specs.Probe.{alike, equal, is_str, is_text}
-use Rattle.micromap_core.specs.Texts.{str_eq}
 
 -- P, which a search comes upon where it sees x: the equation of x with itself shows it the law
 abbrev pub Trigger : {X : Type 0} → X → Type 0 → Type 0
 Trigger x P = (x ≡ x) × P
 
 -- if a key passes a test that has the two laws of a probe, then the test is equality with that key
-pub same_test : {K : Type 0} (eq : K → K → Bool) (test : K → Bool)
-    (alike : (x y : K) → eq x y ≡ true → test x ≡ test y)
-    (single : (x y : K) → test x ≡ true → test y ≡ true → eq x y ≡ true) (k : K) → test k ≡ true
-    → test ≡ eq k
-same_test eq test alike single k passes =
-    λ i y. both_ways (test y) (eq k y) (single k y passes) (λ e. sym (alike k y e) ∙ passes) i
+pub same_test : {K : Type 0} (eq : K → K → Bool) (test : K → Bool) (alike : (x y : K) → eq x y ≡ true → test x ≡ test y)
+    (single : (x y : K) → test x ≡ true → test y ≡ true → eq x y ≡ true) (k : K) → test k ≡ true → test ≡ eq k
+same_test eq test alike single k passes = λ i y. both_ways (test y) (eq k y) (single k y passes) (λ e. sym (alike k y e) ∙ passes) i
 
 module _ {K : Type 0} (eq : K → K → Bool) where
   -- the words are what they stand for
@@ -70,12 +63,11 @@ probes_string Z k = probes_key string_eq k (lawful_string Z)
 -- a key that is seen by its bytes
 pub probes_by : {K : Type 0} (bytes_of : K → List ℕ) (bytes : List ℕ)
     → Probes (on bytes_of (pointwise nat_eq)) (λ k. pointwise nat_eq bytes (bytes_of k))
-probes_by bytes_of bytes =
-    probes _ _ (record {
-      laws = on_equiv bytes_of nat_list_eq_equiv;
-      alike_keys = λ x y. alike nat_list_eq_equiv bytes (bytes_of x) (bytes_of y);
-      equal_keys = λ x y. equal nat_list_eq_equiv bytes (bytes_of x) (bytes_of y);
-    })
+probes_by bytes_of bytes = probes _ _ (record {
+  laws = on_equiv bytes_of nat_list_eq_equiv;
+  alike_keys = λ x y. alike nat_list_eq_equiv bytes (bytes_of x) (bytes_of y);
+  equal_keys = λ x y. equal nat_list_eq_equiv bytes (bytes_of x) (bytes_of y);
+})
 
 pub probes_text : (Z : Type 0) (bytes : List ℕ) → Probes (string_eq {Z = Z}) (is_text {Z = Z} bytes)
 probes_text Z bytes = probes_by string_bytes bytes

@@ -16,9 +16,10 @@ use crate::slots::Columns;
 impl<K: Eq + Copy, V: Copy, const N: usize> From<[(K, V); N]> for Map<K, V, N> {
     ghost from_gives = { λ items map. (map ≡ build K.eq items) × IsTrue (all_fit K.eq N items) × IsContent K.eq N map };
 
-    /// Creates a map of the items of an array: each distinct key as it first came, with the value of its last item.
+    /// Creates a map of the items of an array, which all fit: each distinct key as it first came, with the value of its
+    /// last item.
     ///
-    /// Every item fits. Compares any two keys at most once. If some are equal, makes one scan for each item as well.
+    /// Compares any two keys at most once. If some are equal, makes one scan for each item as well.
     ///
     /// ```
     /// let map = Map::from([(1, 'a'), (2, 'b'), (1, 'c')]);
@@ -75,10 +76,10 @@ fn from_repeated<K: Eq + Copy, V: Copy, const N: usize>(items: [(K, V); N]) -> M
 
 impl<K: Eq + Drop, V: Drop, const N: usize> Map<K, V, N> {
     /// Inserts the items of an iterator one after the other, as `insert` does, or returns the position of the first that
-    /// doesn't fit, counted from 0.
+    /// doesn't fit.
     ///
-    /// Requires that the iterator ends, after fewer than `usize::MAX` items. After an `Err`, the map is full, and has all
-    /// items before that position. The item at it is dropped, and no later item is taken. Makes one scan for each item.
+    /// Requires that the iterator ends, after fewer than `usize::MAX` items. After an `Err`, the map is full, and has
+    /// all items before that position. The item at it is dropped, and no later item is taken.
     ///
     /// ```
     /// let mut map: Map<u8, char, 2> = Map::new();
@@ -106,12 +107,12 @@ impl<K: Eq + Drop, V: Drop, const N: usize> Map<K, V, N> {
         Ok(())
     }
 
-    /// Creates a map of an iterator's items, inserted one after the other as `insert` does, or returns the position of
-    /// the first that doesn't fit, counted from 0.
+    /// Creates a map of an iterator's items as `try_extend` inserts them, or returns the position of the first that
+    /// doesn't fit.
     ///
     /// Requires that the iterator ends, after fewer than `usize::MAX` items. The result is `Err` exactly if the items
-    /// have more than `N` distinct keys. Then at least `N` items came before the one that didn't fit, and these and those
-    /// left are dropped. Makes one scan for each item.
+    /// have more than `N` distinct keys. Then all items are dropped, and at least `N` came before the one that didn't
+    /// fit.
     ///
     /// ```
     /// let items = [(1, 'a'), (2, 'b'), (1, 'c')];
@@ -156,11 +157,10 @@ impl<K: Eq + Drop, V: Drop, const N: usize> Map<K, V, N> {
         all_fit
     }
 
-    /// Creates a map of all items of an iterator, inserted one after the other as `insert` does, or returns `None` if
-    /// they don't all fit.
+    /// Creates a map of all items of an iterator, as `insert` inserts them, or returns `None` if they have more than `N`
+    /// distinct keys.
     ///
-    /// Requires that the iterator ends. Takes every item, even after one that doesn't fit. The result is `None` exactly
-    /// if the items have more than `N` distinct keys: then all are dropped. Makes one scan for each item.
+    /// Requires that the iterator ends. Takes every item, even after one that doesn't fit.
     ///
     /// ```
     /// let items = [(1, 'a'), (2, 'b'), (1, 'c')];
@@ -184,10 +184,8 @@ impl<K: Eq + Drop, V: Drop, const N: usize> Map<K, V, N> {
         }
     }
 
-    /// Creates a map of those items of an iterator that fit, inserted one after the other as `checked_insert` does.
-    ///
-    /// Requires that the iterator ends. An item with a new key doesn't fit a full map: it is dropped, and the next ones
-    /// are taken. Makes one scan for each item.
+    /// Creates a map of those items of an iterator that fit, as `checked_insert` inserts them. Requires that the
+    /// iterator ends.
     ///
     /// ```
     /// let items = [(1, 'a'), (2, 'b'), (1, 'c')];
@@ -208,12 +206,11 @@ impl<K: Eq + Drop, V: Drop, const N: usize> Map<K, V, N> {
 }
 
 impl<K: Eq + Copy, V: Copy, const N: usize> Map<K, V, N> {
-    /// Inserts all pairs of another map, one after the other, as `insert` does, or none. If they don't all fit, returns
-    /// the position of the first that doesn't, counted from 0.
+    /// Inserts all pairs of another map, one after the other, as `insert` does. If they don't all fit, inserts none, and
+    /// returns the position of the first that doesn't.
     ///
-    /// The result is `Err` exactly if the two maps together have more than `N` distinct keys. Then this map is unchanged,
-    /// where `try_extend` keeps the pairs before that position. Works on a copy of this map if there might not be room for
-    /// all, and makes one scan for each pair of `other`.
+    /// The result is `Err` exactly if the two maps together have more than `N` distinct keys. Works on a copy of this
+    /// map if there might not be room for all, and makes one scan for each pair of `other`.
     ///
     /// ```
     /// let mut prices: Map<u8, u32, 2> = Map::from([(1, 10), (2, 20)]);
@@ -259,11 +256,11 @@ impl<K: Eq + Copy, V: Copy, const N: usize> Map<K, V, N> {
 }
 
 impl<K: Eq + Drop, const N: usize> Map<K, usize, N> {
-    /// Creates a map of an iterator's distinct items, each with the number of times that it came, or returns `None` if
-    /// more than `N` are distinct.
+    /// Creates a map of an iterator's distinct items, as they first came, each with the number of times that it came, or
+    /// returns `None` if more than `N` are distinct.
     ///
-    /// Requires that the iterator ends, after fewer than `usize::MAX` items. Takes every item, even after one that doesn't
-    /// fit. Each distinct item is in the order in which it first came. Makes one scan for each item.
+    /// Requires that the iterator ends, after fewer than `usize::MAX` items. Takes every item, even after one that
+    /// doesn't fit.
     ///
     /// ```
     /// let votes = ["foo", "bar", "foo"];

@@ -5,10 +5,9 @@ ghost use Rattle.micromap_core.specs.Pairs.{IsContent};
 use super::Map;
 
 impl<K: Eq + Drop, V: Drop, const N: usize> Map<K, V, N> {
-    /// Returns this map with the capacity `M`, and the same list of pairs.
+    /// Returns this map with the capacity `M`, or this map unchanged as an `Err` if there are more than `M` pairs.
     ///
-    /// The result is `Err` exactly if there are more than `M` pairs. The error is this map, unchanged. Moves each pair
-    /// once, and compares no key.
+    /// The list of pairs stays. Moves each pair once.
     ///
     /// ```
     /// let large = Map::from([(1, 'a'), (2, 'b')]).into_capacity::<3>();

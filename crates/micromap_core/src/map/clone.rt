@@ -1,5 +1,5 @@
 //! Cloning and copying a map.
-ghost use Rattle.std.specs.Prelude.{◌≡◌, ◌≤◌, All, IsOk, IfOk};
+ghost use Rattle.std.specs.Prelude.{◌≡◌, ◌≤◌, [], All, IsOk, IfOk};
 ghost use Rattle.std.specs.List.{AllZip};
 ghost use Rattle.std.specs.Result.{MatchResult};
 ghost use Rattle.std.specs.Set.{ClonesAreEqual};
@@ -14,8 +14,8 @@ use std::alloc::AllocError;
 impl<K: Eq + Clone + Drop, V: Clone + Drop, const N: usize> Map<K, V, N> {
     /// Returns a map of the clones of all pairs, in the same order.
     ///
-    /// Requires that a key's clone is equal to the key. The result is `Err` only if the clone of a key or a value is;
-    /// then the clones made so far are dropped. This map is unchanged in any case. Compares no key.
+    /// Requires that a key's clone is equal to the key. The result is `Err` only if the clone of a key or a value is.
+    /// Then the clones made so far are dropped. If the keys have `EqualClone`, a map has the trait `Clone` too.
     ///
     /// ```
     /// let mut names: Map<u8, TextBuf, 2> = Map::new();
@@ -32,33 +32,38 @@ impl<K: Eq + Clone + Drop, V: Clone + Drop, const N: usize> Map<K, V, N> {
         ensures content { IfOk result (IsContent K.eq N) }
         ensures succeeds { All (λ p. K.is_infallible p.0 × V.is_infallible p.1) self.now → IsOk result }
     {
-        self.cloned::<ByClone>()
+        let mut clone = Map::new();
+        match self.clone_into::<ByClone>(&mut clone) {
+            Ok(()) => Ok(clone),
+            Err(refused) => Err(refused),
+        }
     }
 }
 
 impl<K: Eq + Drop, V: Clone + Drop, const N: usize> Map<K, V, N> {
-    // Returns the clones of all pairs, with keys that are made by `C`.
+    // Puts the clones of all pairs into an empty map, with keys that are made by `C`. If it returned the map, a clone would
+    // be copied once more.
     #[inline]
-    fn cloned<C: KeyClone<K>>(&self) -> Result<Self, AllocError>
-        requires { ClonesAreEqual K.eq C.is_key_clone }
-        ensures clones { IfOk result (AllZip (IsPairClone C.is_key_clone V.is_clone) self.now) }
+    fn clone_into<C: KeyClone<K>>(&self, clone: &mut Self) -> Result<(), AllocError>
+        requires equal { ClonesAreEqual K.eq C.is_key_clone }
+        requires empty { clone.old ≡ [] }
+        ensures clones { IfOk result (λ _. AllZip (IsPairClone C.is_key_clone V.is_clone) self.now clone.new) }
         ensures same { AreIdentical C.is_key_clone → AreIdentical V.is_clone
-            → IfOk result (λ new. new ≡ self.now) }
-        ensures content { IfOk result (IsContent K.eq N) }
+            → IfOk result (λ _. clone.new ≡ self.now) }
+        ensures content { IsContent K.eq N clone.new }
         ensures succeeds { All (λ p. C.is_sure p.0 × V.is_infallible p.1) self.now → IsOk result }
     {
         let len = self.len();
-        let mut map = Map::new();
         for index in 0..clone_turns::<N>(len) {
             if index < len {
                 let (key, value) = self.pair_at(index);
                 let key = C::of(key)?;
                 let value = value.clone()?;
-                hint::equal(map.len(), index);
-                map.pairs.push(key, value);
+                hint::equal(clone.len(), index);
+                clone.pairs.push(key, value);
             }
         }
-        Ok(map)
+        Ok(())
     }
 }
 
@@ -101,7 +106,7 @@ impl<K: EqualClone> KeyClone<K> for ByEqualClone {
 impl<K: Eq + Copy, V: Copy, const N: usize> Map<K, V, N> {
     /// Returns a copy of this map: the same pairs, in the same order.
     ///
-    /// Copies all keys of a full map at once, and then all values; of any other, pair after pair. Compares no key.
+    /// Copies a full map's keys at once, and then its values, and any other map pair after pair.
     ///
     /// ```
     /// let mut map = Map::from([(1, 'a'), (2, 'b')]);
@@ -119,15 +124,18 @@ impl<K: Eq + Copy, V: Copy, const N: usize> Map<K, V, N> {
     }
 }
 
-/// A map has the trait too if a clone of a key equals it, so that a map of maps can be cloned. `map.clone()` is the call
-/// above.
+/// The trait is for what is generic, as the clone of a map of maps. `map.clone()` is the call above.
 impl<K: EqualClone, V: Clone, const N: usize> Clone for Map<K, V, N> {
     ghost is_clone = { λ pairs new. (AreIdentical K.is_equal_clone → AreIdentical V.is_clone → new ≡ pairs) × AllZip (IsPairClone K.is_equal_clone V.is_clone) pairs new × IsContent K.eq N new };
 
     ghost is_infallible = { All (λ p. K.never_fails p.0 × V.is_infallible p.1) };
 
     fn clone(&self) -> Result<Self, AllocError> {
-        self.cloned::<ByEqualClone>()
+        let mut clone = Map::new();
+        match self.clone_into::<ByEqualClone>(&mut clone) {
+            Ok(()) => Ok(clone),
+            Err(refused) => Err(refused),
+        }
     }
 }
 

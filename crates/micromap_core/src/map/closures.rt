@@ -12,10 +12,10 @@ ghost use Rattle.micromap_core.specs.Pairs.{AreContents, has};
 use super::Map;
 
 impl<K: Eq + Drop, V: Drop, const N: usize> Map<K, V, N> {
-    /// Keeps the pairs for which `keep` returns `true`, and drops the others.
+    /// Keeps the pairs for which `keep` returns `true`, with the values that it left, and drops the others.
     ///
-    /// The kept pairs stay in their order, with the values that `keep` left. `keep` is called on the pairs from front
-    /// to end, once each. Moves each kept pair at most once. Compares no key.
+    /// The kept pairs stay in their order. `keep` is called once on each pair, from front to end. Moves each kept pair
+    /// at most once.
     ///
     /// ```
     /// let mut map = Map::from([(1, 10), (2, 20), (3, 30)]);
@@ -36,7 +36,7 @@ impl<K: Eq + Drop, V: Drop, const N: usize> Map<K, V, N> {
 impl<K: Eq, V, const N: usize> Map<K, V, N> {
     /// Calls `update` on each key and its value, from front to end.
     ///
-    /// Keys, order and length stay. Compares no key.
+    /// Keys, order and length stay.
     ///
     /// ```
     /// let mut map: Map<u8, u8, 2> = Map::from([(1, 10), (2, 20)]);
@@ -54,9 +54,8 @@ impl<K: Eq, V, const N: usize> Map<K, V, N> {
 
     /// Calls `update` on the value of each of `keys` that is stored, and returns which of them are stored.
     ///
-    /// Requires that `keys` are pairwise unequal, whether stored or not. `==` of them tests this. `update` is called
-    /// with a key's position in `keys` and a mutable reference to its value, in the order of `keys`. No other value
-    /// changes. Makes one scan for each key.
+    /// Requires that `keys` are distinct by `==`, stored or not. `update` gets a key's
+    /// position in `keys` and its value, in the order of `keys`. No other value changes. Makes one scan for each key.
     ///
     /// ```
     /// let mut map: Map<u8, usize, 2> = Map::from([(1, 10), (2, 20)]);

@@ -12,17 +12,17 @@ use super::Map;
 
 impl<K: Eq, V: Eq, const N: usize> Map<K, V, N> {
     /// Returns `true` if the two maps are the same: each pair of either has an equal key with an equal value in the
-    /// other. Neither order nor capacity matters.
+    /// other. Neither order nor capacity matters. `==` is `eq_with` within one type.
     ///
-    /// The result is `true` exactly if no fair list of keyed calls tells the two maps apart. After `true`, every fair
-    /// list of calls has results that agree, and leaves the two maps the same. A list is fair if none of its calls
-    /// inserts a key that neither map has while only one of them has room. A proof that two maps stay the same cites
-    /// the clause `outlasts` and the law `fair_where_fits`, or for a single change `same_put`, `same_put_key` or
-    /// `same_take_out`, which the ruleset `comparison` has for a search.
+    /// The result is `true` exactly if no fair list of keyed calls tells the two maps apart. Keyed calls are `get`,
+    /// `get_key_value`, `contains_key`, `insert`, `insert_key_value`, `remove`, `remove_entry`, `len`, `is_empty` and
+    /// `clear`. A list is fair if none of its calls inserts a key that neither map has while only one of them has room.
+    /// After `true`, every fair list has results that agree, and leaves the two maps the same. A proof that two maps
+    /// stay the same cites the clause `outlasts` and the law `fair_where_fits`. For a single change it cites `same_put`,
+    /// `same_put_key` or `same_take_out`, which a search finds by the ruleset `comparison`.
     ///
     /// Compares no key if the lengths differ. Else it makes one scan of `other` for each key of this map, up to and
-    /// including the first that `other` lacks or has with an unequal value. At most as many keys are compared as the
-    /// length times itself. `eq_with_counted` counts its comparisons; only what it adds to the counter is proved.
+    /// including the first that `other` lacks or has with an unequal value.
     ///
     /// ```
     /// let map = Map::from([(1, 'a'), (2, 'b')]);
@@ -41,8 +41,8 @@ impl<K: Eq, V: Eq, const N: usize> Map<K, V, N> {
     /// Returns a reference to a stored key at which `get` on the two maps doesn't agree, or `None` if the maps are the
     /// same.
     ///
-    /// It is the first key of this map that `other` lacks or has with an unequal value. If there is none, it is the
-    /// first key of `other` that this map lacks. Each key that is tried costs one scan of the other map.
+    /// It is the first key of this map that `other` lacks or has with an unequal value, or else the first of `other`
+    /// that this map lacks. Each key that is tried costs one scan of the other map.
     ///
     /// ```
     /// let first = Map::from([(1, 10), (2, 20)]);
@@ -107,11 +107,6 @@ impl<K: Eq, V: Eq, const N: usize> Map<K, V, N> {
 }
 
 /// `==` is `eq_with` within one type.
-///
-/// ```
-/// assert!(rt; Map::from([(1, 'a'), (2, 'b')]) == Map::from([(2, 'b'), (1, 'a')]));
-/// assert!(rt; Map::from([(1, 'a')]) != Map::from([(1, 'b')]));
-/// ```
 impl<K: Eq, V: Eq, const N: usize> PartialEq for Map<K, V, N> {
     ghost eq = { is_same K.eq V.eq };
 

@@ -53,9 +53,8 @@ impl<K: Eq, V, const N: usize> Map<K, V, N> {
 impl<K: Eq, V: Eq, const N: usize> Map<K, V, N> {
     /// Returns what `eq_with` returns, and adds the number of keys compared to `steps`.
     ///
-    /// Requires `steps.count() + len() * len() < 2^128`, at any length of `other`. Adds nothing if the lengths differ.
-    /// Else it adds what `get_counted` on `other` adds for each key of this map, up to and including the first that
-    /// `other` lacks or has with an unequal value.
+    /// Requires `steps.count() + len() * len() < 2^128`, at any length of `other`. Adds what `get_counted` on `other`
+    /// adds for each key that `eq_with` looks up there.
     pub fn eq_with_counted<const M: usize>(&self, other: &Map<K, V, M>, steps: &mut Steps) -> bool
         requires { steps.old + length self.now * length self.now < 2 ^ 128 }
         ensures answer { IsTrue result ↔ Same K.eq V.eq self.now other.now }

@@ -11,14 +11,15 @@ mod vacant;
 
 use crate::Map;
 
-/// The entry of a key, which the map has or lacks. Its calls but `has_room` require that it is sound, as each call that
-/// returns an entry ensures. None compares a key.
+/// The entry of a key, which the map has or lacks. Its calls but `has_room` require that it is sound. None compares a
+/// key.
 pub type Entry<'a, K, V, const N: usize> = EntryIn<'a, K, Map<K, V, N>>;
 
 /// An entry whose key is stored. Its calls require that it is sound. None compares a key.
 pub type OccupiedEntry<'a, K, V, const N: usize> = OccupiedIn<'a, Map<K, V, N>>;
 
-/// An entry whose key is new. It holds the key. The calls that insert require that it is sound. None compares a key.
+/// An entry whose key is new. It holds the key. Its calls `insert` and `insert_entry` require that it is sound. None
+/// compares a key.
 pub type VacantEntry<'a, K, V, const N: usize> = VacantIn<'a, K, Map<K, V, N>>;
 
 /// Internal: write `Entry<'a, K, V, N>`.

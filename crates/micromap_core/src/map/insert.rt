@@ -11,8 +11,7 @@ use crate::InsertError;
 impl<K: Eq + Drop, V: Drop, const N: usize> Map<K, V, N> {
     /// Inserts the pair, and returns the old value, or `None` if the key is new.
     ///
-    /// Requires that an equal key is stored or the map has room, which `fits` tests. A stored key stays, and its value
-    /// is replaced. A new pair goes last. Makes one scan.
+    /// Requires `fits(&key)`. A stored key stays, and its value is replaced. A new pair goes last.
     ///
     /// ```
     /// let mut map: Map<u8, char, 1> = Map::new();
@@ -38,13 +37,7 @@ impl<K: Eq + Drop, V: Drop, const N: usize> Map<K, V, N> {
         }
     }
 
-    /// Inserts the pair as `insert` does, with the same precondition. It is safe, and kept for ported code.
-    ///
-    /// ```
-    /// let mut map = Map::from([(1, 'a'), (2, 'b')]);
-    /// assert!(rt; map.fits(&2));
-    /// assert_eq!(rt; map.insert_unchecked(2, 'c'), Some('b'));
-    /// ```
+    /// Does what `insert` does, and requires the same. It is safe, and kept for ported code.
     #[inline]
     pub fn insert_unchecked(&mut self, key: K, value: V) -> Option<V>
         requires { IsTrue (fits K.eq N self.old key) }
@@ -57,8 +50,7 @@ impl<K: Eq + Drop, V: Drop, const N: usize> Map<K, V, N> {
 
     /// Inserts the pair, and returns the old pair, or `None` if the key is new.
     ///
-    /// Requires that an equal key is stored or the map has room, which `fits` tests. A stored pair is replaced, with
-    /// its key. A new pair goes last. Makes one scan.
+    /// Requires `fits(&key)`. A stored pair is replaced, with its key. A new pair goes last.
     ///
     /// ```
     /// let mut map = Map::from([(1, 'a'), (2, 'b')]);
@@ -83,8 +75,8 @@ impl<K: Eq + Drop, V: Drop, const N: usize> Map<K, V, N> {
 
     /// Inserts the pair if it fits. Returns `Some(Some(old))` at a stored key, `Some(None)` at a new one, else `None`.
     ///
-    /// A stored key stays, and its value is replaced, in a full map too. A new pair goes last. A pair with a new key
-    /// doesn't fit a full map: then the map is unchanged, and the key and the value are dropped. Makes one scan.
+    /// A stored key stays, and its value is replaced, in a full map too. A new pair goes last, or is dropped if the map
+    /// is full.
     ///
     /// ```
     /// let mut map: Map<u64, &str, 2> = Map::new();
@@ -109,10 +101,7 @@ impl<K: Eq + Drop, V: Drop, const N: usize> Map<K, V, N> {
         }
     }
 
-    /// Inserts the pair if it fits, and returns `true` if it did.
-    ///
-    /// A stored key stays, and its value is replaced, in a full map too. A new pair goes last. A pair with a new key
-    /// doesn't fit a full map: then the map is unchanged, and the key and the value are dropped. Makes one scan.
+    /// Inserts the pair as `checked_insert` does, and returns `true` if it fits.
     ///
     /// ```
     /// let mut map: Map<u8, char, 1> = Map::new();
@@ -140,11 +129,10 @@ impl<K: Eq + Drop, V: Drop, const N: usize> Map<K, V, N> {
         }
     }
 
-    /// Inserts the pair if its key is new and there is room. Returns `Err(Occupied((key, value)))` if an equal key is
-    /// stored, and `Err(Full((key, value)))` if the key is new and the map is full.
+    /// Inserts the pair last if its key is new and there is room. Returns `Err(Occupied((key, value)))` if an equal key
+    /// is stored, and `Err(Full((key, value)))` if the key is new and the map is full.
     ///
-    /// A new pair goes last. A stored pair is never replaced: after an `Err` the map is unchanged, and the pair comes back.
-    /// Makes one scan.
+    /// After an `Err` the map is unchanged.
     ///
     /// ```
     /// let mut map: Map<u64, &str, 1> = Map::new();

@@ -12,10 +12,7 @@ use super::Map;
 use std::ops::{Index, IndexMut};
 
 impl<K: Eq, V, const N: usize> Map<K, V, N> {
-    /// Returns a reference to the value of `key`, or `None` if the key is missing.
-    ///
-    /// Makes one scan. From the front it compares as many keys as the index of the key plus one, or as the length if the
-    /// key is missing. `get_counted` counts these comparisons; only what it adds to the counter is proved.
+    /// Returns a reference to the value of `key`, or `None` if the key is missing. `get_counted` counts the comparisons.
     ///
     /// ```
     /// let map = Map::from([(1, 'a'), (2, 'b')]);
@@ -32,7 +29,7 @@ impl<K: Eq, V, const N: usize> Map<K, V, N> {
 
     /// Returns a mutable reference to the value of `key`, or `None` if the key is missing.
     ///
-    /// After the borrow ends the map has what was written, and all else is unchanged. Makes one scan.
+    /// After the borrow ends the map has what was written, and all else is unchanged.
     ///
     /// ```
     /// let mut map = Map::from([(1, 'a'), (2, 'b')]);
@@ -52,7 +49,7 @@ impl<K: Eq, V, const N: usize> Map<K, V, N> {
         }
     }
 
-    /// Returns references to the stored key and its value, or `None` if the key is missing. Makes one scan.
+    /// Returns references to the stored key and its value, or `None` if the key is missing.
     ///
     /// ```
     /// let map = Map::from([(1, 'a'), (2, 'b')]);
@@ -67,7 +64,7 @@ impl<K: Eq, V, const N: usize> Map<K, V, N> {
         Some(self.pair_at(index))
     }
 
-    /// Returns references to the first key and its value, or `None` if the map is empty. Compares no key.
+    /// Returns references to the first key and its value, or `None` if the map is empty.
     ///
     /// ```
     /// let mut map = Map::from([(2, 'b'), (1, 'a')]);
@@ -85,14 +82,7 @@ impl<K: Eq, V, const N: usize> Map<K, V, N> {
         }
     }
 
-    /// Returns references to the last key and its value, or `None` if the map is empty. Compares no key.
-    ///
-    /// ```
-    /// let mut map = Map::from([(2, 'b'), (1, 'a')]);
-    /// assert_eq!(rt; map.last(), Some((&1, &'a')));
-    /// map.clear();
-    /// assert_eq!(rt; map.last(), None);
-    /// ```
+    /// Returns references to the last key and its value, or `None` if the map is empty.
     #[inline]
     pub fn last(&self) -> Option<(&K, &V)>
         ensures answer { option_map deref_pair result ≡ slice_get self.now (length self.now - 1) }
@@ -103,7 +93,7 @@ impl<K: Eq, V, const N: usize> Map<K, V, N> {
         }
     }
 
-    /// Returns `true` if a stored key equals `key`. Makes one scan.
+    /// Returns `true` if a stored key equals `key`.
     ///
     /// ```
     /// let map = Map::from([(1, 'a'), (2, 'b')]);
@@ -117,9 +107,8 @@ impl<K: Eq, V, const N: usize> Map<K, V, N> {
         self.index_of(key).is_some()
     }
 
-    /// Returns `true` if a pair with this key can be inserted: an equal key is stored, or there is room.
-    ///
-    /// Compares no key if there is room. Else it makes one scan.
+    /// Returns `true` if a pair with this key can be inserted: an equal key is stored, or there is room. Compares no key
+    /// if there is room.
     ///
     /// ```
     /// let full = Map::from([(1, 'a'), (2, 'b')]);
@@ -133,9 +122,9 @@ impl<K: Eq, V, const N: usize> Map<K, V, N> {
         self.has_room() || self.contains_key(key)
     }
 
-    /// Returns a reference to the value of `key`.
+    /// Returns a reference to the value of `key`, as `map[&key]` does.
     ///
-    /// Requires that the key is stored, which `contains_key` tests. Makes one scan.
+    /// Requires `contains_key(key)`.
     ///
     /// ```
     /// let map = Map::from([(1, 'a'), (2, 'b')]);
@@ -153,18 +142,9 @@ impl<K: Eq, V, const N: usize> Map<K, V, N> {
         }
     }
 
-    /// Returns a mutable reference to the value of `key`.
+    /// Returns a mutable reference to the value of `key`, as `map[&key]` does where it is written to.
     ///
-    /// Requires that the key is stored, which `contains_key` tests. After the borrow ends the map has what was written,
-    /// and all else is unchanged. Makes one scan.
-    ///
-    /// ```
-    /// let mut map = Map::from([(1, 'a'), (2, 'b')]);
-    /// if map.contains_key(&2) {
-    ///     *map.index_mut(&2) = 'c';
-    /// }
-    /// assert_eq!(rt; map.get(&2), Some(&'c'));
-    /// ```
+    /// Requires `contains_key(key)`. After the borrow ends the map has what was written, and all else is unchanged.
     #[inline]
     pub fn index_mut(&mut self, key: &K) -> &mut V
         requires { IsTrue (has K.eq self.old key.now) }
@@ -179,7 +159,7 @@ impl<K: Eq, V, const N: usize> Map<K, V, N> {
 }
 
 impl<K: Eq, V: Copy, const N: usize> Map<K, V, N> {
-    /// Returns a copy of the value of `key`, or `default` if the key is missing. Makes one scan.
+    /// Returns a copy of the value of `key`, or `default` if the key is missing.
     ///
     /// ```
     /// let counts = Map::from([("foo", 3), ("bar", 1)]);
@@ -194,13 +174,7 @@ impl<K: Eq, V: Copy, const N: usize> Map<K, V, N> {
     }
 }
 
-/// `map[&key]` is the value of a key. Requires that the key is stored, which `contains_key` tests. Makes one scan.
-///
-/// ```
-/// let map = Map::from([(1, 'a'), (2, 'b')]);
-/// assert!(rt; map.contains_key(&2));
-/// assert_eq!(rt; map[&2], 'b');
-/// ```
+/// `map[&key]` is the value of a key. Requires `contains_key(key)`.
 impl<'k, K: Eq, V, const N: usize> Index<&'k K> for Map<K, V, N> {
     type Output = V;
 
@@ -215,14 +189,6 @@ impl<'k, K: Eq, V, const N: usize> Index<&'k K> for Map<K, V, N> {
 }
 
 /// `map[&key]` can be written too, as by `index_mut`.
-///
-/// ```
-/// let mut map = Map::from([(1, 'a'), (2, 'b')]);
-/// if map.contains_key(&2) {
-///     map[&2] = 'c';
-/// }
-/// assert_eq!(rt; map.get(&2), Some(&'c'));
-/// ```
 impl<'k, K: Eq, V, const N: usize> IndexMut<&'k K> for Map<K, V, N> {
     #[inline]
     fn index_mut(&mut self, key: &'k K) -> &mut V

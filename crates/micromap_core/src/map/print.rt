@@ -5,8 +5,7 @@ use super::Map;
 use std::fmt;
 use std::fmt::Write;
 
-/// `{k: v, k: v}`, from the front. Width and other flags are ignored. An error of the writer ends the printing and is
-/// returned.
+/// Prints `{k: v, k: v}`, from the front. Ignores width and other flags. Ends at an error of the writer, and returns it.
 ///
 /// ```
 /// let map = Map::from([(2, 'b'), (1, 'a')]);

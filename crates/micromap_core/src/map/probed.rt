@@ -12,7 +12,7 @@ use super::Map;
 use crate::probe::Probe;
 
 impl<K: Eq, V, const N: usize> Map<K, V, N> {
-    /// Returns a reference to the value of the key that matches, or `None` if none does. Makes one scan.
+    /// Returns a reference to the value of the key that matches, or `None` if none does.
     ///
     /// ```
     /// let mut ages: Map<TextBuf, u8, 4> = Map::new();
@@ -29,15 +29,7 @@ impl<K: Eq, V, const N: usize> Map<K, V, N> {
 
     /// Returns a mutable reference to the value of the key that matches, or `None` if none does.
     ///
-    /// After the borrow ends the map has what was written, and all else is unchanged. Makes one scan.
-    ///
-    /// ```
-    /// let mut ages = Map::from([("Ada", 36), ("Alan", 41)]);
-    /// if let Some(age) = ages.get_mut_by(&Text("Ada")) {
-    ///     *age = 37;
-    /// }
-    /// assert_eq!(rt; ages.get(&"Ada"), Some(&37));
-    /// ```
+    /// After the borrow ends the map has what was written, and all else is unchanged.
     #[inline]
     pub fn get_mut_by<P: Probe<K>>(&mut self, probe: &P) -> Option<&mut V>
         ensures* writes_back { sem 𝓛 (lends_matched_if K.row V.row N.row K.eq self.entry
@@ -50,13 +42,7 @@ impl<K: Eq, V, const N: usize> Map<K, V, N> {
         }
     }
 
-    /// Returns references to the key that matches and its value, or `None` if none does. Makes one scan.
-    ///
-    /// ```
-    /// let ages = Map::from([("Ada", 36), ("Alan", 41)]);
-    /// assert_eq!(rt; ages.get_key_value_by(&Text("Ada")), Some((&"Ada", &36)));
-    /// assert_eq!(rt; ages.get_key_value_by(&Text("Grace")), None);
-    /// ```
+    /// Returns references to the key that matches and its value, or `None` if none does.
     #[inline]
     pub fn get_key_value_by<P: Probe<K>>(&self, probe: &P) -> Option<(&K, &V)>
         ensures answer { option_map deref_pair result ≡ lookup_entry (P.matches probe.now) self.now }
@@ -64,13 +50,7 @@ impl<K: Eq, V, const N: usize> Map<K, V, N> {
         self.find(probe)
     }
 
-    /// Returns `true` if a stored key matches. Makes one scan.
-    ///
-    /// ```
-    /// let ages = Map::from([("Ada", 36), ("Alan", 41)]);
-    /// assert!(rt; ages.contains_key_by(&Text("Ada")));
-    /// assert!(rt; !ages.contains_key_by(&Text("Grace")));
-    /// ```
+    /// Returns `true` if a stored key matches.
     #[inline]
     pub fn contains_key_by<P: Probe<K>>(&self, probe: &P) -> bool
         ensures answer { result ≡ is_some (lookup (P.matches probe.now) self.now) }
@@ -78,16 +58,8 @@ impl<K: Eq, V, const N: usize> Map<K, V, N> {
         self.find(probe).is_some()
     }
 
-    /// Returns `true` if a pair whose key matches can be inserted: a stored key matches, or there is room.
-    ///
-    /// No key need be made to ask. Compares no key if there is room. Else it makes one scan.
-    ///
-    /// ```
-    /// let mut ages: Map<TextBuf, u8, 1> = Map::new();
-    /// ages.put(TextBuf::new(alloc, "Ada")?, 36);
-    /// assert!(rt; ages.fits_by(&Text("Ada")));
-    /// assert!(rt; !ages.fits_by(&Text("Alan")));
-    /// ```
+    /// Returns `true` if a pair whose key matches can be inserted: a stored key matches, or there is room. No key need
+    /// be made to ask. Compares no key if there is room.
     #[inline]
     pub fn fits_by<P: Probe<K>>(&self, probe: &P) -> bool
         ensures answer { result ≡ fits_by (P.matches probe.now) N self.now }
@@ -97,13 +69,7 @@ impl<K: Eq, V, const N: usize> Map<K, V, N> {
 
     /// Returns a reference to the value of the key that matches.
     ///
-    /// Requires that a stored key matches, which `contains_key_by` tests. Makes one scan.
-    ///
-    /// ```
-    /// let ages = Map::from([("Ada", 36), ("Alan", 41)]);
-    /// assert!(rt; ages.contains_key_by(&Text("Ada")));
-    /// assert_eq!(rt; *ages.index_by(&Text("Ada")), 36);
-    /// ```
+    /// Requires `contains_key_by(probe)`.
     #[inline]
     pub fn index_by<P: Probe<K>>(&self, probe: &P) -> &V
         requires { IsTrue (is_some (lookup (P.matches probe.now) self.now)) }
@@ -117,16 +83,7 @@ impl<K: Eq, V, const N: usize> Map<K, V, N> {
 
     /// Returns a mutable reference to the value of the key that matches.
     ///
-    /// Requires that a stored key matches, which `contains_key_by` tests. After the borrow ends the map has what was
-    /// written, and all else is unchanged. Makes one scan.
-    ///
-    /// ```
-    /// let mut ages = Map::from([("Ada", 36), ("Alan", 41)]);
-    /// if ages.contains_key_by(&Text("Ada")) {
-    ///     *ages.index_mut_by(&Text("Ada")) = 37;
-    /// }
-    /// assert_eq!(rt; ages.get(&"Ada"), Some(&37));
-    /// ```
+    /// Requires `contains_key_by(probe)`. After the borrow ends the map has what was written, and all else is unchanged.
     #[inline]
     pub fn index_mut_by<P: Probe<K>>(&mut self, probe: &P) -> &mut V
         requires { IsTrue (is_some (lookup (P.matches probe.now) self.old)) }
@@ -142,13 +99,7 @@ impl<K: Eq, V, const N: usize> Map<K, V, N> {
 }
 
 impl<K: Eq, V: Copy, const N: usize> Map<K, V, N> {
-    /// Returns a copy of the value of the key that matches, or `default` if none does. Makes one scan.
-    ///
-    /// ```
-    /// let ages = Map::from([("Ada", 36), ("Alan", 41)]);
-    /// assert_eq!(rt; ages.get_or_by(&Text("Ada"), 0), 36);
-    /// assert_eq!(rt; ages.get_or_by(&Text("Grace"), 0), 0);
-    /// ```
+    /// Returns a copy of the value of the key that matches, or `default` if none does.
     #[inline]
     pub fn get_or_by<P: Probe<K>>(&self, probe: &P, default: V) -> V
         ensures answer { result ≡ unwrap_or (lookup (P.matches probe.now) self.now) default }
@@ -158,9 +109,7 @@ impl<K: Eq, V: Copy, const N: usize> Map<K, V, N> {
 }
 
 impl<K: Eq + Drop, V: Drop, const N: usize> Map<K, V, N> {
-    /// Removes the pair of the key that matches, and returns its value, or `None` if none matches.
-    ///
-    /// The others keep their order: those behind it move up by one. After `None` the map is unchanged. Makes one scan.
+    /// Removes the pair of the key that matches, as `remove` does, and returns its value, or `None` if none matches.
     ///
     /// ```
     /// let mut ages = Map::from([("Ada", 36), ("Alan", 41)]);
@@ -177,16 +126,8 @@ impl<K: Eq + Drop, V: Drop, const N: usize> Map<K, V, N> {
         Some(value)
     }
 
-    /// Removes the pair of the key that matches, and returns the stored key and its value, or `None` if none matches.
-    ///
-    /// The others keep their order: those behind it move up by one. After `None` the map is unchanged. Makes one scan.
-    ///
-    /// ```
-    /// let mut ages: Map<TextBuf, u8, 4> = Map::new();
-    /// ages.put(TextBuf::new(alloc, "Ada")?, 36);
-    /// let removed = ages.remove_entry_by(&Text("Ada"));
-    /// assert!(rt; removed.is_some_and(|(name, age)| name.is("Ada") && age == 36));
-    /// ```
+    /// Removes the pair of the key that matches, as `remove` does, and returns the stored key and its value, or `None`
+    /// if none matches.
     #[inline]
     pub fn remove_entry_by<P: Probe<K>>(&mut self, probe: &P) -> Option<(K, V)>
         ensures answer { result ≡ lookup_entry (P.matches probe.now) self.old }

@@ -9,7 +9,7 @@ use super::Map;
 impl<K: Eq + Drop, V: Drop, const N: usize> Map<K, V, N> {
     /// Removes the pair of `key`, and returns its value, or `None` if the key is missing.
     ///
-    /// The others keep their order: those behind it move up by one. After `None` the map is unchanged. Makes one scan.
+    /// The others keep their order: those behind it move up by one. After `None` the map is unchanged.
     ///
     /// ```
     /// let mut map = Map::from([(1, 'a'), (2, 'b'), (3, 'c')]);
@@ -28,15 +28,8 @@ impl<K: Eq + Drop, V: Drop, const N: usize> Map<K, V, N> {
         Some(value)
     }
 
-    /// Removes the pair of `key`, and returns the stored key and its value, or `None` if the key is missing.
-    ///
-    /// The others keep their order: those behind it move up by one. After `None` the map is unchanged. Makes one scan.
-    ///
-    /// ```
-    /// let mut map = Map::from([(1, 'a'), (2, 'b')]);
-    /// assert_eq!(rt; map.remove_entry(&1), Some((1, 'a')));
-    /// assert_eq!(rt; map.remove_entry(&1), None);
-    /// ```
+    /// Removes the pair of `key`, as `remove` does, and returns the stored key and its value, or `None` if the key is
+    /// missing.
     #[inline]
     #[tactic(auto, unfolding(crate::specs::Pairs::take_out))]
     pub fn remove_entry(&mut self, key: &K) -> Option<(K, V)>
@@ -47,9 +40,7 @@ impl<K: Eq + Drop, V: Drop, const N: usize> Map<K, V, N> {
         self.take(key)
     }
 
-    /// Removes the first pair, and returns it, or `None` if the map is empty.
-    ///
-    /// The others keep their order: each moves up by one. Compares no key.
+    /// Removes the first pair, and returns it, or `None` if the map is empty. Each other pair moves up by one.
     ///
     /// ```
     /// let mut map = Map::from([(2, 'b'), (1, 'a')]);
@@ -70,16 +61,7 @@ impl<K: Eq + Drop, V: Drop, const N: usize> Map<K, V, N> {
         }
     }
 
-    /// Removes the last pair, and returns it, or `None` if the map is empty.
-    ///
-    /// The others stay where they are. Compares no key.
-    ///
-    /// ```
-    /// let mut map = Map::from([(2, 'b'), (1, 'a')]);
-    /// assert_eq!(rt; map.pop_last(), Some((1, 'a')));
-    /// assert_eq!(rt; map.pop_last(), Some((2, 'b')));
-    /// assert_eq!(rt; map.pop_last(), None);
-    /// ```
+    /// Removes the last pair, and returns it, or `None` if the map is empty. The others stay where they are.
     #[inline]
     pub fn pop_last(&mut self) -> Option<(K, V)>
         ensures answer { result ≡ slice_get self.old (length self.old - 1) }

@@ -7,9 +7,8 @@ use super::Map;
 use crate::stream::{EntrySink, EntrySource, ReadFault};
 
 impl<K: Eq, V, const N: usize> Map<K, V, N> {
-    /// Writes the pairs to the sink, from the front, up to the sink's first error, which is returned.
-    ///
-    /// Requires `sink.faults() < u128::MAX`. Compares nothing.
+    /// Writes the pairs to the sink, from the front, up to the sink's first error, which is returned. Requires
+    /// `sink.faults() < u128::MAX`.
     ///
     /// ```
     /// let map = Map::from([(1, 'a'), (2, 'b')]);
@@ -34,10 +33,9 @@ impl<K: Eq, V, const N: usize> Map<K, V, N> {
 impl<K: Eq + Drop, V: Drop, const N: usize> Map<K, V, N> {
     /// Creates a map of the pairs left in the source, as `insert` inserts them.
     ///
-    /// Requires `source.faults() < u128::MAX`. The keys are stored in the order in which each distinct key first came.
-    /// Each has the value of its last pair. Reading ends at the end of the source, at its first error, or at the first
-    /// pair that doesn't fit. Nothing after that is taken. After an `Err` the pairs taken are dropped. Makes one scan
-    /// for each pair.
+    /// Requires `source.faults() < u128::MAX`. Ends with the source, at its first error, or at the first pair that
+    /// doesn't fit, and takes nothing after that. After an `Err` the pairs taken are dropped. Makes one scan for each
+    /// pair.
     ///
     /// ```
     /// let pairs = [(1, 'a'), (1, 'b'), (2, 'c')];

@@ -9,9 +9,7 @@ use super::Map;
 use crate::text_buf::TextBuf;
 
 impl<V: Drop, const N: usize> Map<String, V, N> {
-    /// Returns this map with each key as a [`TextBuf`], in the same order.
-    ///
-    /// Moves each key once. Compares no key, and takes no memory.
+    /// Returns this map with each key as a `TextBuf`, in the same order. Moves each key once, and takes no memory.
     ///
     /// ```
     /// let mut ages: Map<String, u8, 2> = Map::new();
@@ -31,16 +29,7 @@ impl<V: Drop, const N: usize> Map<String, V, N> {
 }
 
 impl<V: Drop, const N: usize> Map<TextBuf, V, N> {
-    /// Returns this map with each key as a `String`, in the same order.
-    ///
-    /// Moves each key once. Compares no key, and takes no memory.
-    ///
-    /// ```
-    /// let mut ages: Map<TextBuf, u8, 2> = Map::new();
-    /// ages.put(TextBuf::new(alloc, "Ada")?, 36);
-    /// let ages: Map<String, u8, 2> = ages.into_strings();
-    /// assert_eq!(rt; ages.get_by(&Text("Ada")), Some(&36));
-    /// ```
+    /// Returns this map with each key as a `String`, in the same order. Moves each key once, and takes no memory.
     pub fn into_strings(self) -> Map<String, V, N>
         ensures answer { key_texts result ≡ self }
         ensures content { IsContent string_eq N result }

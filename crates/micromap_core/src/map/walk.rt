@@ -48,11 +48,6 @@ impl<K: Eq, V, const N: usize> Map<K, V, N> {
     }
 
     /// Returns an iterator over the values by reference, from the front.
-    ///
-    /// ```
-    /// let map = Map::from([(2, 'b'), (1, 'a')]);
-    /// assert!(rt; map.values().eq(&['b', 'a']));
-    /// ```
     #[inline]
     pub fn values(&self) -> Values<'_, K, V>
         ensures answer { result ≡ values_of self.now }
@@ -62,9 +57,8 @@ impl<K: Eq, V, const N: usize> Map<K, V, N> {
         Values::over(self.pairs.values())
     }
 
-    /// Returns an iterator over the keys by value, from the front.
-    ///
-    /// A caller that is generic in `K` and `V` requires `IntoKeysFits K.row V.row N.row`.
+    /// Returns an iterator over the keys by value, from the front. A caller that is generic in `K` and `V` requires
+    /// `IntoKeysFits K.row V.row N.row`.
     ///
     /// ```
     /// let map = Map::from([(2, 'b'), (1, 'a')]);
@@ -81,14 +75,8 @@ impl<K: Eq, V, const N: usize> Map<K, V, N> {
         IntoKeys::over(keys, values)
     }
 
-    /// Returns an iterator over the values by value, from the front.
-    ///
-    /// A caller that is generic in `K` and `V` requires `IntoValuesFits K.row V.row N.row`.
-    ///
-    /// ```
-    /// let map = Map::from([(2, 'b'), (1, 'a')]);
-    /// assert!(rt; map.into_values().eq(['b', 'a']));
-    /// ```
+    /// Returns an iterator over the values by value, from the front. A caller that is generic in `K` and `V` requires
+    /// `IntoValuesFits K.row V.row N.row`.
     #[inline]
     pub fn into_values(self) -> IntoValues<K, V, N>
         ensures answer { result ≡ values_of self }
@@ -104,8 +92,8 @@ impl<K: Eq, V, const N: usize> Map<K, V, N> {
 impl<K: Eq + Drop, V: Drop, const N: usize> Map<K, V, N> {
     /// Removes all pairs, and returns an iterator over them by value, from the front.
     ///
-    /// The map is empty as soon as the call returns. Pairs that aren't taken are dropped with the iterator. A caller that
-    /// is generic in `K` and `V` requires `IntoIterFits K.row V.row N.row`.
+    /// The map is empty as soon as the call returns. A caller that is generic in `K` and `V` requires `IntoIterFits
+    /// K.row V.row N.row`.
     ///
     /// ```
     /// let mut map = Map::from([(2, 'b'), (1, 'a')]);
@@ -135,14 +123,6 @@ impl<K: Eq + Drop, V: Drop, const N: usize> Map<K, V, N> {
 
 /// A loop over a map yields its pairs by value, from the front. A caller that is generic in `K` and `V` requires
 /// `IntoIterFits K.row V.row N.row`.
-///
-/// ```
-/// let mut largest = 0;
-/// for (_, value) in Map::from([(1, 10), (2, 20)]) {
-///     largest = largest.max(value);
-/// }
-/// assert_eq!(rt; largest, 20);
-/// ```
 impl<K: Eq + Drop, V: Drop, const N: usize> IntoIterator for Map<K, V, N> {
     type Item = (K, V);
 

@@ -40,12 +40,6 @@ impl<'a, K, V> SliceSource<'a, K, V> {
     }
 
     /// Returns the pairs left.
-    ///
-    /// ```
-    /// let mut source = SliceSource::over(&[(1, 'a'), (2, 'b')]);
-    /// assert!(rt; source.next_entry().is_ok());
-    /// assert!(rt; source.left() == [(2, 'b')].as_slice());
-    /// ```
     pub fn left(&self) -> &[(K, V)]
         ensures { result.now ≡ self.now }
     {

@@ -26,11 +26,6 @@ impl<K, V> Model for VecSink<K, V> {
 
 impl<K, V> VecSink<K, V> {
     /// Creates a sink that has taken nothing.
-    ///
-    /// ```
-    /// let sink: VecSink<u8, char> = VecSink::new(alloc);
-    /// assert!(rt; sink.entries().is_empty());
-    /// ```
     pub fn new(alloc: Global) -> Self
         ensures entries { result.entries ≡ [] }
         ensures faults { result.faults ≡ 0 }
@@ -44,12 +39,6 @@ impl<K, V> VecSink<K, V> {
     }
 
     /// Returns the pairs taken, in the order in which they came.
-    ///
-    /// ```
-    /// let mut sink = VecSink::new(alloc);
-    /// sink.entry(&1, &'a')?;
-    /// assert!(rt; sink.entries() == [(1, 'a')].as_slice());
-    /// ```
     pub fn entries(&self) -> &[(K, V)]
         ensures { result.now ≡ self.now.entries }
     {
@@ -57,12 +46,6 @@ impl<K, V> VecSink<K, V> {
     }
 
     /// Returns the pairs taken, by value.
-    ///
-    /// ```
-    /// let mut sink = VecSink::new(alloc);
-    /// sink.entry(&1, &'a')?;
-    /// assert_eq!(rt; sink.into_entries().len(), 1);
-    /// ```
     pub fn into_entries(self) -> Vec<(K, V)>
         ensures { result.items ≡ self.entries }
     {

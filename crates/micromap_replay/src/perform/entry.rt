@@ -3,7 +3,7 @@ ghost use Rattle.std.specs.Prelude.{◌≡◌, if◌then◌else◌};
 ghost use Rattle.std.specs.Option.{unwrap_or};
 ghost use Rattle.micromap.specs.Entry.{IsEntryOf};
 ghost use Rattle.micromap.specs.Pairs.{at, has, put_if_fits};
-ghost use Rattle.micromap_replay.specs.declared.calls.map.EntryCall.TheVariants.{OrInsert, AndModifyOrInsert, InsertEntry, VacantInsert};
+ghost use Rattle.micromap_replay.specs.declared.calls.EntryCall.TheVariants.{OrInsert, AndModifyOrInsert, InsertEntry, VacantInsert};
 ghost use Rattle.micromap_replay.specs.KeyedCalls.{after_entry, answer_entry, raised, same_id};
 
 use super::Numbers;

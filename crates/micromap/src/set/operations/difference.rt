@@ -15,7 +15,7 @@ use std::fmt;
 use std::iter::FusedIterator;
 use std::marker::Model;
 
-/// An iterator over the items of one set without an equal one in another. `Set::difference` returns it.
+/// The iterator of `Set::difference`.
 ///
 /// A call of `next` goes through the set up to and including the next member, or to its end. It makes one scan of the
 /// other set for each item passed: for a member a scan of the whole set.
@@ -98,7 +98,7 @@ impl<'a, 'b, T: Eq + fmt::Debug, const M: usize> fmt::Debug for DifferenceIn<'a,
 impl<T: Eq, const N: usize> Set<T, N> {
     /// Returns an iterator over the items of this set that have no equal one in `other`, in their order.
     ///
-    /// Making it compares nothing. All calls of `next` together make one scan of `other` for each item of this set.
+    /// All calls of `next` together make one scan of `other` for each item of this set.
     ///
     /// ```
     /// let first = Set::from([1, 2, 3]);

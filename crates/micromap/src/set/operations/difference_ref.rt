@@ -16,10 +16,7 @@ use std::fmt;
 use std::iter::FusedIterator;
 use std::marker::Model;
 
-/// An iterator over the references of one set to items without an equal one in another. `Set::difference_ref` returns
-/// it.
-///
-/// It costs what a `Difference` costs.
+/// The iterator of `Set::difference_ref`. It costs what a `Difference` costs.
 pub type DifferenceRef<'a, 's, T, const M: usize> = DifferenceRefIn<'s, &'a T, Set<&'a T, M>>;
 
 /// Internal: write `DifferenceRef<'a, 's, T, M>`.
@@ -85,8 +82,7 @@ impl<'a, T: Eq, const N: usize> Set<&'a T, N> {
     /// Returns an iterator over the references of this set to items that have no equal one behind a reference of
     /// `other`, in their order.
     ///
-    /// The references live as long as the items, and may outlive both sets. Making the iterator compares nothing. All
-    /// calls of `next` together make one scan of `other` for each reference of this set.
+    /// The references live as long as the items, and may outlive both sets. It costs what `difference` costs.
     ///
     /// ```
     /// let first = Set::from([&1, &2, &3]);

@@ -15,10 +15,8 @@ use std::fmt;
 use std::iter::FusedIterator;
 use std::marker::Model;
 
-/// An iterator over the items of one set with an equal one in another. `Set::intersection` returns it.
-///
-/// A call of `next` goes through the set up to and including the next member, or to its end. It makes one scan of the
-/// other set for each item passed: for a member a scan up to the equal item.
+/// The iterator of `Set::intersection`. It goes on as a `Difference` does, but for a member it makes a scan up to the
+/// equal item.
 pub type Intersection<'a, T, const M: usize> = IntersectionIn<'a, T, Set<T, M>>;
 
 /// Internal: write `Intersection<'a, T, M>`.
@@ -97,7 +95,7 @@ impl<'a, T: Eq + fmt::Debug, const M: usize> fmt::Debug for IntersectionIn<'a, T
 impl<T: Eq, const N: usize> Set<T, N> {
     /// Returns an iterator over the items of this set that have an equal one in `other`, in their order.
     ///
-    /// Making it compares nothing. All calls of `next` together make one scan of `other` for each item of this set.
+    /// All calls of `next` together make one scan of `other` for each item of this set.
     ///
     /// ```
     /// let first = Set::from([1, 2, 3]);

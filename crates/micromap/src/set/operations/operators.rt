@@ -13,7 +13,7 @@ use std::alloc::AllocError;
 impl<T: Eq + Clone + Drop, const N: usize> Set<T, N> {
     /// Returns a set of the clones of the items that have an equal one in `other`, in their order.
     ///
-    /// Requires that an item's clone is equal to the item. The result is `Err` only if the clone of a member is; then
+    /// Requires that an item's clone is equal to the item. The result is `Err` only if the clone of a member is. Then
     /// the clones made so far are dropped. It costs what `intersection` costs, and for each member one scan of those before
     /// it.
     ///
@@ -35,8 +35,8 @@ impl<T: Eq + Clone + Drop, const N: usize> Set<T, N> {
 
     /// Returns a set of the clones of the items that have no equal one in `other`, in their order.
     ///
-    /// Requires that an item's clone is equal to the item. The result is `Err` only if the clone of a member is; then
-    /// the clones made so far are dropped. It costs what `difference` costs, and for each member one scan of those before it.
+    /// Requires that an item's clone is equal to the item. It fails as `bitand` does. It costs what `difference` costs,
+    /// and for each member one scan of those before it.
     ///
     /// ```
     /// let first = Set::from([1, 2, 3]);

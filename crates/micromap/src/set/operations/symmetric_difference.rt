@@ -15,10 +15,7 @@ use std::fmt;
 use std::iter::FusedIterator;
 use std::marker::Model;
 
-/// An iterator over the items of either of two sets without an equal one in the other. `Set::symmetric_difference`
-/// returns it.
-///
-/// It is one `Difference` and then the other, and costs what they cost.
+/// The iterator of `Set::symmetric_difference`: one `Difference` and then the other. It costs what they cost.
 pub type SymmetricDifference<'a, T, const N: usize, const M: usize> = SymmetricDifferenceIn<
     'a,
     T,
@@ -94,10 +91,10 @@ impl<'a, T: Eq + fmt::Debug, const N: usize, const M: usize> fmt::Debug
 }
 
 impl<T: Eq, const N: usize> Set<T, N> {
-    /// Returns an iterator over the items of this set that have no equal one in `other`, then over those of `other`
-    /// that have none in this set, each in their order.
+    /// Returns an iterator over the items of this set that have no equal one in `other`, then over those of `other` that
+    /// have none in this set, each in their order.
     ///
-    /// Making it compares nothing. All calls of `next` together make one scan of each set for each item of the other.
+    /// All calls of `next` together make one scan of each set for each item of the other.
     ///
     /// ```
     /// let first = Set::from([1, 2, 3]);

@@ -16,10 +16,8 @@ use std::fmt;
 use std::iter::FusedIterator;
 use std::marker::Model;
 
-/// An iterator over the items of either of two sets. `Set::union` returns it.
-///
-/// The other set's items come first, and cost no comparison. Then come the items of this set without an equal one among
-/// them, which cost what they cost in a `Difference`.
+/// The iterator of `Set::union`. The other set's items come first, without a comparison. Then come those of a
+/// `Difference`.
 pub type Union<'a, T, const M: usize> = UnionIn<'a, T, Set<T, M>>;
 
 /// Internal: write `Union<'a, T, M>`.
@@ -90,7 +88,7 @@ impl<T: Eq, const N: usize> Set<T, N> {
     /// Returns an iterator over the items of `other`, then over those of this set that have no equal one in `other`,
     /// each in their order.
     ///
-    /// Making it compares nothing. All calls of `next` together make one scan of `other` for each item of this set.
+    /// All calls of `next` together make one scan of `other` for each item of this set.
     ///
     /// ```
     /// let first = Set::from([1, 2]);

@@ -12,16 +12,20 @@ use crate::Map;
 impl<K: Eq, V, const N: usize> Map<K, V, N> {
     /// Returns the entry of `key`.
     ///
-    /// It is occupied if an equal key is stored; then `key` is dropped. Else it is vacant, and holds `key`. Makes one
-    /// scan.
+    /// If an equal key is stored, the entry is occupied, and `key` is dropped. Else it is vacant, and holds `key`.
     ///
     /// ```
-    /// if counts.fits(&letter) {
-    ///     counts
-    ///         .entry(letter)
-    ///         .and_modify(|count| *count = count.saturating_add(1))
-    ///         .or_insert(1);
+    /// let mut counts: Map<char, u32, 13> = Map::new();
+    /// for letter in "sets".chars() {
+    ///     if counts.fits(&letter) {
+    ///         counts
+    ///             .entry(letter)
+    ///             .and_modify(|count| *count = count.saturating_add(1))
+    ///             .or_insert(1);
+    ///     }
     /// }
+    /// counts.retain(|_, count| *count > 1);
+    /// assert!(rt; counts.into_iter().eq([('s', 2)]));
     /// ```
     #[inline]
     pub fn entry(&mut self, key: K) -> Entry<'_, K, V, N>
@@ -96,7 +100,7 @@ impl<'a, K: Eq, V, const N: usize> EntryIn<'a, K, Map<K, V, N>> {
 impl<'a, K: Eq + Drop, V: Drop, const N: usize> EntryIn<'a, K, Map<K, V, N>> {
     /// Inserts `default` if the entry is vacant, and returns a mutable reference to the value.
     ///
-    /// Requires that the entry is occupied or the map has room, which `has_room` tests. A new pair goes last.
+    /// Requires `has_room()`. A new pair goes last.
     ///
     /// ```
     /// let mut map: Map<u8, char, 1> = Map::new();
@@ -118,16 +122,7 @@ impl<'a, K: Eq + Drop, V: Drop, const N: usize> EntryIn<'a, K, Map<K, V, N>> {
 
     /// Inserts the result of `default` if the entry is vacant, and returns a mutable reference to the value.
     ///
-    /// Requires that the entry is occupied or the map has room, which `has_room` tests. `default` is called only for a
-    /// vacant entry. A new pair goes last.
-    ///
-    /// ```
-    /// let mut map: Map<u8, char, 1> = Map::new();
-    /// if map.fits(&1) {
-    ///     map.entry(1).or_insert_with(|| 'a');
-    /// }
-    /// assert_eq!(rt; map.get(&1), Some(&'a'));
-    /// ```
+    /// Requires `has_room()`. A new pair goes last. For an occupied entry `default` isn't called.
     pub fn or_insert_with<F: FnOnce() -> V>(self, default: F) -> &'a mut V
         requires sound { IsSound K.eq self }
         requires room { IsTrue (entry_has_room N self) }
@@ -138,11 +133,9 @@ impl<'a, K: Eq + Drop, V: Drop, const N: usize> EntryIn<'a, K, Map<K, V, N>> {
         self.or_insert_with_key(|_| default())
     }
 
-    /// Inserts the result of `default` of the held key if the entry is vacant, and returns a mutable reference to the
-    /// value.
+    /// Does what `or_insert_with` does, with a closure that gets the held key.
     ///
-    /// Requires that the entry is occupied or the map has room, which `has_room` tests. `default` is called only for a
-    /// vacant entry. A new pair goes last.
+    /// Requires `has_room()`.
     ///
     /// ```
     /// let mut halves: Map<u8, u8, 4> = Map::new();
@@ -169,9 +162,9 @@ impl<'a, K: Eq + Drop, V: Drop, const N: usize> EntryIn<'a, K, Map<K, V, N>> {
         }
     }
 
-    /// Inserts a default value if the entry is vacant, and returns a mutable reference to the value.
+    /// Does what `or_insert` does, with the default value.
     ///
-    /// Requires that the entry is occupied or the map has room, which `has_room` tests. A new pair goes last.
+    /// Requires `has_room()`.
     ///
     /// ```
     /// let mut counts: Map<char, u8, 4> = Map::new();
@@ -193,8 +186,7 @@ impl<'a, K: Eq + Drop, V: Drop, const N: usize> EntryIn<'a, K, Map<K, V, N>> {
 
     /// Sets the value, and returns the occupied entry.
     ///
-    /// Requires that the entry is occupied or the map has room, which `has_room` tests. A stored key stays. Else the
-    /// held key and the value go last.
+    /// Requires `has_room()`. A stored key stays. A held one goes last with the value.
     ///
     /// ```
     /// let mut map = Map::from([(1, 'a')]);

@@ -8,15 +8,6 @@ use crate::Map;
 
 impl<'a, K: Eq, V, const N: usize> OccupiedIn<'a, Map<K, V, N>> {
     /// Returns a reference to the stored key.
-    ///
-    /// ```
-    /// let mut map = Map::from([(1, 'a')]);
-    /// let key = match map.entry(1) {
-    ///     Entry::Occupied(entry) => Some(*entry.key()),
-    ///     Entry::Vacant(_entry) => None,
-    /// };
-    /// assert_eq!(rt; key, Some(1));
-    /// ```
     pub fn key(&self) -> &K
         requires { IsSound K.eq (Occupied self.now) }
         ensures { entry_key (Occupied self.now) ≡ Some result.now }
@@ -25,15 +16,6 @@ impl<'a, K: Eq, V, const N: usize> OccupiedIn<'a, Map<K, V, N>> {
     }
 
     /// Returns a reference to the value.
-    ///
-    /// ```
-    /// let mut map = Map::from([(1, 'a')]);
-    /// let value = match map.entry(1) {
-    ///     Entry::Occupied(entry) => Some(*entry.get()),
-    ///     Entry::Vacant(_entry) => None,
-    /// };
-    /// assert_eq!(rt; value, Some('a'));
-    /// ```
     pub fn get(&self) -> &V
         requires { IsSound K.eq (Occupied self.now) }
         ensures { entry_value (Occupied self.now) ≡ Some result.now }
@@ -61,14 +43,6 @@ impl<'a, K: Eq, V, const N: usize> OccupiedIn<'a, Map<K, V, N>> {
     }
 
     /// Converts the entry into a mutable reference to the value, which lives as long as the map's borrow.
-    ///
-    /// ```
-    /// let mut map = Map::from([(1, 'a')]);
-    /// if let Entry::Occupied(entry) = map.entry(1) {
-    ///     *entry.into_mut() = 'b';
-    /// }
-    /// assert_eq!(rt; map.get(&1), Some(&'b'));
-    /// ```
     #[tactic(auto, unfolding(crate::specs::Entry::entry_put))]
     pub fn into_mut(self) -> &'a mut V
         requires { IsSound K.eq (Occupied self) }
@@ -80,14 +54,6 @@ impl<'a, K: Eq, V, const N: usize> OccupiedIn<'a, Map<K, V, N>> {
     }
 
     /// Sets the value, and returns the old value.
-    ///
-    /// ```
-    /// let mut map = Map::from([(1, 'a')]);
-    /// if let Entry::Occupied(mut entry) = map.entry(1) {
-    ///     assert_eq!(rt; entry.insert('b'), 'a');
-    /// }
-    /// assert_eq!(rt; map.get(&1), Some(&'b'));
-    /// ```
     pub fn insert(&mut self, value: V) -> V
         requires { IsSound K.eq (Occupied self.old) }
         ensures old { entry_value (Occupied self.old) ≡ Some result }
@@ -118,15 +84,7 @@ impl<'a, K: Eq + Drop, V: Drop, const N: usize> OccupiedIn<'a, Map<K, V, N>> {
         value
     }
 
-    /// Removes the pair, and returns the stored key and its value. The others keep their order, as after `remove`.
-    ///
-    /// ```
-    /// let mut map = Map::from([(1, 'a')]);
-    /// if let Entry::Occupied(entry) = map.entry(1) {
-    ///     assert_eq!(rt; entry.remove_entry(), (1, 'a'));
-    /// }
-    /// assert!(rt; map.is_empty());
-    /// ```
+    /// Removes the pair as `remove` does, and returns the stored key and its value.
     pub fn remove_entry(self) -> (K, V)
         requires { IsSound K.eq (Occupied self) }
         ensures key { entry_key (Occupied self.entry) ≡ Some result.0 }

@@ -8,15 +8,6 @@ use crate::Map;
 
 impl<'a, K: Eq, V, const N: usize> VacantIn<'a, K, Map<K, V, N>> {
     /// Returns a reference to the held key.
-    ///
-    /// ```
-    /// let mut map: Map<u8, char, 1> = Map::new();
-    /// let key = match map.entry(1) {
-    ///     Entry::Vacant(entry) => Some(*entry.key()),
-    ///     Entry::Occupied(_entry) => None,
-    /// };
-    /// assert_eq!(rt; key, Some(1));
-    /// ```
     pub fn key(&self) -> &K
         ensures { entry_key (Vacant self.now) ≡ Some result.now }
     {
@@ -24,15 +15,6 @@ impl<'a, K: Eq, V, const N: usize> VacantIn<'a, K, Map<K, V, N>> {
     }
 
     /// Returns the held key by value. The map is unchanged.
-    ///
-    /// ```
-    /// let mut map: Map<u8, char, 1> = Map::new();
-    /// let key = match map.entry(1) {
-    ///     Entry::Vacant(entry) => Some(entry.into_key()),
-    ///     Entry::Occupied(_entry) => None,
-    /// };
-    /// assert_eq!(rt; key, Some(1));
-    /// ```
     pub fn into_key(self) -> K
         ensures answer { entry_key (Vacant self.entry) ≡ Some result }
         ensures pairs { self.exit.0.now ≡ entry_pairs (Vacant self.entry) }
@@ -42,15 +24,6 @@ impl<'a, K: Eq, V, const N: usize> VacantIn<'a, K, Map<K, V, N>> {
     }
 
     /// Returns `true` if the map has room.
-    ///
-    /// ```
-    /// let mut full = Map::from([(1, 'a')]);
-    /// let has_room = match full.entry(2) {
-    ///     Entry::Vacant(entry) => entry.has_room(),
-    ///     Entry::Occupied(_entry) => true,
-    /// };
-    /// assert!(rt; !has_room);
-    /// ```
     pub fn has_room(&self) -> bool
         ensures { result ≡ entry_has_room N (Vacant self.now) }
     {
@@ -61,7 +34,7 @@ impl<'a, K: Eq, V, const N: usize> VacantIn<'a, K, Map<K, V, N>> {
 impl<'a, K: Eq + Drop, V: Drop, const N: usize> VacantIn<'a, K, Map<K, V, N>> {
     /// Inserts the held key with `value`, and returns a mutable reference to the value.
     ///
-    /// Requires room, which `has_room` tests. The pair goes last.
+    /// Requires `has_room()`. The pair goes last.
     ///
     /// ```
     /// let mut map: Map<u8, char, 1> = Map::new();
@@ -86,17 +59,7 @@ impl<'a, K: Eq + Drop, V: Drop, const N: usize> VacantIn<'a, K, Map<K, V, N>> {
 
     /// Inserts the held key with `value`, and returns its occupied entry.
     ///
-    /// Requires room, which `has_room` tests. The pair goes last.
-    ///
-    /// ```
-    /// let mut map: Map<u8, char, 1> = Map::new();
-    /// if let Entry::Vacant(entry) = map.entry(1) {
-    ///     if entry.has_room() {
-    ///         assert_eq!(rt; *entry.insert_entry('a').key(), 1);
-    ///     }
-    /// }
-    /// assert_eq!(rt; map.get(&1), Some(&'a'));
-    /// ```
+    /// Requires `has_room()`. The pair goes last.
     pub fn insert_entry(self, value: V) -> OccupiedEntry<'a, K, V, N>
         requires sound { IsSound K.eq (Vacant self) }
         requires room { IsTrue (entry_has_room N (Vacant self)) }

@@ -1,8 +1,7 @@
 use Rattle.std.proofs.Common.{◌≡◌, nat_eq, true, rules, arith, subst, sym, ◌∙◌}
 use Rattle.std.specs.Set.{is_member}
 use Rattle.micromap.proofs.Laws.SetLaws.{length_put_item}
-use Rattle.micromap_examples.proofs.AffectedLemmas.{all_met, depends_put, next_depends}
-use Rattle.micromap_examples.proofs.OrderLemmas.{fewer, room, targets_put}
+use Rattle.micromap_examples.proofs.OrderLemmas.{all_met, depends_put, fewer, next_depends, room, targets_put}
 use Rattle.micromap_examples.proofs.order.affected.Goals as goal
 
 pub insert-requires : goal.insert-requires

@@ -1,8 +1,6 @@
 use Rattle.std.proofs.Common.{◌≡◌, sym, refl, ◌∙◌, rules}
-use Rattle.serde_json.specs.View.{members_view}
-use Rattle.serde_json.proofs.Views.{view-Object}
-use Rattle.micromap.specs.Json.{pairs_for, pairs_in}
-use Rattle.micromap.proofs.JsonReading.{map_read}
+use Rattle.serde_json.{specs.View.members_view, proofs.Views.view-Object}
+use Rattle.micromap.{specs.Json.pairs_for, specs.Json.pairs_in, proofs.JsonReading.map_read}
 use Rattle.micromap.proofs.json.read.map_from_json.Goals as goal
 
 pub returns-in-Object : goal.returns-in-Object

@@ -1,9 +1,6 @@
 use Rattle.std.specs.Str.{bytes_eq}
 use Rattle.serde_json.specs.View.{members_view}
-use Rattle.micromap.specs.Build.{put_pair}
-use Rattle.micromap.specs.Json.{pairs_in, whole_members}
-use Rattle.micromap.specs.Texts.{key_texts}
-use Rattle.micromap.specs.declared.json.JsonFault.TheVariants.{NotWhole}
+use Rattle.micromap.specs.{Build.put_pair, Json.pairs_in, Json.whole_members, Texts.key_texts, declared.json.JsonFault.TheVariants.NotWhole}
 use Rattle.micromap.proofs.JsonReading.{ReadsOn}
 use Rattle.micromap.proofs.json.read.map_of_members.Given as goal
 

@@ -1,9 +1,6 @@
 use Rattle.std.specs.Str.{bytes_eq}
 use Rattle.serde_json.specs.View.{items_view}
-use Rattle.micromap.specs.Items.{put_item}
-use Rattle.micromap.specs.Json.{all_texts, texts_in}
-use Rattle.micromap.specs.Texts.{item_texts}
-use Rattle.micromap.specs.declared.json.JsonFault.TheVariants.{NotText}
+use Rattle.micromap.specs.{Items.put_item, Json.all_texts, Json.texts_in, Texts.item_texts, declared.json.JsonFault.TheVariants.NotText}
 use Rattle.micromap.proofs.JsonReading.{ReadsOn}
 use Rattle.micromap.proofs.json.read.set_of_elements.Given as goal
 

@@ -1,8 +1,5 @@
 use Rattle.std.proofs.Common.{◌≡◌, ◌≤◌, ◌++◌, Some, map, false, string_bytes, ap, ◌∙◌, subst, rules}
-use Rattle.serde_json.specs.Data.{depth}
-use Rattle.serde_json.specs.Read.{max_depth, read}
-use Rattle.serde_json.specs.View.{view}
-use Rattle.serde_json.specs.Written.{compact_text, has_float}
+use Rattle.serde_json.specs.{Data.depth, Read.max_depth, Read.read, View.view, Written.compact_text, Written.has_float}
 use Rattle.serde_json.proofs.Views.{view-Array}
 use Rattle.micromap.proofs.JsonWriting.{as_data, elements_written, pushes_one}
 use Rattle.micromap.proofs.json.write.set_to_json.Goals as goal
@@ -12,8 +9,7 @@ loop-text-init g c = ap (λ vs. map view vs ++ as_data c.into_iter-text-iterator
     c.new-elements.ensures.items ∙ ap as_data c.into_iter-text-iterator.ensures.into_iter_gives.0
 
 pub loop-text-preserved : goal.loop-text-preserved
-loop-text-preserved g c =
-    pushes_one c.loop-text.elements.items c.push.new.list.items c.in_ok-try_from_str.field-0
+loop-text-preserved g c = pushes_one c.loop-text.elements.items c.push.new.list.items c.in_ok-try_from_str.field-0
     c.in-Some.text.now c.loop-text.text-iterator c.next.new.self c.args.set.now
     c.loop-text.invariant c.in-Some.ensures.steps (search rules) (search rules)
 

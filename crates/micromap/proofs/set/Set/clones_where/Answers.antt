@@ -1,7 +1,5 @@
-use Rattle.std.proofs.Common.{refl}
-use Rattle.std.proofs.lemmas.List.Elements.{same_from_all_zip}
-use Rattle.micromap_core.proofs.DistinctLemmas.{IsDistinct-filter}
-use Rattle.micromap_core.proofs.Walked.{walk_ends}
+use Rattle.std.proofs.{Common.refl, lemmas.List.Elements.same_from_all_zip}
+use Rattle.micromap_core.proofs.{DistinctLemmas.IsDistinct-filter, Walked.walk_ends}
 use Rattle.micromap.proofs.AddedItems.{clone_fits, clone_goes_on, length-passing, next_holds}
 use Rattle.micromap.proofs.set.Set.clones_where.Goals as goal
 
@@ -18,8 +16,7 @@ insert-requires g c = (
 
 pub loop-x-preserved : goal.loop-x-preserved
 loop-x-preserved g c = clone_goes_on c.loop-x.invariant c.in-Some.ensures.member g.met.T.Eq.laws c.requires
-    (IsDistinct-filter g.T.PartialEq.eq _ _ c.iter-rest.ensures.content.unique)
-    c.in_ok-clone.ensures.cases c.insert.ensures.items
+    (IsDistinct-filter g.T.PartialEq.eq _ _ c.iter-rest.ensures.content.unique) c.in_ok-clone.ensures.cases c.insert.ensures.items
 
 pub returns-clause-clones : goal.returns-clause-clones
 returns-clause-clones g c = walk_ends c.loop-x.invariant c.in_default.ensures.member.0

@@ -1,7 +1,6 @@
 use Rattle.micromap_core.proofs.DistinctLemmas.{IsDistinct-filter}
 use Rattle.micromap.specs.Operations.{intersection_remaining}
-use Rattle.micromap.proofs.AddedItems.{added_all, length-passing}
-use Rattle.micromap.proofs.OperationLaws.{intersection_turned}
+use Rattle.micromap.proofs.{AddedItems.added_all, AddedItems.length-passing, OperationLaws.intersection_turned}
 use Rattle.micromap.proofs.OperationSteps.{left_in_order}
 use Rattle.micromap.proofs.set.Set.intersection.Goals as goal
 

@@ -1,5 +1,4 @@
-use Rattle.std.proofs.Common.{◌∙◌, ap, refl}
-use Rattle.std.specs.Map.{keys_of}
+use Rattle.std.proofs.Common.{refl}
 use Rattle.std.proofs.lemmas.Map.Entries.{length-keys_of}
 use Rattle.micromap.proofs.ItemLemmas.{content_items}
 use Rattle.micromap.proofs.set.Set.into_capacity.Goals as goal
@@ -7,18 +6,11 @@ use Rattle.micromap.proofs.set.Set.into_capacity.Goals as goal
 pub returns-in-Ok-clause-refuses : goal.returns-in-Ok-clause-refuses
 returns-in-Ok-clause-refuses g c = rw (← c.self.view_is, length-keys_of c.self.inside.map) c.in-Ok.ensures.refuses
 
-pub returns-in-Ok-clause-items : goal.returns-in-Ok-clause-items
-returns-in-Ok-clause-items g c = ap keys_of c.in-Ok.ensures.pairs ∙ c.self.view_is
-
 pub returns-in-Err-clause-refuses : goal.returns-in-Err-clause-refuses
 returns-in-Err-clause-refuses g c = rw (← c.self.view_is, length-keys_of c.self.inside.map) c.in-Err.ensures.refuses
 
-pub returns-in-Err-clause-unchanged : goal.returns-in-Err-clause-unchanged
-returns-in-Err-clause-unchanged g c = ap keys_of c.in-Err.ensures.unchanged ∙ c.self.view_is
-
 pub returns-in-Ok-clause-content : goal.returns-in-Ok-clause-content
-returns-in-Ok-clause-content g c =
-    (content_items c.self.view_is c.in-Ok.ensures.content.0, content_items refl c.in-Ok.ensures.content.1)
+returns-in-Ok-clause-content g c = (content_items c.self.view_is c.in-Ok.ensures.content.0, content_items refl c.in-Ok.ensures.content.1)
 
 pub returns-in-Err-clause-content : goal.returns-in-Err-clause-content
 returns-in-Err-clause-content g c = (content_items c.self.view_is c.in-Err.ensures.content.0, tt)

@@ -6,8 +6,7 @@ use Rattle.micromap.proofs.set.Set.is_subset.Goals as goal
 pub returns-then-len : goal.returns-then-len
 returns-then-len g c =
     let short : length c.args.other.now < length c.args.self.now = search rules in
-    assumption (subset_answered g.met.T.Eq.laws _ _
-    (sym (missing_in_shorter g.met.T.Eq.laws _ _ c.len.ensures.content.unique short)))
+    assumption (subset_answered g.met.T.Eq.laws _ _ (sym (missing_in_shorter g.met.T.Eq.laws _ _ c.len.ensures.content.unique short)))
 
 pub returns : goal.returns
 returns g c = assumption (subset_answered g.met.T.Eq.laws _ _ c.all_are.ensures)

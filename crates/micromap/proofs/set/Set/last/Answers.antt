@@ -1,6 +1,5 @@
 use Rattle.std.proofs.Common.{◌-◌, length, refl}
-use Rattle.std.proofs.lemmas.Map.Entries.{length-keys_of}
-use Rattle.std.proofs.lemmas.Option.{slice_get-map}
+use Rattle.std.proofs.lemmas.{Map.Entries.length-keys_of, Option.slice_get-map}
 use Rattle.micromap.proofs.set.Set.last.Goals as goal
 
 pub returns : goal.returns

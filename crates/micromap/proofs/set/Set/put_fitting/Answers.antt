@@ -1,5 +1,4 @@
-use Rattle.std.proofs.Common.{sym}
-use Rattle.std.proofs.Math.Bool.{and_comm}
+use Rattle.std.proofs.{Common.sym, Math.Bool.and_comm}
 use Rattle.micromap_core.proofs.PuttingLemmas.{putting_begins, putting_goes_on}
 use Rattle.micromap.proofs.set.Set.put_fitting.Goals as goal
 

@@ -1,7 +1,5 @@
-use Rattle.std.proofs.Common.{arith, rules}
-use Rattle.std.specs.Fn.{CalledAt, TakesAt}
-use Rattle.micromap_core.proofs.ClosureLemmas.{retained_keys}
-use Rattle.micromap_core.proofs.DistinctLemmas.{length-sublist}
+use Rattle.std.{proofs.Common.arith, proofs.Common.rules, specs.Fn.CalledAt, specs.Fn.TakesAt}
+use Rattle.micromap_core.proofs.{ClosureLemmas.retained_keys, DistinctLemmas.length-sublist}
 use Rattle.micromap.proofs.RetainItems.{callable_inner}
 use Rattle.micromap.proofs.set.Set.retain.Goals as goal
 
@@ -11,8 +9,7 @@ retain-requires g c = (
   let may = callable_inner _ (CalledAt g.F.FnMut) (λ f. f.0.now) (λ f x v b w t said. search rules)
       (TakesAt g.F.FnMut) _ _ (rw (← c.self.view_is) at c.requires) in
       record {
-        at = λ before after s x v parts calls key shows value is. may.at before after s x v
-            parts calls key shows;
+        at = λ before after s x v parts calls key shows value is. may.at before after s x v parts calls key shows;
       },
 )
 

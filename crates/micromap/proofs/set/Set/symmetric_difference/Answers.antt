@@ -1,11 +1,9 @@
-use Rattle.micromap.proofs.AddedItems.{added_all}
-use Rattle.micromap.proofs.OperationLaws.{IsDistinct-symmetric_difference, symmetric_difference_turned}
+use Rattle.micromap.proofs.{AddedItems.added_all, OperationLaws.IsDistinct-symmetric_difference, OperationLaws.symmetric_difference_turned}
 use Rattle.micromap.proofs.OperationSteps.{left_in_order}
 use Rattle.micromap.proofs.set.Set.symmetric_difference.Goals as goal
 
 pub returns-clause-unique : goal.returns-clause-unique
-returns-clause-unique g c =
-    IsDistinct-symmetric_difference g.met.T.Eq.laws _ _ c.difference.ensures.unique c.difference-2.ensures.unique
+returns-clause-unique g c = IsDistinct-symmetric_difference g.met.T.Eq.laws _ _ c.difference.ensures.unique c.difference-2.ensures.unique
 
 pub returns-clause-builds : goal.returns-clause-builds
 returns-clause-builds g c = added_all g.met.T.Eq.laws _ (returns-clause-unique g c)

@@ -1,8 +1,7 @@
 use Rattle.std.proofs.Common.{◌≡◌, false, length, refl, ap, sym, ◌∙◌, arith}
 use Rattle.std.proofs.lemmas.List.{length_push}
-use Rattle.micromap.specs.Items.{item_fits}
+use Rattle.micromap.{specs.Items.item_fits, proofs.Laws.SetLaws.not_item_fits}
 use Rattle.micromap_core.proofs.PuttingLemmas.{putting_begins, putting_goes_on, runs_up_to, runs_whole}
-use Rattle.micromap.proofs.Laws.SetLaws.{not_item_fits}
 use Rattle.micromap.proofs.set.Set.try_extend.Goals as goal
 
 pub loop-x-init : goal.loop-x-init
@@ -35,7 +34,8 @@ returns-then-not-put g c =
     let eq = g.T.PartialEq.eq in
     let misfit : item_fits eq g.row.N l.self c.in-Some.x ≡ false = sym c.put.ensures.answer ∙ c.if-not-put.true in
     let kept : c.put.new.self ≡ l.self = rw misfit at c.put.ensures.items in
-    let full : length l.self ≡ g.row.N = omega (arith, (not_item_fits eq l.self c.in-Some.x g.row.N misfit).1, l.invariant.content.bounded) in
+    let full : length l.self ≡ g.row.N =
+    omega (arith, (not_item_fits eq l.self c.in-Some.x g.row.N misfit).1, l.invariant.content.bounded) in
     record {
       whole = tt;
       misfit = rw kept (runs_up_to l.invariant.put c.in-Some.x misfit g.I.Iterator.next_gives c.args.items c.next.new.self l.position
@@ -46,4 +46,5 @@ returns-then-not-put g c =
 
 pub returns-clause-whole : goal.returns-clause-whole
 returns-clause-whole g c = runs_whole c.loop-x.invariant.put g.I.Iterator.next_gives c.args.items
-    (rw (← c.into_iter-x-iterator.ensures.into_iter_gives) (c.next.new.self, (c.loop-x.x-iterator, c.loop-x.yielded_by, c.in-None.ensures.steps)))
+    (rw (← c.into_iter-x-iterator.ensures.into_iter_gives)
+    (c.next.new.self, (c.loop-x.x-iterator, c.loop-x.yielded_by, c.in-None.ensures.steps)))

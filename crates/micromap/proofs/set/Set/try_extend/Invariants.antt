@@ -1,6 +1,5 @@
 use Rattle.std.specs.Prelude.{◌≡◌, ◌+◌, ◌≤◌, length, true}
-use Rattle.micromap.specs.Build.{most_items}
-use Rattle.micromap.specs.Items.{IsItems, put_item, item_fits}
+use Rattle.micromap.specs.{Build.most_items, Items.IsItems, Items.put_item, Items.item_fits}
 use Rattle.micromap_core.proofs.PuttingLemmas.{Putting}
 use Rattle.micromap.proofs.set.Set.try_extend.Given as goal
 

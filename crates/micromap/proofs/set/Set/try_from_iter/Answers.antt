@@ -1,4 +1,3 @@
-use Rattle.std.proofs.Common.{arith}
 use Rattle.std.proofs.lemmas.Result.{err_from_is_err_and}
 use Rattle.micromap_core.proofs.KeyedLemmas.{few_distinct, full_at, many_taken}
 use Rattle.micromap.proofs.ExtendLemmas.{items_keyed}
@@ -25,6 +24,3 @@ returns-in_err-try_extend g c =
       full = full_at g.met.T.Eq.laws keyed stops.0.items _ stops.2.1.0.1;
       content = tt;
     })
-
-pub array_drop-set-inside-requires : goal.array_drop-set-inside-requires
-array_drop-set-inside-requires g c = omega arith

@@ -1,8 +1,7 @@
 use Rattle.std.proofs.Common.{length, ap, arith, length-append}
 use Rattle.micromap.specs.Operations.{difference_remaining, union_remaining}
-use Rattle.micromap.proofs.AddedItems.{added_all}
+use Rattle.micromap.proofs.{AddedItems.added_all, OperationSteps.left_in_order}
 use Rattle.micromap.proofs.OperationLaws.{IsDistinct-union, length-union, union_turned}
-use Rattle.micromap.proofs.OperationSteps.{left_in_order}
 use Rattle.micromap.proofs.set.Set.union.Goals as goal
 
 pub returns-clause-bounded : goal.returns-clause-bounded
@@ -16,8 +15,7 @@ returns-clause-bounded g c = omega (
 )
 
 pub returns-clause-unique : goal.returns-clause-unique
-returns-clause-unique g c =
-    IsDistinct-union g.met.T.Eq.laws _ _ c.iter.ensures.content.unique c.difference.ensures.unique
+returns-clause-unique g c = IsDistinct-union g.met.T.Eq.laws _ _ c.iter.ensures.content.unique c.difference.ensures.unique
 
 pub returns-clause-builds : goal.returns-clause-builds
 returns-clause-builds g c = added_all g.met.T.Eq.laws _ (returns-clause-unique g c)

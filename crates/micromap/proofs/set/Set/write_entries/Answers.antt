@@ -5,5 +5,4 @@ pub returns-clause-whole : goal.returns-clause-whole
 returns-clause-whole g c = rw (← c.self.view_is, entries_of-keys) c.write_entries.ensures.whole
 
 pub returns-clause-beginning : goal.returns-clause-beginning
-returns-clause-beginning g c =
-    rw (← c.self.view_is, entries_of-keys) c.write_entries.ensures.beginning
+returns-clause-beginning g c = rw (← c.self.view_is, entries_of-keys) c.write_entries.ensures.beginning

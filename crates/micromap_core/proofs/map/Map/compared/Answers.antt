@@ -1,5 +1,4 @@
-use Rattle.micromap_core.proofs.FairLemmas.{compared_long, compared_short}
-use Rattle.micromap_core.proofs.SameLemmas.{none_unequal}
+use Rattle.micromap_core.proofs.{FairLemmas.compared_long, FairLemmas.compared_short, SameLemmas.none_unequal}
 use Rattle.micromap_core.proofs.map.Map.compared.Goals as goal
 
 pub returns-then-lengths : goal.returns-then-lengths
@@ -10,6 +9,5 @@ returns-then-lengths g c =
     c.len.ensures.answer c.len-2.ensures.answer c.if-lengths.true holds
 
 pub returns-else-lengths : goal.returns-else-lengths
-returns-else-lengths g c =
-    compared_short g.met.V.Eq.laws c.len.ensures.content c.len-2.ensures.content
+returns-else-lengths g c = compared_short g.met.V.Eq.laws c.len.ensures.content c.len-2.ensures.content
     c.len.ensures.answer c.len-2.ensures.answer c.if-lengths.false

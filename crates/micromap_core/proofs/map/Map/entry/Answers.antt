@@ -9,6 +9,5 @@ returns-in-Some g c = record {
 
 pub returns : goal.returns
 returns g c = record {
-  entry = new_entry g.K.PartialEq.eq c.args.self c.args.key c.in-None.ensures.missing
-      (sym c.in-None.ensures.answer);
+  entry = new_entry g.K.PartialEq.eq c.args.self c.args.key c.in-None.ensures.missing (sym c.in-None.ensures.answer);
 }

@@ -7,10 +7,8 @@ pub returns-then-lengths : goal.returns-then-lengths
 returns-then-lengths g c =
     let one = c.len.ensures.answer in
     let two = c.len-2.ensures.answer in
-    let steps = comparison_long g.K.PartialEq.eq g.V.PartialEq.eq c.args.self.now c.args.other.now
-    one two c.if-lengths.true in
-    let most = walk_steps-square g.K.PartialEq.eq g.V.PartialEq.eq c.args.other.now c.args.self.now
-    (sym one ∙ c.if-lengths.true ∙ two) in
+    let steps = comparison_long g.K.PartialEq.eq g.V.PartialEq.eq c.args.self.now c.args.other.now one two c.if-lengths.true in
+    let most = walk_steps-square g.K.PartialEq.eq g.V.PartialEq.eq c.args.other.now c.args.self.now (sym one ∙ c.if-lengths.true ∙ two) in
     let bounded : c.is_within_counted.new.steps ≤ c.args.steps.now + length c.args.self.now * length
     c.args.self.now = omega (arith, c.is_within_counted.ensures.count, most) in
     let all = compared_long g.met.V.Eq.laws c.len.ensures.content c.len-2.ensures.content one two
@@ -27,16 +25,13 @@ pub returns-else-lengths : goal.returns-else-lengths
 returns-else-lengths g c =
     let one = c.len.ensures.answer in
     let two = c.len-2.ensures.answer in
-    let steps = comparison_short g.K.PartialEq.eq g.V.PartialEq.eq c.args.self.now c.args.other.now
-    one two c.if-lengths.false in
-    let all = compared_short g.met.V.Eq.laws c.len.ensures.content c.len-2.ensures.content one two
-    c.if-lengths.false in
+    let steps = comparison_short g.K.PartialEq.eq g.V.PartialEq.eq c.args.self.now c.args.other.now one two c.if-lengths.false in
+    let all = compared_short g.met.V.Eq.laws c.len.ensures.content c.len-2.ensures.content one two c.if-lengths.false in
     record {
       answer = all.says;
       told_apart = all.told_apart;
       outlasts = all.outlasts;
-      count =
-          omega (arith, steps);
+      count = omega (arith, steps);
       bounded = omega arith;
     }
 

@@ -7,14 +7,12 @@ use Rattle.micromap_core.proofs.map.Map.find.Goals as goal
 
 pub loop-key-init : goal.loop-key-init
 loop-key-init g c =
-    let none : length (keys_of c.args.self.now) - length (keys_of c.args.self.now) ≡ 0 =
-    omega arith in
+    let none : length (keys_of c.args.self.now) - length (keys_of c.args.self.now) ≡ 0 = omega arith in
     rw (c.keys-keys.ensures.answer, none) (not_yet-start _ _)
 
 pub loop-key-preserved : goal.loop-key-preserved
 loop-key-preserved g c =
-    let more : length (keys_of c.args.self.now) - length c.next.new.self
-    ≡ length (keys_of c.args.self.now) - length c.loop-key.keys + 1 =
+    let more : length (keys_of c.args.self.now) - length c.next.new.self ≡ length (keys_of c.args.self.now) - length c.loop-key.keys + 1 =
     omega (arith, c.loop-key.invariant.counted, ap length c.in-Some.ensures.steps) in
     rw more (not_yet-on c.loop-key.invariant c.in-Some.ensures.steps (sym c.if-matches.ensures))
 
@@ -59,11 +57,8 @@ returns g c =
 
 pub returns-then-matches : goal.returns-then-matches
 returns-then-matches g c =
-    let at = not_yet-found c.loop-key.invariant c.in-Some.ensures.steps
-    (sym c.if-matches.ensures) in
-    let here : c.len.result - c.len-then-matches.result - 1
-    ≡ length (keys_of c.args.self.now) - length c.loop-key.keys =
-    omega (
+    let at = not_yet-found c.loop-key.invariant c.in-Some.ensures.steps (sym c.if-matches.ensures) in
+    let here : c.len.result - c.len-then-matches.result - 1 ≡ length (keys_of c.args.self.now) - length c.loop-key.keys = omega (
       arith,
       c.len.ensures.answer,
       c.len-then-matches.ensures.value,
@@ -71,12 +66,10 @@ returns-then-matches g c =
       ap length c.in-Some.ensures.steps,
       length-keys_of c.args.self.now,
     ) in
-    let found = found_at (g.P.Probe.matches c.args.probe.now) c.args.self.now _ (at
-    ∙ ap Some (sym here)) in
+    let found = found_at (g.P.Probe.matches c.args.probe.now) c.args.self.now _ (at ∙ ap Some (sym here)) in
     let pair = sym c.pair_at.ensures ∙ found.here in
     record {
       pair = pair ∙ sym found.entry;
-      value = ap (option_map (λ p. p.1)) pair
-          ∙ sym found.value;
+      value = ap (option_map (λ p. p.1)) pair ∙ sym found.value;
       content = c.keys-keys.ensures.content;
     }

@@ -1,6 +1,5 @@
 use Rattle.std.specs.Prelude.{◌≡◌, not, find}
-use Rattle.micromap_core.specs.Pairs.{has}
-use Rattle.micromap_core.specs.Same.{first_missing}
+use Rattle.micromap_core.specs.{Pairs.has, Same.first_missing}
 use Rattle.micromap_core.proofs.map.Map.first_missing.Given as goal
 
 -- the first such key of those that are left is that of all of them

@@ -1,6 +1,5 @@
 use Rattle.std.specs.Prelude.{◌≡◌, ◌||◌}
-use Rattle.std.specs.List.{list_any}
-use Rattle.std.specs.Map.{keys_of}
+use Rattle.std.specs.{List.list_any, Map.keys_of}
 use Rattle.micromap_core.proofs.map.Map.has_match.Given as goal
 
 -- a key matches if one did so far, or one left does

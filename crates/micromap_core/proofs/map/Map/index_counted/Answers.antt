@@ -6,53 +6,42 @@ use Rattle.micromap_core.proofs.map.Map.index_counted.Goals as goal
 
 pub loop-stored-init : goal.loop-stored-init
 loop-stored-init g c = record {
-  scan = rw (c.into_iter-stored-iterator.ensures.into_iter_gives, c.keys-stored-items.ensures.answer)
-      (not_yet-start _ _);
+  scan = rw (c.into_iter-stored-iterator.ensures.into_iter_gives, c.keys-stored-items.ensures.answer) (not_yet-start _ _);
   count = omega arith;
 }
 
 -- the key that is looked at was not counted yet
 pub same-requires : goal.same-requires
-same-requires g c =
-    omega (
-      arith,
-      c.requires,
-      c.loop-stored.invariant.count,
-      c.loop-stored.invariant.scan.counted,
-      ap length c.in-Some.ensures.steps,
-      length-keys_of c.args.self.now,
-    )
+same-requires g c = omega (
+  arith,
+  c.requires,
+  c.loop-stored.invariant.count,
+  c.loop-stored.invariant.scan.counted,
+  ap length c.in-Some.ensures.steps,
+  length-keys_of c.args.self.now,
+)
 
 pub overflow_add-index : goal.overflow_add-index
-overflow_add-index g c =
-    omega (
-      arith,
-      c.loop-stored.invariant.scan.counted,
-      ap length c.in-Some.ensures.steps,
-      length-keys_of c.args.self.now,
-      ap length c.keys-stored-items.ensures.answer,
-      c.keys-stored-items.ensures.content.bounded,
-    )
+overflow_add-index g c = omega (
+  arith,
+  c.loop-stored.invariant.scan.counted,
+  ap length c.in-Some.ensures.steps,
+  length-keys_of c.args.self.now,
+  ap length c.keys-stored-items.ensures.answer,
+  c.keys-stored-items.ensures.content.bounded,
+)
 
 pub returns-then-same : goal.returns-then-same
 returns-then-same g c =
-    let at = not_yet-found c.loop-stored.invariant.scan c.in-Some.ensures.steps
-    (sym c.if-same.ensures.answer) in
+    let at = not_yet-found c.loop-stored.invariant.scan c.in-Some.ensures.steps (sym c.if-same.ensures.answer) in
     record {
       index = sym at;
-      count =
-          omega (
-            arith,
-            c.loop-stored.invariant.count,
-            c.same.ensures.count,
-            ap (λ o. option_map_or suc o (length c.args.self.now)) at,
-          );
+      count = omega (arith, c.loop-stored.invariant.count, c.same.ensures.count, ap (λ o. option_map_or suc o (length c.args.self.now)) at);
     }
 
 pub loop-stored-preserved : goal.loop-stored-preserved
 loop-stored-preserved g c = record {
-  scan = not_yet-on c.loop-stored.invariant.scan c.in-Some.ensures.steps
-      (sym c.if-same.ensures.answer);
+  scan = not_yet-on c.loop-stored.invariant.scan c.in-Some.ensures.steps (sym c.if-same.ensures.answer);
   count = omega (arith, c.loop-stored.invariant.count, c.same.ensures.count);
 }
 

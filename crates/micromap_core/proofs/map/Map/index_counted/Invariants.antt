@@ -4,8 +4,7 @@ use Rattle.micromap_core.proofs.ScanLemmas.{NotYet}
 use Rattle.micromap_core.proofs.map.Map.index_counted.Given as goal
 
 abbrev pub invariant-loop-stored : goal.invariant-loop-stored
-invariant-loop-stored g l =
-    record {
-      scan : NotYet (g.K.PartialEq.eq l.key) l.index l.stored-iterator (keys_of l.self);
-      count : l.steps ≡ l.initial.steps + l.index;
-    }
+invariant-loop-stored g l = record {
+  scan : NotYet (g.K.PartialEq.eq l.key) l.index l.stored-iterator (keys_of l.self);
+  count : l.steps ≡ l.initial.steps + l.index;
+}

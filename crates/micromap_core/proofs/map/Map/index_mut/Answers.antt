@@ -9,7 +9,6 @@ returns g c =
       (refl, λ w. with_value_at-put g.K.PartialEq.eq c.args.key.now c.args.self.now c.in-Some.index found w),
       record {
         writes_back = tt;
-        answer = found.value ∙ sym (ap (option_map (λ p. p.1)) found.here)
-            ∙ c.value_at_mut.ensures.value;
+        answer = found.value ∙ sym (ap (option_map (λ p. p.1)) found.here) ∙ c.value_at_mut.ensures.value;
       },
     )

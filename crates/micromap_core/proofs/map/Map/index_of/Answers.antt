@@ -6,38 +6,31 @@ use Rattle.micromap_core.proofs.ScanLemmas.{not_yet-start, not_yet-on, not_yet-f
 use Rattle.micromap_core.proofs.map.Map.index_of.Goals as goal
 
 pub loop-key-init : goal.loop-key-init
-loop-key-init g c = rw (
-  c.into_iter-key-iterator.ensures.into_iter_gives,
-  c.keys-key-items.ensures.answer,
-) (not_yet-start _ _)
+loop-key-init g c = rw (c.into_iter-key-iterator.ensures.into_iter_gives, c.keys-key-items.ensures.answer) (not_yet-start _ _)
 
 pub returns-then-matches : goal.returns-then-matches
 returns-then-matches g c =
-    let at = not_yet-found c.loop-key.invariant c.in-Some.ensures.steps
-    (sym c.if-matches.ensures) in
+    let at = not_yet-found c.loop-key.invariant c.in-Some.ensures.steps (sym c.if-matches.ensures) in
     record {
       answer = sym at;
-      found =
-          found_at (g.P.Probe.matches c.args.probe.now) c.args.self.now c.loop-key.index at;
+      found = found_at (g.P.Probe.matches c.args.probe.now) c.args.self.now c.loop-key.index at;
       missing = tt;
       content = c.keys-key-items.ensures.content;
     }
 
 -- the key that is looked at was not counted yet
 pub overflow_add-index : goal.overflow_add-index
-overflow_add-index g c =
-    omega (
-      arith,
-      c.loop-key.invariant.counted,
-      ap length c.in-Some.ensures.steps,
-      length-keys_of c.args.self.now,
-      ap length c.keys-key-items.ensures.answer,
-      c.keys-key-items.ensures.content.bounded,
-    )
+overflow_add-index g c = omega (
+  arith,
+  c.loop-key.invariant.counted,
+  ap length c.in-Some.ensures.steps,
+  length-keys_of c.args.self.now,
+  ap length c.keys-key-items.ensures.answer,
+  c.keys-key-items.ensures.content.bounded,
+)
 
 pub loop-key-preserved : goal.loop-key-preserved
-loop-key-preserved g c = not_yet-on c.loop-key.invariant c.in-Some.ensures.steps
-    (sym c.if-matches.ensures)
+loop-key-preserved g c = not_yet-on c.loop-key.invariant c.in-Some.ensures.steps (sym c.if-matches.ensures)
 
 pub returns : goal.returns
 returns g c =
@@ -45,10 +38,8 @@ returns g c =
     record {
       answer = sym none;
       found = tt;
-      missing =
-          not_found (g.P.Probe.matches c.args.probe.now) c.args.self.now none;
-      content =
-          c.keys-key-items.ensures.content;
+      missing = not_found (g.P.Probe.matches c.args.probe.now) c.args.self.now none;
+      content = c.keys-key-items.ensures.content;
     }
 
 pub returns-then-not-has_match : goal.returns-then-not-has_match

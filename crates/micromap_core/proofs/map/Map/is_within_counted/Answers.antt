@@ -3,13 +3,11 @@ use Rattle.micromap_core.proofs.StepsLemmas.{look_up_steps-bound, most_steps-pro
 use Rattle.micromap_core.proofs.map.Map.is_within_counted.Goals as goal
 
 pub loop-key-init : goal.loop-key-init
-loop-key-init g c = rw c.into_iter-key-iterator.ensures.into_iter_gives.0
-    (record {
-      answer = refl;
-      count = refl;
-      bounded =
-          omega (arith, most_steps-product c.args.self.now (length c.args.other.now));
-    })
+loop-key-init g c = rw c.into_iter-key-iterator.ensures.into_iter_gives.0 (record {
+  answer = refl;
+  count = refl;
+  bounded = omega (arith, most_steps-product c.args.self.now (length c.args.other.now));
+})
 
 pub returns-then-not-has_value_counted : goal.returns-then-not-has_value_counted
 returns-then-not-has_value_counted g c = record {
@@ -19,8 +17,7 @@ returns-then-not-has_value_counted g c = record {
     arith,
     c.loop-key.invariant.count,
     c.has_value_counted.ensures.count,
-    walk_step g.K.PartialEq.eq g.V.PartialEq.eq c.args.other.now c.in-Some.ensures.steps
-        c.if-not-has_value_counted.ensures.answer,
+    walk_step g.K.PartialEq.eq g.V.PartialEq.eq c.args.other.now c.in-Some.ensures.steps c.if-not-has_value_counted.ensures.answer,
   );
 }
 
@@ -32,8 +29,7 @@ loop-key-preserved g c = record {
     arith,
     c.loop-key.invariant.count,
     c.has_value_counted.ensures.count,
-    walk_step g.K.PartialEq.eq g.V.PartialEq.eq c.args.other.now c.in-Some.ensures.steps
-        c.if-not-has_value_counted.ensures.answer,
+    walk_step g.K.PartialEq.eq g.V.PartialEq.eq c.args.other.now c.in-Some.ensures.steps c.if-not-has_value_counted.ensures.answer,
   );
   bounded = omega (
     arith,
@@ -47,12 +43,7 @@ loop-key-preserved g c = record {
 pub has_value_counted-requires : goal.has_value_counted-requires
 has_value_counted-requires g c = (
   assumption,
-  omega (
-    arith,
-    c.requires,
-    c.loop-key.invariant.bounded,
-    ap (λ l. most_steps l (length c.args.other.now)) c.in-Some.ensures.steps,
-  ),
+  omega (arith, c.requires, c.loop-key.invariant.bounded, ap (λ l. most_steps l (length c.args.other.now)) c.in-Some.ensures.steps),
 )
 
 pub returns : goal.returns

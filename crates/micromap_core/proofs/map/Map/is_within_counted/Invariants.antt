@@ -1,7 +1,6 @@
 use Rattle.std.specs.Prelude.{◌≡◌, ◌+◌, ◌*◌, ◌≤◌, length}
 use Rattle.std.specs.List.{list_all}
-use Rattle.micromap_core.specs.Same.{has_value}
-use Rattle.micromap_core.specs.Steps.{walk_steps}
+use Rattle.micromap_core.specs.{Same.has_value, Steps.walk_steps}
 use Rattle.micromap_core.proofs.StepsLemmas.{most_steps}
 use Rattle.micromap_core.proofs.map.Map.is_within_counted.Given as goal
 
@@ -12,6 +11,5 @@ invariant-loop-key g l = record {
       ≡ list_all (has_value g.K.PartialEq.eq g.V.PartialEq.eq l.other) l.self;
   count : l.steps + walk_steps g.K.PartialEq.eq g.V.PartialEq.eq l.other l.key-iterator
       ≡ l.initial.steps + walk_steps g.K.PartialEq.eq g.V.PartialEq.eq l.other l.self;
-  bounded : l.steps + most_steps l.key-iterator (length l.other) ≤ l.initial.steps + length
-      l.self * length l.other;
+  bounded : l.steps + most_steps l.key-iterator (length l.other) ≤ l.initial.steps + length l.self * length l.other;
 }

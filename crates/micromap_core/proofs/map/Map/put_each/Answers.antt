@@ -1,30 +1,24 @@
 use Rattle.std.proofs.Common.{ℕ, ◌+◌, ◌<◌, ◌∙◌, ap, arith, length, refl, subst, sym, Bool, List}
-use Rattle.std.proofs.lemmas.Bool.{false≢true}
-use Rattle.std.proofs.lemmas.Map.Entries.{length-keys_of}
-use Rattle.micromap_core.specs.Build.{put_all, MisfitIn}
-use Rattle.micromap_core.specs.Pairs.{IsContent}
-use Rattle.micromap_core.proofs.KeyedLemmas.{many_left, pairs_keyed}
-use Rattle.micromap_core.proofs.Laws.Equalities.{of_lawful}
+use Rattle.std.proofs.lemmas.{Bool.false≢true, Map.Entries.length-keys_of}
+use Rattle.micromap_core.specs.{Build.put_all, Build.MisfitIn, Pairs.IsContent}
+use Rattle.micromap_core.proofs.{KeyedLemmas.many_left, KeyedLemmas.pairs_keyed, Laws.Equalities.of_lawful}
 use Rattle.micromap_core.proofs.PuttingLemmas.{putting_begins, putting_goes_on, walk_puts, walk_stops}
 use Rattle.micromap_core.proofs.Walked.{walk_begins, walk_goes_on}
 use Rattle.micromap_core.proofs.map.Map.put_each.Goals as goal
 
 -- where one of the items doesn't fit, what would be put is more than there is room for
 stopped_many : {K V : Type 0} {eq : K → K → Bool} {N : ℕ} {pairs : List (K × V)}
-    → IsContent eq N pairs → (items : List (K × V)) (at : ℕ) → MisfitIn eq N pairs items at
-    → N < length (put_all eq pairs items)
-stopped_many {eq = eq} {N = N} {pairs = pairs} content items at stops =
-    subst (λ n. N < n) (length-keys_of (put_all eq pairs items))
+    → IsContent eq N pairs → (items : List (K × V)) (at : ℕ) → MisfitIn eq N pairs items at → N < length (put_all eq pairs items)
+stopped_many {eq = eq} {N = N} {pairs = pairs} content items at stops = subst (λ n. N < n) (length-keys_of (put_all eq pairs items))
     (many_left (of_lawful eq content.lawful) (pairs_keyed eq N) pairs items (at + 1) content.unique
     (omega (arith, length-keys_of pairs, content.bounded)) stops.1)
 
 pub loop-key-init : goal.loop-key-init
-loop-key-init g c =
-    rw c.into_iter-key-iterator.ensures.into_iter_gives.0 (record {
-      put = walk_begins putting_begins;
-      counted = omega arith;
-      content = c.len-known.ensures.content;
-    })
+loop-key-init g c = rw c.into_iter-key-iterator.ensures.into_iter_gives.0 (record {
+  put = walk_begins putting_begins;
+  counted = omega arith;
+  content = c.len-known.ensures.content;
+})
 
 pub loop-key-preserved : goal.loop-key-preserved
 loop-key-preserved g c =
@@ -64,10 +58,7 @@ returns g c =
     let content = c.loop-key.invariant.content in
     record {
       pairs = put;
-      many = (
-        λ no. absurd (false≢true no),
-        λ many. absurd (omega (arith, many, ap length put, content.bounded)),
-      );
+      many = (λ no. absurd (false≢true no), λ many. absurd (omega (arith, many, ap length put, content.bounded)));
       misfit = tt;
       content = (c.len-known.ensures.content, content);
     }

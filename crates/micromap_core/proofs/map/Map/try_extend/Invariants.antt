@@ -1,6 +1,5 @@
 use Rattle.std.specs.Prelude.{◌≡◌, ◌+◌, ◌≤◌, length, true}
-use Rattle.micromap_core.specs.Build.{most_items, pair_fits, put_pair}
-use Rattle.micromap_core.specs.Pairs.{IsContent}
+use Rattle.micromap_core.specs.{Build.most_items, Build.pair_fits, Build.put_pair, Pairs.IsContent}
 use Rattle.micromap_core.proofs.PuttingLemmas.{Putting}
 use Rattle.micromap_core.proofs.map.Map.try_extend.Given as goal
 
@@ -10,7 +9,6 @@ invariant-loop-key g l = record {
   finite : (goal.iterator-loop-key g).is_finite l.key-iterator;
   counted : l.position + (goal.iterator-loop-key g).remaining l.key-iterator ≤ most_items;
   at : l.position ≡ length l.yielded;
-  put : Putting (pair_fits g.K.PartialEq.eq g.row.N)
-      (put_pair g.K.PartialEq.eq) l.initial.self l.yielded true l.self;
+  put : Putting (pair_fits g.K.PartialEq.eq g.row.N) (put_pair g.K.PartialEq.eq) l.initial.self l.yielded true l.self;
   content : IsContent g.K.PartialEq.eq g.row.N l.self;
 }

@@ -1,13 +1,9 @@
-use Rattle.micromap_core.proofs.ClosureLemmas.{keys_updated}
-use Rattle.micromap_core.proofs.MapLemmas.{IsContent-same_keys}
-use Rattle.micromap_core.proofs.Sizes.{columns_fit}
+use Rattle.std.proofs.Common.{arith}
+use Rattle.micromap_core.proofs.{ClosureLemmas.keys_updated, MapLemmas.IsContent-same_keys}
 use Rattle.micromap_core.proofs.map.Map.update_all.Goals as goal
 
 pub update_all-requires : goal.update_all-requires
-update_all-requires g c = (
-  columns_fit g.row.K g.row.V g.row.N g.K.PartialEq.eq assumption,
-  rw c.self.view_is c.requires,
-)
+update_all-requires g c = (omega arith, rw c.self.view_is c.requires)
 
 pub invariant_of-self : goal.invariant_of-self
 invariant_of-self g c = IsContent-same_keys c.self.invariant _ (keys_updated c.update_all.ensures)

@@ -1,16 +1,12 @@
-use Rattle.micromap_core.proofs.Sizes.{columns_fit}
-use Rattle.std.proofs.Common.{refl}
 use Rattle.micromap_core.proofs.MapLemmas.{IsContent-with_value_at}
+use Rattle.std.proofs.Common.{refl, arith}
 use Rattle.micromap_core.proofs.map.Map.value_at_mut.Goals as goal
 
 pub invariant_of-self-lent : goal.invariant_of-self-lent
 invariant_of-self-lent g c w = IsContent-with_value_at c.self.invariant c.args.index w
 
 pub value_at_mut-requires : goal.value_at_mut-requires
-value_at_mut-requires g c = (
-  columns_fit g.row.K g.row.V g.row.N g.K.PartialEq.eq assumption,
-  rw c.self.view_is c.requires,
-)
+value_at_mut-requires g c = (omega arith, rw c.self.view_is c.requires)
 
 pub returns : goal.returns
 returns g c = (

@@ -7,8 +7,7 @@ use Rattle.micromap_core.proofs.map.Map.write_entries.Goals as goal
 pub loop-key-init : goal.loop-key-init
 loop-key-init g c = record {
   faultless = record { count = refl; last = refl };
-  written =
-      rw c.into_iter-key-iterator.ensures.into_iter_gives.0 (walk_begins (sym (append-nil _)));
+  written = rw c.into_iter-key-iterator.ensures.into_iter_gives.0 (walk_begins (sym (append-nil _)));
 }
 
 pub loop-key-preserved : goal.loop-key-preserved

@@ -1,7 +1,6 @@
 use Rattle.std.proofs.Common.{◌≡◌, ◌∙◌, [], ap, get_or, rules, subst, sym, take_all, true}
 use Rattle.std.proofs.lemmas.List.Sums.{fold_more}
-use Rattle.micromap_core.specs.Build.{build, pair_fits, put_pair}
-use Rattle.micromap_core.specs.Pairs.{IsContent}
+use Rattle.micromap_core.specs.{Build.build, Build.pair_fits, Build.put_pair, Pairs.IsContent}
 use Rattle.micromap_core.proofs.KeyedLemmas.{array_fits, array_fits_at, pairs_keyed, IsContent-build}
 use Rattle.micromap_core.proofs.map.build.from_repeated.Goals as goal
 
@@ -26,13 +25,10 @@ loop-index-preserved g c =
 pub returns : goal.returns
 returns g c =
     let eq = g.K.PartialEq.eq in
-    let made = c.loop-index.invariant
-    ∙ ap (build eq) (take_all c.loop-index.index c.args.items (search rules)) in
+    let made = c.loop-index.invariant ∙ ap (build eq) (take_all c.loop-index.index c.args.items (search rules)) in
     let fit = array_fits g.met.K.Eq.laws (pairs_keyed eq g.row.N) c.args.items (search rules) in
     record {
       made = made;
       fit = fit;
-      content =
-          subst (IsContent eq g.row.N) (sym made)
-          (IsContent-build eq g.row.N g.met.K.Eq.laws c.args.items fit);
+      content = subst (IsContent eq g.row.N) (sym made) (IsContent-build eq g.row.N g.met.K.Eq.laws c.args.items fit);
     }

@@ -17,13 +17,11 @@ loop-slot-init g c =
       can = search rules;
       finite = search rules;
       filled = rw all c.into_array_vec-filled.ensures.filled;
-      converted = rw (all, c.into_array_vec-filled.ensures.items)
-          (walk_begins (rw c.new-slots.ensures (refl, tt)));
+      converted = rw (all, c.into_array_vec-filled.ensures.items) (walk_begins (rw c.new-slots.ensures (refl, tt)));
     }
 
 pub into_item-requires : goal.into_item-requires
-into_item-requires g c =
-    first_some _ c.loop-slot.invariant.filled _ _ c.in-Some.ensures.steps.0
+into_item-requires g c = first_some _ c.loop-slot.invariant.filled _ _ c.in-Some.ensures.steps.0
 
 pub push-requires : goal.push-requires
 push-requires g c =
@@ -56,9 +54,5 @@ loop-slot-preserved g c =
       );
     }
 
-pub invariant_of-result : goal.invariant_of-result
-invariant_of-result g c = c.loop-slot.invariant.converted.holds.0
-
 pub returns : goal.returns
-returns g c =
-    (walk_ends c.loop-slot.invariant.converted (ap items_of c.in-None.ensures.steps.0)).1
+returns g c = (walk_ends c.loop-slot.invariant.converted (ap items_of c.in-None.ensures.steps.0)).1

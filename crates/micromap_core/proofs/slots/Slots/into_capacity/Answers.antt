@@ -2,7 +2,7 @@ use Rattle.std.proofs.Common.{◌≡◌, ◌-◌, ◌∙◌, ap, append-nil, app
 use Rattle.std.proofs.lemmas.List.{length-map}
 use Rattle.arrayvec.specs.Iter.{drain_items}
 use Rattle.micromap_walk.specs.Filled.{items_of}
-use Rattle.micromap_core.proofs.SlotsLemmas.{items_of-map, AreFilled-from}
+use Rattle.micromap_core.proofs.SlotsLemmas.{items_of-map}
 use Rattle.micromap_core.proofs.slots.Slots.into_capacity.Goals as goal
 
 pub loop-slot-init : goal.loop-slot-init
@@ -14,8 +14,7 @@ loop-slot-init g c =
     record {
       can = search rules;
       finite = search rules;
-      moved = rw (c.new-slots.ensures, all) (c.into_array_vec-filled.ensures.filled
-          ∙ ap (map Some) c.into_array_vec-filled.ensures.items);
+      moved = rw (c.new-slots.ensures, all) (c.into_array_vec-filled.ensures.filled ∙ ap (map Some) c.into_array_vec-filled.ensures.items);
     }
 
 pub push-requires : goal.push-requires
@@ -36,15 +35,8 @@ pub loop-slot-preserved : goal.loop-slot-preserved
 loop-slot-preserved g c = record {
   can = c.in-Some.ensures.goes.keeps;
   finite = tt;
-  moved = rw (c.push.ensures.items, append_assoc)
-      (rw c.in-Some.ensures.steps.0 at c.loop-slot.invariant.moved);
+  moved = rw (c.push.ensures.items, append_assoc) (rw c.in-Some.ensures.steps.0 at c.loop-slot.invariant.moved);
 }
 
-pub invariant_of-result : goal.invariant_of-result
-invariant_of-result g c =
-    AreFilled-from _ _ (rw (c.in-None.ensures.steps.0, append-nil) at c.loop-slot.invariant.moved)
-
 pub returns : goal.returns
-returns g c =
-    ap items_of (rw (c.in-None.ensures.steps.0, append-nil) at c.loop-slot.invariant.moved)
-    ∙ items_of-map c.args.self
+returns g c = ap items_of (rw (c.in-None.ensures.steps.0, append-nil) at c.loop-slot.invariant.moved) ∙ items_of-map c.args.self

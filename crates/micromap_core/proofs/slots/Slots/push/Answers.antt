@@ -1,21 +1,9 @@
-use Rattle.std.proofs.Common.{◌∙◌, refl, rules}
-use Rattle.micromap_core.proofs.SlotsLemmas.{items_of-map, length_filled, push_filled, AreFilled-from}
+use Rattle.std.proofs.Common.{◌∙◌, refl}
+use Rattle.micromap_core.proofs.SlotsLemmas.{items_of-map, push_filled, AreFilled-from}
 use Rattle.micromap_core.proofs.slots.Slots.push.Goals as goal
 
 pub invariant_of-self : goal.invariant_of-self
-invariant_of-self g c = AreFilled-from _ _ (c.push.ensures.items
-    ∙ push_filled _ c.self.invariant c.args.item)
+invariant_of-self g c = AreFilled-from _ _ (c.push.ensures.items ∙ push_filled _ c.self.invariant c.args.item)
 
 pub returns : goal.returns
-returns g c = rw (
-  c.push.ensures.items,
-  push_filled _ c.self.invariant c.args.item,
-  items_of-map,
-  c.self.view_is,
-) refl
-
-pub push-requires : goal.push-requires
-push-requires g c = (
-  search rules,
-  rw (← length_filled _ c.self.invariant, c.self.view_is) c.requires,
-)
+returns g c = rw (c.push.ensures.items, push_filled _ c.self.invariant c.args.item, items_of-map, c.self.view_is) refl

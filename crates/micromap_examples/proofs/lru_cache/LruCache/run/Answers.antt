@@ -1,7 +1,7 @@
 use Rattle.std.proofs.Common.{take}
 use Rattle.micromap.proofs.Laws.Equalities.{lawful}
-use Rattle.micromap_examples.specs.Uses.{uses}
-use Rattle.micromap_examples.proofs.UseLemmas.{kept, uses_more, after_get, after_put}
+use Rattle.micromap_examples.specs.Recency.{uses}
+use Rattle.micromap_examples.proofs.RecencyLemmas.{kept, uses_more, after_get, after_put}
 use Rattle.micromap_examples.proofs.lru_cache.LruCache.run.Goals.{in-Get, in-Put}
 use Rattle.micromap_examples.proofs.lru_cache.LruCache.run.Goals as goal
 

@@ -1,5 +1,5 @@
 use Rattle.std.proofs.Common.{◌≡◌, take}
-use Rattle.micromap_examples.specs.Uses.{last_keys, uses}
+use Rattle.micromap_examples.specs.Recency.{last_keys, uses}
 use Rattle.micromap_examples.proofs.lru_cache.LruCache.run.Given as goal
 
 -- what the calls so far leave

@@ -5,11 +5,7 @@ use Rattle.micromap_walk.proofs.owning.IntoKeysIterator.next.Goals as goal
 
 pub returns-in_err-key-clause-steps : goal.returns-in_err-key-clause-steps
 returns-in_err-key-clause-steps g c =
-    rw c.from_residual.ensures (
-      sym c.self.view_is
-          ∙ ap keys_of c.in_err-key.ensures.steps.0,
-      ap keys_of c.in_err-key.ensures.steps.1,
-    )
+    rw c.from_residual.ensures (sym c.self.view_is ∙ ap keys_of c.in_err-key.ensures.steps.0, ap keys_of c.in_err-key.ensures.steps.1)
 
 pub returns-in_err-key-clause-goes : goal.returns-in_err-key-clause-goes
 returns-in_err-key-clause-goes g c = first_goes (λ p. p) _ _ _ (returns-in_err-key-clause-steps g c)

@@ -1,5 +1,4 @@
-use Rattle.std.proofs.Common.{Some, Ok, rules}
-use Rattle.std.specs.Fmt.{DisplaysOnOk, formatter_spec}
+use Rattle.std.{proofs.Common.Some, proofs.Common.Ok, proofs.Common.rules, specs.Fmt.DisplaysOnOk, specs.Fmt.formatter_spec}
 use Rattle.micromap_core.proofs.PrintLemmas.{plain_append, WritesAs, styled_append, with_options, styled_from}
 use Rattle.micromap_core.proofs.PrintLemmas.{failed_plain, failed_styled, printing_begins, printing_more, printing_ends}
 use Rattle.micromap.proofs.set.print.SetDisplay.fmt.Goals as goal
@@ -27,28 +26,24 @@ loop-item-preserved g c =
     (g.T.Display.output x) leads.writes c.in_ok-fmt.ensures.writes in
     let styled = styled_append took c.args.f.now l.f between c.fmt.new.f (Ok tt) (Some l.lead.now)
     (g.T.Display.styled_output x spec) (λ same. leads.styled)
-    (with_options took c.args.f.now between c.fmt.new.f (Ok tt) (g.T.Display.styled_output x)
-    c.in_ok-fmt.ensures.styled) in
+    (with_options took c.args.f.now between c.fmt.new.f (Ok tt) (g.T.Display.styled_output x) c.in_ok-fmt.ensures.styled) in
     record {
       utf8 = search rules;
       plain = printing_more (DisplaysOnOk took) g.T.Display.output (plain_append took) _ _ _ _ _ _ _
           _ l.invariant.plain c.in-Some.ensures.steps plain;
       styled = printing_more (WritesAs took c.args.f.now) (λ x. g.T.Display.styled_output x spec)
-          (styled_append took c.args.f.now) _ _ _ _ _ _ _ _ l.invariant.styled
-          c.in-Some.ensures.steps styled;
+          (styled_append took c.args.f.now) _ _ _ _ _ _ _ _ l.invariant.styled c.in-Some.ensures.steps styled;
     }
 
 pub returns-clause-writes : goal.returns-clause-writes
-returns-clause-writes g c =
-    printing_ends (DisplaysOnOk g.W.Write.write_str_gives) g.T.Display.output _ _ _ _ _ _ _
+returns-clause-writes g c = printing_ends (DisplaysOnOk g.W.Write.write_str_gives) g.T.Display.output _ _ _ _ _ _ _
     c.loop-item.invariant.plain (search rules) c.write_str-2.ensures.writes
 
 pub returns-clause-styled : goal.returns-clause-styled
 returns-clause-styled g c =
     let took = g.W.Write.write_str_gives in
     let spec = formatter_spec c.args.f.now in
-    styled_from took c.args.f.now _ _ _
-    (printing_ends (WritesAs took c.args.f.now) (λ x. g.T.Display.styled_output x spec) _ _ _ _ _ _
+    styled_from took c.args.f.now _ _ _ (printing_ends (WritesAs took c.args.f.now) (λ x. g.T.Display.styled_output x spec) _ _ _ _ _ _
     _ c.loop-item.invariant.styled (search rules) (λ same. c.write_str-2.ensures.styled))
 
 -- a failed call says nothing of a text

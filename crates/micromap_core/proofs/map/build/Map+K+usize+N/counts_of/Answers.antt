@@ -1,20 +1,16 @@
 use Rattle.std.proofs.Common.{[], arith, sym}
-use Rattle.std.proofs.Math.Bool.{and_comm}
-use Rattle.std.proofs.lemmas.List.{length_push}
-use Rattle.micromap_core.proofs.CountLemmas.{counted_low}
-use Rattle.micromap_core.proofs.PuttingLemmas.{putting_begins, putting_goes_on}
+use Rattle.std.proofs.{Math.Bool.and_comm, lemmas.List.length_push}
+use Rattle.micromap_core.proofs.{CountLemmas.counted_low, PuttingLemmas.putting_begins, PuttingLemmas.putting_goes_on}
 use Rattle.micromap_core.proofs.map.build.Map+K+usize+N.counts_of.Goals as goal
 
 pub loop-item-init : goal.loop-item-init
-loop-item-init g c =
-    rw (c.into_iter-item-iterator.ensures.into_iter_gives, c.new-counts.ensures.answer)
-    (record {
-      can = c.requires.can;
-      finite = c.requires.ends.0;
-      few = omega (arith, c.requires.ends.1);
-      put = putting_begins;
-      content = rw (← c.new-counts.ensures.answer) c.new-counts.ensures.content;
-    })
+loop-item-init g c = rw (c.into_iter-item-iterator.ensures.into_iter_gives, c.new-counts.ensures.answer) (record {
+  can = c.requires.can;
+  finite = c.requires.ends.0;
+  few = omega (arith, c.requires.ends.1);
+  put = putting_begins;
+  content = rw (← c.new-counts.ensures.answer) c.new-counts.ensures.content;
+})
 
 pub count-all_fit-requires : goal.count-all_fit-requires
 count-all_fit-requires g c =
@@ -30,8 +26,7 @@ loop-item-preserved g c =
       can = goes.0;
       finite = goes.1;
       few = omega (arith, goes.2, l.invariant.few, length_push l.yielded c.in-Some.item);
-      put = rw (and_comm l.all_fit c.count-all_fit.result)
-          (putting_goes_on l.invariant.put c.in-Some.item c.count-all_fit.ensures.counts
+      put = rw (and_comm l.all_fit c.count-all_fit.result) (putting_goes_on l.invariant.put c.in-Some.item c.count-all_fit.ensures.counts
           (sym c.count-all_fit.ensures.answer));
       content = c.count-all_fit.ensures.content;
     }

@@ -1,8 +1,8 @@
-use Rattle.std.proofs.Common.{rules, Ok, Some}
+use Rattle.std.proofs.{Common.rules, Common.Ok, Common.Some, Padding.displays_at_plain}
 use Rattle.std.specs.Fmt.{◌++?◌}
-use Rattle.std.proofs.Padding.{displays_at_plain}
 use Rattle.micromap_core.specs.Print.{map_text, pair_text}
-use Rattle.micromap_core.proofs.PrintLemmas.{failed_plain, failed_styled, printing_begins, printing_ends, printing_more, styled_append, styled_from, unstyled_writes, with_options, WritesAs}
+use Rattle.micromap_core.proofs.PrintLemmas.{failed_plain, failed_styled, printing_begins, printing_ends, printing_more, styled_append}
+use Rattle.micromap_core.proofs.PrintLemmas.{styled_from, unstyled_writes, with_options, WritesAs}
 use Rattle.micromap_core.proofs.map.print.MapDisplay.fmt.Goals as goal
 
 pub loop-key-init : goal.loop-key-init
@@ -10,43 +10,34 @@ loop-key-init g c =
     let took = g.W.Write.write_str_gives in
     let e = c.args.f.now in
     let begins = printing_begins (WritesAs took e) (pair_text g.K.Display.output g.V.Display.output)
-    (styled_append took e) e c.write_str.new.self c.args.self.now
-    (λ same. c.in_ok-write_str.ensures.styled) in
+    (styled_append took e) e c.write_str.new.self c.args.self.now (λ same. c.in_ok-write_str.ensures.styled) in
     record {
       utf8 = search rules;
-      printing =
-          rw c.into_iter-key-iterator.ensures.into_iter_gives.0 begins;
+      printing = rw c.into_iter-key-iterator.ensures.into_iter_gives.0 begins;
     }
 
 pub loop-key-preserved : goal.loop-key-preserved
 loop-key-preserved g c =
     let took = g.W.Write.write_str_gives in
     let e = c.args.f.now in
-    let text = Some c.loop-key.lead.now ++? pair_text g.K.Display.output g.V.Display.output
-    (c.in-Some.key.now, c.in-Some.value.now) in
+    let text = Some c.loop-key.lead.now ++? pair_text g.K.Display.output g.V.Display.output (c.in-Some.key.now, c.in-Some.value.now) in
     let wrote = with_options took e c.loop-key.f _ (Ok tt) (λ options. text)
     (unstyled_writes took _ _ _ text (λ same. search rules) c.in_ok-write.ensures.writes) in
     record {
       utf8 = search rules;
-      printing =
-          printing_more (WritesAs took e) (pair_text g.K.Display.output g.V.Display.output)
-          (styled_append took e) _ _ _ _ _ _ _ _ c.loop-key.invariant.printing
-          c.in-Some.ensures.steps wrote;
+      printing = printing_more (WritesAs took e) (pair_text g.K.Display.output g.V.Display.output)
+          (styled_append took e) _ _ _ _ _ _ _ _ c.loop-key.invariant.printing c.in-Some.ensures.steps wrote;
     }
 
 pub returns : goal.returns
 returns g c =
     let took = g.W.Write.write_str_gives in
-    let styled =
-    styled_from took c.args.f.now _ _ _
+    let styled = styled_from took c.args.f.now _ _ _
     (printing_ends (WritesAs took c.args.f.now) (pair_text g.K.Display.output g.V.Display.output) _
-    _ _ _ _ _ _ c.loop-key.invariant.printing (search rules)
-    (λ same. c.write_str-2.ensures.styled)) in
+    _ _ _ _ _ _ c.loop-key.invariant.printing (search rules) (λ same. c.write_str-2.ensures.styled)) in
     record {
       styled = styled;
-      writes =
-          displays_at_plain took _ _ _
-          (map_text g.K.Display.output g.V.Display.output c.args.self.now) styled;
+      writes = displays_at_plain took _ _ _ (map_text g.K.Display.output g.V.Display.output c.args.self.now) styled;
     }
 
 -- a failed call says nothing of a text

@@ -1,7 +1,6 @@
 use Rattle.std.proofs.Common.{◌∙◌, string_bytes}
 use Rattle.std.specs.declared.alloc.Global.{Global}
-use Rattle.micromap_core.proofs.ConvertedLemmas.{from_texts, unique_from_texts}
-use Rattle.micromap_core.proofs.Laws.Equalities.{lawful_string}
+use Rattle.micromap_core.proofs.{ConvertedLemmas.from_texts, ConvertedLemmas.unique_from_texts, Laws.Equalities.lawful_string}
 use Rattle.micromap_core.proofs.Laws.TextLaws.{length_texts}
 use Rattle.micromap_core.proofs.map.texts.Map+TextBuf+V+N.into_strings.Goals as goal
 
@@ -15,9 +14,7 @@ invariant_of-result g c =
     }
 
 pub returns-clause-answer : goal.returns-clause-answer
-returns-clause-answer g c =
-    from_texts string_bytes _ _ c.converted_keys.ensures.keys c.converted_keys.ensures.values
-    ∙ c.self.view_is
+returns-clause-answer g c = from_texts string_bytes _ _ c.converted_keys.ensures.keys c.converted_keys.ensures.values ∙ c.self.view_is
 
 pub returns-clause-content : goal.returns-clause-content
 returns-clause-content g c = invariant_of-result g c

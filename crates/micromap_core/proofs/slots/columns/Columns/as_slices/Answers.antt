@@ -5,9 +5,6 @@ use Rattle.micromap_core.proofs.slots.columns.Columns.as_slices.Goals as goal
 pub equal-requires : goal.equal-requires
 equal-requires g c = c.len.ensures.answer ∙ sym (as_many_values _ _ _ c.self.invariant c.self.view_is) ∙ sym c.len-len.ensures.answer
 
-pub at_most-requires : goal.at_most-requires
-at_most-requires g c = rw c.len-len.ensures.answer c.len-len.ensures.bounded
-
 pub returns : goal.returns
 returns g c = record {
   keys = c.as_slice.ensures.filled;

@@ -1,7 +1,5 @@
 use Rattle.std.proofs.Common.{[], ◌∷◌, ◌++◌, ◌∙◌, ap, arith, length, length-take, sym, take, take_all}
-use Rattle.std.proofs.lemmas.List.{take_more}
-use Rattle.std.proofs.lemmas.Option.{get_or_from_slice_get}
-use Rattle.micromap_core.proofs.Sizes.{keys_fit, values_fit}
+use Rattle.std.proofs.lemmas.{List.take_more, Option.get_or_from_slice_get}
 use Rattle.micromap_core.proofs.SlotsLemmas.{as_many_keys, as_many_values}
 use Rattle.micromap_core.proofs.slots.columns.Columns.copied.Goals as goal
 
@@ -10,23 +8,15 @@ equal-requires g c = c.len.ensures.answer ∙ sym (as_many_values _ _ _ c.self.i
 
 pub copied_full-requires : goal.copied_full-requires
 copied_full-requires g c = (
-  keys_fit g.row.K g.row.V g.row.N assumption,
-  sym (as_many_keys _ _ _ c.self.invariant c.self.view_is)
-      ∙ sym c.len-len.ensures.answer ∙ c.if-len.true,
+  omega arith,
+  sym (as_many_keys _ _ _ c.self.invariant c.self.view_is) ∙ sym c.len-len.ensures.answer ∙ c.if-len.true,
 )
 
 pub copied_full-requires-then-len : goal.copied_full-requires-then-len
 copied_full-requires-then-len g c = (
-  values_fit g.row.K g.row.V g.row.N assumption,
-  sym (as_many_values _ _ _ c.self.invariant c.self.view_is)
-      ∙ sym c.len-len.ensures.answer ∙ c.if-len.true,
+  omega arith,
+  sym (as_many_values _ _ _ c.self.invariant c.self.view_is) ∙ sym c.len-len.ensures.answer ∙ c.if-len.true,
 )
-
-pub invariant_of-result : goal.invariant_of-result
-invariant_of-result g c = rw (c.copied_full.ensures, c.copied_full-then-len.ensures) c.self.invariant
-
-pub returns-then-len : goal.returns-then-len
-returns-then-len g c = rw (c.copied_full.ensures, c.copied_full-then-len.ensures) c.self.view_is
 
 pub pair_at-requires : goal.pair_at-requires
 pair_at-requires g c = (assumption, rw (← c.len-len.ensures.answer) c.loop-index-test.true)
@@ -58,18 +48,10 @@ pub returns : goal.returns
 returns g c = c.loop-index.invariant
     ∙ take_all c.loop-index.index c.args.self.now (omega (arith, c.loop-index-test.false, c.len-len.ensures.answer))
 
-pub loop-index-init : goal.loop-index-init
-loop-index-init g c = c.new-copy.ensures
-
 pub loop-index-preserved : goal.loop-index-preserved
 loop-index-preserved g c =
     let pairs = c.args.self.now in
     let index = c.loop-index.index in
-    rw (c.push.ensures, c.loop-index.invariant)
-    (sym (take_more pairs index (
-      c.pair_at.result.0.now,
-      c.pair_at.result.1.now,
-    )
-    (omega (arith, c.loop-index-test.true, c.len-len.ensures.answer))
-    ∙ ap (λ next. take index pairs ++ next ∷ [])
+    rw (c.push.ensures, c.loop-index.invariant) (sym (take_more pairs index (c.pair_at.result.0.now, c.pair_at.result.1.now)
+    (omega (arith, c.loop-index-test.true, c.len-len.ensures.answer)) ∙ ap (λ next. take index pairs ++ next ∷ [])
     (get_or_from_slice_get pairs index _ _ c.pair_at.ensures)))

@@ -3,16 +3,10 @@ use Rattle.micromap_core.proofs.SlotsLemmas.{as_many_keys}
 use Rattle.micromap_core.proofs.slots.columns.Columns.into_capacity.Goals as goal
 
 pub into_capacity-requires : goal.into_capacity-requires
-into_capacity-requires g c =
-    (search rules, omega (arith, as_many_keys _ _ _ c.self.invariant c.self.view_is, c.requires))
+into_capacity-requires g c = (search rules, omega (arith, as_many_keys _ _ _ c.self.invariant c.self.view_is, c.requires))
 
 pub into_capacity-requires-2 : goal.into_capacity-requires-2
 into_capacity-requires-2 g c = (
   search rules,
-  omega (
-    arith,
-    as_many_keys _ _ _ c.self.invariant c.self.view_is,
-    c.requires,
-    c.self.invariant,
-  ),
+  omega (arith, as_many_keys _ _ _ c.self.invariant c.self.view_is, c.requires, c.self.invariant),
 )

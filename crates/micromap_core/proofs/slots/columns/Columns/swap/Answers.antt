@@ -1,5 +1,4 @@
-use Rattle.std.proofs.Common.{rules}
-use Rattle.std.proofs.lemmas.List.Edits.{length-swap}
+use Rattle.std.proofs.{Common.rules, lemmas.List.Edits.length-swap}
 use Rattle.micromap_core.proofs.SlotsLemmas.{as_many_keys, as_many_values, zip_swap}
 use Rattle.micromap_core.proofs.slots.columns.Columns.swap.Goals as goal
 
@@ -17,5 +16,4 @@ pub invariant_of-self : goal.invariant_of-self
 invariant_of-self g c = rw (c.swap.ensures, c.swap-2.ensures) (simp length-swap c.self.invariant)
 
 pub returns : goal.returns
-returns g c = rw (c.swap.ensures, c.swap-2.ensures, ← c.self.view_is)
-    (zip_swap _ _ c.args.a c.args.b c.self.invariant)
+returns g c = rw (c.swap.ensures, c.swap-2.ensures, ← c.self.view_is) (zip_swap _ _ c.args.a c.args.b c.self.invariant)

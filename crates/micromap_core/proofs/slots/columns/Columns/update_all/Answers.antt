@@ -12,9 +12,7 @@ visit_at-requires g c = (
 )
 
 pub loop-index-preserved : goal.loop-index-preserved
-loop-index-preserved g c =
-    updates_next g.F.FnMut c.args.update c.args.self.now _ _ _ c.loop-index.invariant _ _ _
-    c.visit_at.ensures
+loop-index-preserved g c = updates_next g.F.FnMut c.args.update c.args.self.now _ _ _ c.loop-index.invariant _ _ _ c.visit_at.ensures
 
 pub returns : goal.returns
 returns g c = update_ends g.F.FnMut c.args.update c.args.self.now _ _ _ c.loop-index.invariant

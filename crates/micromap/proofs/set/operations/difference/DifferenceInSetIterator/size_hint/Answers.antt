@@ -1,12 +1,15 @@
 use Rattle.std.proofs.Common.{arith}
-use Rattle.micromap.specs.Operations.{difference_remaining}
-use Rattle.micromap.proofs.OperationSteps.{length-parts, length-difference}
+use Rattle.micromap.{specs.Operations.difference_remaining, proofs.OperationSteps.length-parts, proofs.OperationSteps.length-difference}
 use Rattle.micromap.proofs.set.operations.difference.DifferenceInSetIterator.size_hint.Goals as goal
 
 pub returns-clause-lower : goal.returns-clause-lower
 unfolding difference_remaining
-returns-clause-lower g c = λ _. rw (← c.self.view_is) (omega (arith, length-difference g.met.T.Eq.laws c.self.inside.rest c.self.inside.other.now c.self.invariant))
+returns-clause-lower g c = λ _. rw (← c.self.view_is)
+    (omega (arith, length-difference g.met.T.Eq.laws c.self.inside.rest c.self.inside.other.now c.self.invariant))
 
 pub returns-clause-upper : goal.returns-clause-upper
 unfolding difference_remaining
-returns-clause-upper g c = (tt {0}, rw (← c.self.view_is) (omega (arith, length-parts g.T.PartialEq.eq c.self.inside.rest c.self.inside.other.now)))
+returns-clause-upper g c = (
+  tt {0},
+  rw (← c.self.view_is) (omega (arith, length-parts g.T.PartialEq.eq c.self.inside.rest c.self.inside.other.now)),
+)

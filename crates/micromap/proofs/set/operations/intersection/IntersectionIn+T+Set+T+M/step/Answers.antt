@@ -1,5 +1,4 @@
-use Rattle.micromap.specs.Operations.{intersection_remaining, intersection_advanced}
-use Rattle.micromap.proofs.OperationSteps.{distinct_after}
+use Rattle.micromap.{specs.Operations.intersection_remaining, specs.Operations.intersection_advanced, proofs.OperationSteps.distinct_after}
 use Rattle.micromap.proofs.set.operations.intersection.IntersectionIn+T+Set+T+M.step.Goals as goal
 
 pub invariant_of-self : goal.invariant_of-self
@@ -7,8 +6,7 @@ invariant_of-self g c = distinct_after g.T.PartialEq.eq _ _ _ c.self.invariant c
 
 pub returns : goal.returns
 unfolding intersection_remaining intersection_advanced
-returns g c =
-    rw (← c.self.view_is) (record {
-      member = c.next_where.ensures.member;
-      state = λ i. record { rest = c.next_where.ensures.state i; other = c.self.inside.other.now };
-    })
+returns g c = rw (← c.self.view_is) (record {
+  member = c.next_where.ensures.member;
+  state = λ i. record { rest = c.next_where.ensures.state i; other = c.self.inside.other.now };
+})

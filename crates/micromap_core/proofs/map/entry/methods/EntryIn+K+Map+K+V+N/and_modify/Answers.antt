@@ -1,8 +1,6 @@
-use Rattle.std.proofs.Common.{refl, rules}
-use Rattle.std.specs.Map.Calls.{MayWrite}
+use Rattle.std.{proofs.Common.refl, specs.Map.Calls.MayWrite}
 use Rattle.micromap_core.specs.Entry.{entry_put, with_entry_value}
-use Rattle.micromap_core.proofs.Lists.{slice_get_some}
-use Rattle.micromap_core.proofs.EntryLemmas.{occupied_written}
+use Rattle.micromap_core.proofs.{Lists.slice_get_some, EntryLemmas.occupied_written}
 use Rattle.micromap_core.proofs.map.entry.methods.EntryIn+K+Map+K+V+N.and_modify.Goals as goal
 
 -- the closure was called on the value, and left another
@@ -12,16 +10,13 @@ returns-in-Occupied g c =
     let o = c.in-Occupied.entry in
     let v = c.f.new.arg2 in
     let here = slice_get_some o.map.now o.index (rw c.in-Occupied.is at c.requires.sound) in
-    let written = occupied_written g.K.PartialEq.eq v (with_entry_value o v).map o here.0 here.1
-    refl refl in
-    let did : MayWrite g.F.FnOnce c.args.f c.get_mut.result.now v
-    = record {
+    let written = occupied_written g.K.PartialEq.eq v (with_entry_value o v).map o here.0 here.1 refl refl in
+    let did : MayWrite g.F.FnOnce c.args.f c.get_mut.result.now v = record {
       lent = c.get_mut.result;
       result = c.f.result;
       left = _;
       before = refl;
-      met =
-          c.f.ensures;
+      met = c.f.ensures;
       after = refl;
     } in
     rw c.in-Occupied.is (record {
@@ -36,9 +31,3 @@ returns-in-Occupied g c =
         sound = written.sound;
       };
     })
-
-pub get_mut-requires : goal.get_mut-requires
-get_mut-requires g c = (search rules, rw c.in-Occupied.is at c.requires.sound)
-
-pub f-requires : goal.f-requires
-f-requires g c = c.requires.callable _ (rw c.in-Occupied.is c.get_mut.ensures.answer)

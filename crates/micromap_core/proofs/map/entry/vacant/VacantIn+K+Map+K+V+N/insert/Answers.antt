@@ -1,8 +1,6 @@
 use Rattle.std.proofs.Common.{[], ◌∷◌, length, refl, ap, sym, ◌∙◌, length-append, arith, rules}
-use Rattle.std.proofs.lemmas.Bool.Decides.{nat_tests}
-use Rattle.std.proofs.lemmas.Option.{same_Some}
-use Rattle.micromap_core.specs.Entry.{entry_put}
-use Rattle.micromap_core.proofs.EntryLemmas.{vacant_written}
+use Rattle.std.proofs.lemmas.{Bool.Decides.nat_tests, Option.same_Some}
+use Rattle.micromap_core.{specs.Entry.entry_put, proofs.EntryLemmas.vacant_written}
 use Rattle.micromap_core.proofs.map.entry.vacant.VacantIn+K+Map+K+V+N.insert.Goals as goal
 
 -- the pair stands last, and its value is lent
@@ -16,14 +14,12 @@ returns g c =
       (refl, written.puts),
       record {
         writes_back = tt;
-        answer =
-            same_Some _ _ (sym c.value_at_mut.ensures.value ∙ written.value);
+        answer = same_Some _ _ (sym c.value_at_mut.ensures.value ∙ written.value);
       },
     )
 
 pub push_pair-requires : goal.push_pair-requires
-push_pair-requires g c =
-    (search rules, (c.requires.sound, grind (arith, nat_tests, c.requires.room)))
+push_pair-requires g c = (search rules, (c.requires.sound, grind (arith, nat_tests, c.requires.room)))
 
 pub value_at_mut-requires : goal.value_at_mut-requires
 value_at_mut-requires g c =

@@ -1,5 +1,0 @@
-use Rattle.micromap.proofs.set.Set.from_fitting.Goals as goal
-
-pub returns-clause-built : goal.returns-clause-built
-returns-clause-built g c = let ran = rw c.new-fitting.ensures.answer at c.put_fitting.ensures.built in
-    (ran.0, ran.1, ran.3)

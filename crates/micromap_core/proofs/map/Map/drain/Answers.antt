@@ -1,5 +1,0 @@
-use Rattle.micromap_walk.proofs.Runs.{gives_in_order}
-use Rattle.micromap_core.proofs.map.Map.drain.Goals as goal
-
-pub returns-clause-runs : goal.returns-clause-runs
-returns-clause-runs g c = gives_in_order
