@@ -28,8 +28,8 @@ pub use walk::{Drain, IntoIter, Iter};
 
 /// A set of at most `N` distinct items, which are found by `==`, from the front.
 ///
-/// A contract sees it as the list of its items, from front to end. It is a map with the value `()`: it compares items as
-/// a `Map` compares keys, and no call allocates memory of its own.
+/// A contract sees it as the list of its items, from front to end. It is a map with the value `()`, and compares items
+/// as a `Map` compares keys.
 ///
 /// ```
 /// let mut seen: Set<&str, 2> = Set::new();

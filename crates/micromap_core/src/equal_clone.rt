@@ -12,8 +12,8 @@ use std::alloc::AllocError;
 
 /// A key whose clone is known to equal it, which `Clone` alone doesn't say.
 ///
-/// Each `Copy` key is one, by its copy, and so are a `TextBuf` and a set of such items. A map of such keys has the trait
-/// `Clone`.
+/// Each `Copy` key is one, by its copy, and so are a `TextBuf` and a set of such items. A map or a set of such keys has
+/// the trait `Clone`.
 pub trait EqualClone: Eq + Drop {
     ghost is_equal_clone: { Self → Self → Type 0 };
 
@@ -26,7 +26,6 @@ pub trait EqualClone: Eq + Drop {
     ghost clones_are_equal: { ClonesAreEqual Self.eq is_equal_clone };
 }
 
-/// A copy is the same value.
 impl<K: Eq + Copy> EqualClone for K {
     ghost is_equal_clone = { λ key new. new ≡ key };
 
@@ -40,7 +39,6 @@ impl<K: Eq + Copy> EqualClone for K {
     }
 }
 
-/// A clone of an owned text is the same value.
 impl EqualClone for TextBuf {
     ghost is_equal_clone = { λ text new. new ≡ text };
 

@@ -85,13 +85,6 @@ impl<K: Eq, V, const N: usize> Map<K, V, N> {
     ///
     /// The clause `content` states three facts of the map: its keys are distinct (no two are equal), there are at most `N`
     /// pairs, and the equality of keys is lawful (reflexive, symmetric and transitive).
-    ///
-    /// ```
-    /// let mut map: Map<u8, char, 4> = Map::new();
-    /// map.put(1, 'a');
-    /// map.put(1, 'b');
-    /// assert_eq!(rt; map.len(), 1);
-    /// ```
     #[inline]
     pub fn len(&self) -> usize
         ensures answer { result ≡ length self.now }

@@ -3,7 +3,7 @@ ghost use Rattle.std.specs.Prelude.{◌≡◌, ℕ, ◌+◌, ◌*◌, ◌^◌, �
 
 use std::marker::Model;
 
-/// Counts comparisons of keys. A contract sees it as their number.
+/// Counts comparisons of keys.
 #[derive(Debug, Drop)]
 pub struct Steps {
     counted: u128,

@@ -69,10 +69,9 @@ pub trait EntrySource<K, V> {
 /// The error of `read_entries`.
 #[derive(Debug, Clone, Copy, PartialEq, Eq, Drop)]
 pub enum ReadFault<E> {
-    /// The source returned this error. What was taken before it is dropped, and the rest is left.
+    /// The source returned this error.
     Source(E),
-    /// A pair had a new key, and there was no room for it. It and what was taken before it are dropped, and the rest is
-    /// left.
+    /// A pair had a new key, and there was no room for it.
     TooMany,
 }
 

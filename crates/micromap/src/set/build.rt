@@ -17,13 +17,6 @@ impl<T: Eq + Drop, const N: usize> Set<T, N> {
     ///
     /// Requires that the iterator ends, after fewer than `usize::MAX` items. After an `Err` the set is full, and has all
     /// items before that position.
-    ///
-    /// ```
-    /// let mut seen: Set<u8, 2> = Set::new();
-    /// let ended = seen.try_extend([5, 5, 6, 7].into_iter());
-    /// assert_eq!(rt; ended, Err(Overfull { at: 3 }));
-    /// assert!(rt; seen.iter().eq(&[5, 6]));
-    /// ```
     pub fn try_extend<I: Iterator<Item = T>>(&mut self, items: I) -> Result<(), Overfull>
         requires can { I.can_next items }
         requires ends { UpTo (I.remaining items) most_items }
@@ -48,7 +41,7 @@ impl<T: Eq + Drop, const N: usize> Set<T, N> {
     /// doesn't fit.
     ///
     /// Requires that the iterator ends, after fewer than `usize::MAX` items. The result is `Err` exactly if more than
-    /// `N` of the items are distinct. Then all items are dropped, and at least `N` came before the one that didn't fit.
+    /// `N` of the items are distinct. Then all items are dropped.
     ///
     /// ```
     /// let first = Set::from([1, 2]);
@@ -135,8 +128,8 @@ impl<T: Eq + Copy, const N: usize> Set<T, N> {
     /// Inserts all items of another set, one after the other, as `insert` does. If they don't all fit, inserts none, and
     /// returns the position of the first that doesn't.
     ///
-    /// After `Ok`, this set is the union: its own items, and then the others' that were no members. The result is `Err`
-    /// exactly if the two sets together have more than `N` distinct items. It costs what `Map::try_extend_from` costs.
+    /// The result is `Err` exactly if the two sets together have more than `N` distinct items. It costs what
+    /// `Map::try_extend_from` costs.
     pub fn try_extend_from<const M: usize>(&mut self, other: &Set<T, M>) -> Result<(), Overfull>
         ensures items { OnOk result (self.new ≡ put_all_items T.eq self.old other.now) }
         ensures many { IsErr result ↔ (N < length (put_all_items T.eq self.old other.now)) }

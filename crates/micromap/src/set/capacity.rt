@@ -7,7 +7,7 @@ use super::Set;
 impl<T: Eq + Drop, const N: usize> Set<T, N> {
     /// Returns this set with the capacity `M`, or this set unchanged as an `Err` if there are more than `M` items.
     ///
-    /// The list of items stays. Moves each item once.
+    /// Moves each item once.
     pub fn into_capacity<const M: usize>(self) -> Result<Set<T, M>, Self>
         ensures refuses { IsErr result ↔ (M < length self) }
         ensures items { IfOk result (λ set. set ≡ self) }

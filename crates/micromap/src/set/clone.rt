@@ -13,8 +13,8 @@ use std::alloc::AllocError;
 impl<T: Eq + Clone + Drop, const N: usize> Set<T, N> {
     /// Returns a set of the clones of all items, in the same order.
     ///
-    /// Requires that an item's clone is equal to the item. The result is `Err` only if the clone of an item is. Then the
-    /// clones made so far are dropped. If the items have `EqualClone`, a set has the trait `Clone` too.
+    /// Requires that an item's clone is equal to the item. The result is `Err` only if the clone of an item is. Then
+    /// the clones made so far are dropped.
     pub fn clone(&self) -> Result<Self, AllocError>
         requires { ClonesAreEqual T.eq T.is_clone }
         ensures clones { IfOk result (AllZip T.is_clone self.now) }
@@ -29,8 +29,6 @@ impl<T: Eq + Clone + Drop, const N: usize> Set<T, N> {
 
 impl<T: Eq + Copy, const N: usize> Set<T, N> {
     /// Returns a copy of this set: the same items, in the same order.
-    ///
-    /// Copies the items of a full set at once, and those of any other one after the other.
     pub fn copied(&self) -> Self
         ensures answer { result ≡ self.now }
         ensures content { IsItems T.eq N result }
@@ -53,7 +51,6 @@ impl<T: EqualClone, const N: usize> Clone for Set<T, N> {
     }
 }
 
-/// A clone of a set has equal items.
 impl<T: EqualClone, const N: usize> EqualClone for Set<T, N> {
     ghost is_equal_clone = { AllZip T.is_equal_clone };
 

@@ -44,12 +44,6 @@ impl<T: Eq + Drop, const N: usize> Set<T, N> {
     /// Inserts the item in the place of an equal one, which it returns, or else last, and returns `None`.
     ///
     /// Requires `fits(&item)`.
-    ///
-    /// ```
-    /// let mut set = Set::from([1, 2]);
-    /// assert!(rt; set.fits(&2));
-    /// assert_eq!(rt; set.replace(2), Some(2));
-    /// ```
     #[inline]
     pub fn replace(&mut self, item: T) -> Option<T>
         requires { IsTrue (item_fits T.eq N self.old item) }
@@ -62,8 +56,7 @@ impl<T: Eq + Drop, const N: usize> Set<T, N> {
 
     /// Inserts the item if it fits. Returns `Some(item)` if an equal one is stored, else `None`, inserted or refused.
     ///
-    /// A stored item stays, and the one that was passed is returned. A new item goes last, or is dropped if the
-    /// set is full. `try_insert` tells the two apart.
+    /// A stored item stays. A new item goes last, or is dropped if the set is full. `try_insert` tells the two apart.
     ///
     /// ```
     /// let mut seen: Set<u8, 2> = Set::new();
@@ -82,8 +75,7 @@ impl<T: Eq + Drop, const N: usize> Set<T, N> {
         }
     }
 
-    /// Inserts the item as `checked_insert` does, and returns `true` if it fits. If an equal one is stored, the one that
-    /// was passed is dropped.
+    /// Inserts the item as `checked_insert` does, and returns `true` if it fits.
     ///
     /// ```
     /// let mut set: Set<u8, 1> = Set::new();

@@ -6,11 +6,6 @@ use std::fmt;
 
 /// Prints `{a, b}`, from the front. Passes width and other flags to the items. Ends at an error of the writer, and
 /// returns it.
-///
-/// ```
-/// let set = Set::from([2, 1]);
-/// assert_eq!(rt; set.to_string(alloc)?.as_str(), "{2, 1}");
-/// ```
 impl<T: Eq + fmt::Display, const N: usize> fmt::Display for Set<T, N> {
     ghost output = { set_text T.output };
 

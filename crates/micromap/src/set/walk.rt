@@ -36,8 +36,7 @@ impl<T: Eq, const N: usize> Set<T, N> {
 impl<T: Eq + Drop, const N: usize> Set<T, N> {
     /// Removes all items, and returns an iterator over them by value, from the front.
     ///
-    /// The set is empty as soon as the call returns. A caller that is generic in `T` requires `SetIntoIterFits T.row
-    /// N.row`, or calls `pop_first`.
+    /// A caller that is generic in `T` requires `SetIntoIterFits T.row N.row`, or calls `pop_first`.
     #[inline]
     pub fn drain(&mut self) -> Drain<T, N>
         ensures answer { result ≡ self.old }

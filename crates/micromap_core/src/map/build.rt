@@ -111,8 +111,7 @@ impl<K: Eq + Drop, V: Drop, const N: usize> Map<K, V, N> {
     /// doesn't fit.
     ///
     /// Requires that the iterator ends, after fewer than `usize::MAX` items. The result is `Err` exactly if the items
-    /// have more than `N` distinct keys. Then all items are dropped, and at least `N` came before the one that didn't
-    /// fit.
+    /// have more than `N` distinct keys. Then all items are dropped.
     ///
     /// ```
     /// let items = [(1, 'a'), (2, 'b'), (1, 'c')];

@@ -7,7 +7,7 @@ use super::Map;
 impl<K: Eq + Drop, V: Drop, const N: usize> Map<K, V, N> {
     /// Returns this map with the capacity `M`, or this map unchanged as an `Err` if there are more than `M` pairs.
     ///
-    /// The list of pairs stays. Moves each pair once.
+    /// Moves each pair once.
     ///
     /// ```
     /// let large = Map::from([(1, 'a'), (2, 'b')]).into_capacity::<3>();

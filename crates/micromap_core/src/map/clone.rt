@@ -15,7 +15,7 @@ impl<K: Eq + Clone + Drop, V: Clone + Drop, const N: usize> Map<K, V, N> {
     /// Returns a map of the clones of all pairs, in the same order.
     ///
     /// Requires that a key's clone is equal to the key. The result is `Err` only if the clone of a key or a value is.
-    /// Then the clones made so far are dropped. If the keys have `EqualClone`, a map has the trait `Clone` too.
+    /// Then the clones made so far are dropped.
     ///
     /// ```
     /// let mut names: Map<u8, TextBuf, 2> = Map::new();
@@ -105,15 +105,6 @@ impl<K: EqualClone> KeyClone<K> for ByEqualClone {
 
 impl<K: Eq + Copy, V: Copy, const N: usize> Map<K, V, N> {
     /// Returns a copy of this map: the same pairs, in the same order.
-    ///
-    /// Copies a full map's keys at once, and then its values, and any other map pair after pair.
-    ///
-    /// ```
-    /// let mut map = Map::from([(1, 'a'), (2, 'b')]);
-    /// let before = map.copied();
-    /// map.clear();
-    /// assert!(rt; before.keys().eq(&[1, 2]));
-    /// ```
     pub fn copied(&self) -> Self
         ensures answer { result ≡ self.now }
         ensures content { IsContent K.eq N result }

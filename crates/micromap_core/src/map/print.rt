@@ -6,11 +6,6 @@ use std::fmt;
 use std::fmt::Write;
 
 /// Prints `{k: v, k: v}`, from the front. Ignores width and other flags. Ends at an error of the writer, and returns it.
-///
-/// ```
-/// let map = Map::from([(2, 'b'), (1, 'a')]);
-/// assert_eq!(rt; map.to_string(alloc)?.as_str(), "{2: b, 1: a}");
-/// ```
 impl<K: Eq + fmt::Display, V: fmt::Display, const N: usize> fmt::Display for Map<K, V, N> {
     ghost output = { map_text K.output V.output };
 

@@ -83,7 +83,7 @@ impl<K: Eq, V, const N: usize> Map<K, V, N> {
 
     /// Returns a mutable reference to the value of the key that matches.
     ///
-    /// Requires `contains_key_by(probe)`. After the borrow ends the map has what was written, and all else is unchanged.
+    /// Requires `contains_key_by(probe)`.
     #[inline]
     pub fn index_mut_by<P: Probe<K>>(&mut self, probe: &P) -> &mut V
         requires { IsTrue (is_some (lookup (P.matches probe.now) self.old)) }
@@ -110,12 +110,6 @@ impl<K: Eq, V: Copy, const N: usize> Map<K, V, N> {
 
 impl<K: Eq + Drop, V: Drop, const N: usize> Map<K, V, N> {
     /// Removes the pair of the key that matches, as `remove` does, and returns its value, or `None` if none matches.
-    ///
-    /// ```
-    /// let mut ages = Map::from([("Ada", 36), ("Alan", 41)]);
-    /// assert_eq!(rt; ages.remove_by(&Text("Ada")), Some(36));
-    /// assert_eq!(rt; ages.remove_by(&Text("Ada")), None);
-    /// ```
     #[inline]
     pub fn remove_by<P: Probe<K>>(&mut self, probe: &P) -> Option<V>
         ensures answer { result ≡ lookup (P.matches probe.now) self.old }

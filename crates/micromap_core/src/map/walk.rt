@@ -59,11 +59,6 @@ impl<K: Eq, V, const N: usize> Map<K, V, N> {
 
     /// Returns an iterator over the keys by value, from the front. A caller that is generic in `K` and `V` requires
     /// `IntoKeysFits K.row V.row N.row`.
-    ///
-    /// ```
-    /// let map = Map::from([(2, 'b'), (1, 'a')]);
-    /// assert!(rt; map.into_keys().eq([2, 1]));
-    /// ```
     #[inline]
     pub fn into_keys(self) -> IntoKeys<K, V, N>
         ensures answer { result ≡ keys_of self }
@@ -94,12 +89,6 @@ impl<K: Eq + Drop, V: Drop, const N: usize> Map<K, V, N> {
     ///
     /// The map is empty as soon as the call returns. A caller that is generic in `K` and `V` requires `IntoIterFits
     /// K.row V.row N.row`.
-    ///
-    /// ```
-    /// let mut map = Map::from([(2, 'b'), (1, 'a')]);
-    /// assert_eq!(rt; map.drain().next(), Some((2, 'b')));
-    /// assert!(rt; map.is_empty());
-    /// ```
     #[inline]
     pub fn drain(&mut self) -> Drain<K, V, N>
         ensures answer { result ≡ self.old }
@@ -136,15 +125,6 @@ impl<K: Eq + Drop, V: Drop, const N: usize> IntoIterator for Map<K, V, N> {
 }
 
 /// A loop over a reference to a map yields references to its keys and values, from the front.
-///
-/// ```
-/// let map = Map::from([(1, 10), (2, 20)]);
-/// let mut largest = 0;
-/// for (_, value) in &map {
-///     largest = largest.max(*value);
-/// }
-/// assert_eq!(rt; map.get(&2), Some(&largest));
-/// ```
 impl<'a, K: Eq, V, const N: usize> IntoIterator for &'a Map<K, V, N> {
     type Item = (&'a K, &'a V);
 

@@ -7,8 +7,6 @@ use std::marker::Model;
 use std::slice;
 
 /// A source that yields copies of the pairs of a slice, from the front. It never fails.
-///
-/// A contract sees it as the list of the pairs left.
 #[derive(Drop)]
 pub struct SliceSource<'a, K, V> {
     left: slice::Iter<'a, (K, V)>,

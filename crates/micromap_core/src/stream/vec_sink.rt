@@ -6,8 +6,6 @@ use std::alloc::{AllocError, Global};
 use std::marker::Model;
 
 /// A sink that stores copies of the pairs in a `Vec`. Its errors are refused requests for memory.
-///
-/// A contract sees it as the pairs taken, the number of errors and the last of them.
 #[derive(Drop)]
 pub struct VecSink<K, V> {
     entries: Vec<(K, V)>,
