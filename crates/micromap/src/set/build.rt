@@ -17,6 +17,13 @@ impl<T: Eq + Drop, const N: usize> Set<T, N> {
     ///
     /// Requires that the iterator ends, after fewer than `usize::MAX` items. After an `Err` the set is full, and has all
     /// items before that position.
+    ///
+    /// ```
+    /// let mut seen: Set<u8, 2> = Set::new();
+    /// let ended = seen.try_extend([5, 5, 6, 7].into_iter());
+    /// assert_eq!(rt; ended, Err(Overfull { at: 3 }));
+    /// assert!(rt; seen.iter().eq(&[5, 6]));
+    /// ```
     pub fn try_extend<I: Iterator<Item = T>>(&mut self, items: I) -> Result<(), Overfull>
         requires can { I.can_next items }
         requires ends { UpTo (I.remaining items) most_items }

@@ -44,6 +44,12 @@ impl<T: Eq + Drop, const N: usize> Set<T, N> {
     /// Inserts the item in the place of an equal one, which it returns, or else last, and returns `None`.
     ///
     /// Requires `fits(&item)`.
+    ///
+    /// ```
+    /// let mut set = Set::from([1, 2]);
+    /// assert!(rt; set.fits(&2));
+    /// assert_eq!(rt; set.replace(2), Some(2));
+    /// ```
     #[inline]
     pub fn replace(&mut self, item: T) -> Option<T>
         requires { IsTrue (item_fits T.eq N self.old item) }

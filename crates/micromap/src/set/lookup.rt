@@ -41,6 +41,12 @@ impl<T: Eq, const N: usize> Set<T, N> {
     }
 
     /// Returns `true` if a stored item equals `item`.
+    ///
+    /// ```
+    /// let set = Set::from([1, 2]);
+    /// assert!(rt; set.contains(&2));
+    /// assert!(rt; !set.contains(&3));
+    /// ```
     #[inline]
     pub fn contains(&self, item: &T) -> bool
         ensures answer { result ≡ is_member T.eq self.now item.now }

@@ -9,6 +9,13 @@ impl<T: Eq + Drop, const N: usize> Set<T, N> {
     /// Removes the item that equals `item`, and returns it, or `None` if there is none.
     ///
     /// The others keep their order: those behind it move up by one. After `None` the set is unchanged.
+    ///
+    /// ```
+    /// let mut set = Set::from([1, 2, 3]);
+    /// assert_eq!(rt; set.take(&1), Some(1));
+    /// assert_eq!(rt; set.take(&1), None);
+    /// assert!(rt; set.iter().eq(&[2, 3]));
+    /// ```
     #[inline]
     pub fn take(&mut self, item: &T) -> Option<T>
         ensures answer { result ≡ find_item T.eq self.old item.now }

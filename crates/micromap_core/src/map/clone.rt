@@ -105,6 +105,13 @@ impl<K: EqualClone> KeyClone<K> for ByEqualClone {
 
 impl<K: Eq + Copy, V: Copy, const N: usize> Map<K, V, N> {
     /// Returns a copy of this map: the same pairs, in the same order.
+    ///
+    /// ```
+    /// let mut map = Map::from([(1, 'a'), (2, 'b')]);
+    /// let before = map.copied();
+    /// map.clear();
+    /// assert!(rt; before.keys().eq(&[1, 2]));
+    /// ```
     pub fn copied(&self) -> Self
         ensures answer { result ≡ self.now }
         ensures content { IsContent K.eq N result }

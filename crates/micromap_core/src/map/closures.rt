@@ -37,6 +37,12 @@ impl<K: Eq, V, const N: usize> Map<K, V, N> {
     /// Calls `update` on each key and its value, from front to end.
     ///
     /// Keys, order and length stay.
+    ///
+    /// ```
+    /// let mut map: Map<u8, u8, 2> = Map::from([(1, 10), (2, 20)]);
+    /// map.update_all(|key, value| *value = value.saturating_sub(*key));
+    /// assert!(rt; map.values().eq(&[9, 18]));
+    /// ```
     pub fn update_all<F: FnMut(&K, &mut V)>(&mut self, update: F)
         requires { MayUpdateAll F.FnMut update self.old }
         ensures pairs { UpdatesAll F.FnMut update self.old self.new }

@@ -51,6 +51,12 @@ impl<K: Eq + Drop, V: Drop, const N: usize> Map<K, V, N> {
     /// Inserts the pair, and returns the old pair, or `None` if the key is new.
     ///
     /// Requires `fits(&key)`. A stored pair is replaced, with its key. A new pair goes last.
+    ///
+    /// ```
+    /// let mut map = Map::from([(1, 'a'), (2, 'b')]);
+    /// assert!(rt; map.fits(&2));
+    /// assert_eq!(rt; map.insert_key_value(2, 'c'), Some((2, 'b')));
+    /// ```
     #[inline]
     pub fn insert_key_value(&mut self, key: K, value: V) -> Option<(K, V)>
         requires { IsTrue (fits K.eq N self.old key) }

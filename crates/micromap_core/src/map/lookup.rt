@@ -59,6 +59,13 @@ impl<K: Eq, V, const N: usize> Map<K, V, N> {
     }
 
     /// Returns references to the first key and its value, or `None` if the map is empty.
+    ///
+    /// ```
+    /// let mut map = Map::from([(2, 'b'), (1, 'a')]);
+    /// assert_eq!(rt; map.first(), Some((&2, &'b')));
+    /// map.clear();
+    /// assert_eq!(rt; map.first(), None);
+    /// ```
     #[inline]
     pub fn first(&self) -> Option<(&K, &V)>
         ensures answer { option_map deref_pair result ≡ slice_get self.now 0 }
@@ -81,6 +88,12 @@ impl<K: Eq, V, const N: usize> Map<K, V, N> {
     }
 
     /// Returns `true` if a stored key equals `key`.
+    ///
+    /// ```
+    /// let map = Map::from([(1, 'a'), (2, 'b')]);
+    /// assert!(rt; map.contains_key(&2));
+    /// assert!(rt; !map.contains_key(&3));
+    /// ```
     #[inline]
     pub fn contains_key(&self, key: &K) -> bool
         ensures answer { result ≡ has K.eq self.now key.now }
@@ -106,6 +119,12 @@ impl<K: Eq, V, const N: usize> Map<K, V, N> {
     /// Returns a reference to the value of `key`, as `map[&key]` does.
     ///
     /// Requires `contains_key(key)`.
+    ///
+    /// ```
+    /// let map = Map::from([(1, 'a'), (2, 'b')]);
+    /// assert!(rt; map.contains_key(&2));
+    /// assert_eq!(rt; *map.index(&2), 'b');
+    /// ```
     #[inline]
     pub fn index(&self, key: &K) -> &V
         requires { IsTrue (has K.eq self.now key.now) }
@@ -135,6 +154,12 @@ impl<K: Eq, V, const N: usize> Map<K, V, N> {
 
 impl<K: Eq, V: Copy, const N: usize> Map<K, V, N> {
     /// Returns a copy of the value of `key`, or `default` if the key is missing.
+    ///
+    /// ```
+    /// let counts = Map::from([("foo", 3), ("bar", 1)]);
+    /// assert_eq!(rt; counts.get_or(&"foo", 0), 3);
+    /// assert_eq!(rt; counts.get_or(&"qux", 0), 0);
+    /// ```
     #[inline]
     pub fn get_or(&self, key: &K, default: V) -> V
         ensures answer { result ≡ unwrap_or (at K.eq self.now key.now) default }

@@ -41,6 +41,13 @@ impl<K: Eq + Drop, V: Drop, const N: usize> Map<K, V, N> {
     }
 
     /// Removes the first pair, and returns it, or `None` if the map is empty. Each other pair moves up by one.
+    ///
+    /// ```
+    /// let mut map = Map::from([(2, 'b'), (1, 'a')]);
+    /// assert_eq!(rt; map.pop_first(), Some((2, 'b')));
+    /// assert_eq!(rt; map.pop_first(), Some((1, 'a')));
+    /// assert_eq!(rt; map.pop_first(), None);
+    /// ```
     #[inline]
     #[tactic(auto, unfolding(crate::specs::Pairs::without_at))]
     pub fn pop_first(&mut self) -> Option<(K, V)>

@@ -89,6 +89,12 @@ impl<K: Eq + Drop, V: Drop, const N: usize> Map<K, V, N> {
     ///
     /// The map is empty as soon as the call returns. A caller that is generic in `K` and `V` requires `IntoIterFits
     /// K.row V.row N.row`.
+    ///
+    /// ```
+    /// let mut map = Map::from([(2, 'b'), (1, 'a')]);
+    /// assert_eq!(rt; map.drain().next(), Some((2, 'b')));
+    /// assert!(rt; map.is_empty());
+    /// ```
     #[inline]
     pub fn drain(&mut self) -> Drain<K, V, N>
         ensures answer { result ≡ self.old }
@@ -125,6 +131,15 @@ impl<K: Eq + Drop, V: Drop, const N: usize> IntoIterator for Map<K, V, N> {
 }
 
 /// A loop over a reference to a map yields references to its keys and values, from the front.
+///
+/// ```
+/// let map = Map::from([(1, 10), (2, 20)]);
+/// let mut largest = 0;
+/// for (_, value) in &map {
+///     largest = largest.max(*value);
+/// }
+/// assert_eq!(rt; map.get(&2), Some(&largest));
+/// ```
 impl<'a, K: Eq, V, const N: usize> IntoIterator for &'a Map<K, V, N> {
     type Item = (&'a K, &'a V);
 
