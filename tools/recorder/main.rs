@@ -1,5 +1,5 @@
-//! Records calls on the Rust crate's maps and sets, in the language of `crates/micromap_replay/LANGUAGE.md`: prints each call,
-//! a tab and the reply. Each run records the same.
+//! Records calls on the Rust crate's maps and sets, in the language that `crates/micromap_replay/src/main.rt` explains: prints
+//! each call, a tab and the reply. Each run records the same.
 
 mod choose;
 mod perform;

@@ -1,4 +1,7 @@
 //! The calls of the language, on one map, on two, and on two sets, and how they are read from a line.
+//!
+//! A line has the name of a call and then the fields of its variant, as `get_mut 3x 10`. A call on one of two maps or
+//! sets has `a` or `b` before its name, and one on both is that of `a` with `b`. Sums and products wrap around.
 ghost use Rattle.std.specs.Prelude.{◌<◌};
 
 use crate::words::{Fault, Words};
@@ -89,7 +92,7 @@ pub enum EntryCall {
     VacantIntoKey(Marked),
 }
 
-/// A call on all pairs, or on several.
+/// A call on all pairs, or on several. Those from `Iter` to `Drain` answer the list of what the iterator yields.
 #[derive(Drop)]
 pub enum WholeCall {
     Len,
@@ -117,7 +120,7 @@ pub enum WholeCall {
     FromIter(Vec<(Marked, i32)>),
 }
 
-/// A call on two maps.
+/// A call on two maps. On one of them only `insert` and `remove` are read.
 #[derive(Clone, Copy)]
 pub enum MapsCall {
     One(Side, KeyedCall),

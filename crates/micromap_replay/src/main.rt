@@ -1,6 +1,26 @@
 //! Reads calls from its standard input, performs them on maps and sets of the library, and replies to each with its
-//! answer and the content after it. It writes a digest of each hundred replies, or the text of the hundred that begins at
-//! the line that its argument names. `LANGUAGE.md` says how calls, replies and digests are written.
+//! answer and the content after it. It writes a digest of each hundred replies, after the number of the first line, or
+//! the text of the hundred that begins at the line that its argument names.
+//!
+//! These are calls, each with the reply to it:
+//!
+//! ```text
+//! map 3                      ok | -
+//! insert 3x 10               none | 3x:10
+//! insert 3y 11               some 10 | 3x:11
+//! checked_insert 7a -2       some none | 3x:11 7a:-2
+//! ```
+//!
+//! A header begins a case: `map N` has an empty map, and `maps N M` and `sets N M` have two empty maps or sets, `a` and
+//! `b`. Each later line is a call on the case, or the next header. At a line that is neither, the program stops with
+//! status 1, as at the last line of `stdin`.
+//!
+//! A reply is the answer, ` | ` and the content after the call, of two maps or sets that of `a`, ` | ` and that of `b`.
+//! An answer is what the library's call of that name returns, unless `calls` says otherwise. A list is sorted, by id or
+//! by value, so none shows an order. The answer to a header, and to a call that returns nothing, is `ok`.
+//!
+//! `refused` means that the Rust crate would panic, and that nothing has changed: a new key meets a full map or set, an
+//! indexed key is missing, two keys of `add_disjoint` are equal, or not all items of `from_iter` or `extend` fit.
 #![tactic(auto)]
 
 mod answer;

@@ -37,19 +37,21 @@ where
     }
 }
 
+/// A value or an amount.
 impl Word for i32 {
     fn of(word: &str) -> Option<i32> {
         number(word)
     }
 }
 
+/// A modulus or a rest.
 impl Word for u32 {
     fn of(word: &str) -> Option<u32> {
         number(word)
     }
 }
 
-/// A key is an id and a mark, as `3x`.
+/// A key is an id, from 0 to 255, and a mark, a lower-case letter, as `3x`.
 impl Word for Marked {
     fn of(word: &str) -> Option<Marked> {
         let mark = word.chars().next_back()?;
