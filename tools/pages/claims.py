@@ -4,7 +4,7 @@ import re
 
 from pages.api import API
 from pages.edits import CONTRACT, PROOF, PROVED, Row, changed, changes_proof, clause_in, edits, is_fair, kind_of, recorded
-from pages.planted import PASSED, PLANTED, answered, calls_itself, calls_of, functions_of, planted
+from pages.planted import PASSED, answered, calls_itself, calls_of, functions_of, planted
 from pages.sources import LIBRARY, Sources, anchor
 
 CLAIMS = "docs/CLAIMS.md"
@@ -21,7 +21,7 @@ These are CLAUSES: those of `ensures` of public calls, the ghost members of impl
 - A refusal shows that the search found no proof, not that there is none.
 - A: the search proves this very goal of the right body, or all of its goals of this clause, or a right body of the same form. A proof by hand that rests on nothing but what is passed counts like the search, and then the goal stands behind `written:`. A planted body that calls the function itself has A, since it is tried only if the unchanged call is proved.
 - B: the refused return is new, so that a right body of that form may be refused too.
-- A clause counts once, by its best grade, and by an edit if a planted body has no better one. In the tables it has no link if its grade is a planted body's, and [this record](../RECORD) has the body and its goals. [Another](../tools/pages/goals.tsv) has the edits'.THROUGH
+- A clause counts once, by its best grade, and by an edit if a planted body has no better one. In the tables it has no link if its grade is a planted body's, and [`planted.tsv`](planted.tsv) has the body and its goals. [`goals.tsv`](goals.tsv) has the edits'.THROUGH
 - A to E: if an edit changes the proof, the right body is proved with the same change. F: it isn't; or a loop has no invariant, so that nothing is known of what it changed; or only a proof by hand no longer fits.
 - If a goal names no clause, another may have failed. So it is with VAGUE clauses of the grades A and B. The check calls `next_gives` `steps`, `remaining` `goes`, and `output` `writes`.
 - Some edits narrow the call by a bound, add laws to a `tactic` line, or add a function. The right body isn't tried with these.
@@ -206,7 +206,6 @@ class Claims:
             "NAMES": ", ".join(f"{count} `{it}`" for it, count in self.laws.most_common()),
             "VAGUE": sum(self.vague()),
             "THROUGH": f" Let through was one of {', '.join(through)}." if through else " No planted body was let through.",
-            "RECORD": PLANTED,
             "OUTSIDE": self.apart(outside),
             "REFUSED": sum(CONTRACT in {kind_of(it, goal) for goal in self.rows[it].goals} for it in outside),
             "REQUIRED": self.apart(required),

@@ -17,7 +17,7 @@ Function = collections.namedtuple("Function", "file owner trait name first last"
 SAID = r"(?:#(?! right:).*\n)*"
 PAIR = rf"{SAID}(?:file: (.+)\n)?{SAID}old: (.+)\n{SAID}new: ?(.*)\n(?:# right: ?(.*)\n)?{SAID}"
 # A row for each edit: the sum of what it was tried on, the goals, and PROVED or OPEN of the right body, if that was tried.
-RECORD, PROVED, OPEN = "tools/pages/goals.tsv", "proved", "open"
+RECORD, PROVED, OPEN = "docs/goals.tsv", "proved", "open"
 WRITTEN, DIGITS = "written:", 10  # what stands before a goal of a written proof, and of a sum
 # What a refusal shows, by the goal: one of the contract, of a loop's invariant or of what a call requires, or of a written proof.
 CONTRACT, SERVING, PROOF = range(3)
@@ -161,21 +161,27 @@ def lines_of(record):
     return [it.split("\t") for it in read(record).splitlines()] if os.path.exists(record) else []
 
 
-def rows():
-    """The edits in the record, each with its sum and its row."""
-    named = {it.name: it for it in edits()}
-    for name, sum, goals, *right in lines_of(RECORD):
-        if name in named:
-            yield named[name], sum, Row(goals.split(), *(right or [""]))
+def folded(goals):
+    """Goals as the record has them: those of one return as one word, such as `returns-clause-old,pairs`."""
+    clauses = collections.defaultdict(list)
+    for head, mark, clause in (it.partition("-clause-") for it in goals):
+        clauses[head + mark].append(clause)
+    return " ".join(head + ",".join(clauses[head]) for head in clauses)
+
+
+def unfolded(cell):
+    words = (it.partition("-clause-") for it in cell.split())
+    return [head + mark + clause for head, mark, clauses in words for clause in clauses.split(",")]
 
 
 def recorded():
     """The rows of edits as they stand."""
-    return {edit: row for edit, sum, row in rows() if sum == sum_of(tried_on(edit))}
+    rows = {name: (sum, Row(unfolded(goals), *(right or [""]))) for name, sum, goals, *right in lines_of(RECORD)}
+    return {it: rows[it.name][1] for it in edits() if it.name in rows and rows[it.name][0] == sum_of(tried_on(it))}
 
 
 def keep(known):
-    cells = ([it.name, sum_of(tried_on(it)), " ".join(known[it].goals), known[it].right] for it in sorted(known))
+    cells = ([it.name, sum_of(tried_on(it)), folded(known[it].goals), known[it].right] for it in sorted(known))
     write(RECORD, "".join("\t".join(filter(None, it)) + "\n" for it in cells))
 
 

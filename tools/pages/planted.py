@@ -6,7 +6,7 @@ import re
 from pages.edits import answers_in, clause_in, code_of, functions_in, lines_of, sum_of
 from pages.sources import read, write
 
-PLANTED, PASSED, REFUSED = "tools/pages/planted.tsv", "let through", "refused"  # REFUSED stands for goals that aren't known
+PLANTED, PASSED, REFUSED = "docs/planted.tsv", "let through", "refused"  # REFUSED stands for goals that aren't known
 # What `rt plant` prints as let through, though it is right: `==` is symmetric.
 RIGHT = {"Self::same::<K>(self, second, first)"}
 
@@ -30,14 +30,14 @@ def functions_of(sources):
     return found
 
 
-def sums_of(sources, was=str):
-    """The sum of the bodies of each call, without their contracts, as they were."""
+def sums_of(sources):
+    """The sum of the bodies of each call, without their contracts."""
     bodies = collections.defaultdict(list)
     for call, functions in functions_of(sources).items():
         for crate, it in functions:
             code = code_of(f"{crate}/{it.file}", it)
             bodies[call] += code[next((at for at, line in enumerate(code) if line.strip() == "{"), 0) :]
-    return {call: sum_of([was("\n".join(code))]) for call, code in bodies.items()}
+    return {call: sum_of(code) for call, code in bodies.items()}
 
 
 def planted(sources):
