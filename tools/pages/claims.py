@@ -21,7 +21,7 @@ These are CLAUSES: those of `ensures` of public calls, the ghost members of impl
 - A refusal shows that the search found no proof, not that there is none.
 - A: the search proves this very goal of the right body, or all of its goals of this clause, or a right body of the same form. A proof by hand that rests on nothing but what is passed counts like the search, and then the goal stands behind `written:`. A planted body that calls the function itself has A, since it is tried only if the unchanged call is proved.
 - B: the refused return is new, so that a right body of that form may be refused too.
-- A clause counts once, by its best grade, and by an edit if a planted body has no better one. In the tables it has no link if its grade is a planted body's, and [`planted.tsv`](planted.tsv) has the body and its goals. [`goals.tsv`](goals.tsv) has the edits'.THROUGH
+- A clause counts once, by its best grade, and by an edit if a planted body has no better one. In the tables it has no link if its grade is a planted body's, and [`planted.tsv`](planted.tsv) has the body and its goals. [`goals.tsv`](goals.tsv) has the goals of each edit.THROUGH
 - A to E: if an edit changes the proof, the right body is proved with the same change. F: it isn't; or a loop has no invariant, so that nothing is known of what it changed; or only a proof by hand no longer fits.
 - If a goal names no clause, another may have failed. So it is with VAGUE clauses of the grades A and B. The check calls `next_gives` `steps`, `remaining` `goes`, and `output` `writes`.
 - Some edits narrow the call by a bound, add laws to a `tactic` line, or add a function. The right body isn't tried with these.
@@ -37,7 +37,7 @@ HEADLINE
 
 ## The other calls
 
-A clause leads to its edits, the strongest first. For preconditions there is REQUIRED.
+A clause leads to the file of its edit, the strongest first. There `# for:` names the clause, and `# wrong:` the mistake. The name is behind `# edit:`, or is the file's, and `goals.tsv` has its goals. A call's only clause, without a name, is called `ensures`. For preconditions there is REQUIRED.
 
 | Call | A | B | C to F | P | None |
 |---|---|---|---|---|---|

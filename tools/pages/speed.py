@@ -145,7 +145,7 @@ def mean_of_all(times, of):
 def summary(source, times):
     """Where the figures are from, and what they come to."""
     yield f"The figures are {source[0].lower()}{source[1:]}\n"
-    took, wins = f"this library takes {mean_of_all(times, own_of)} times its time", []
+    took, wins = f"this library takes {mean_of_all(times, own_of)} times that crate's time", []
     yield f"- **Beside the Rust crate**: in the mean of {len(times)} workloads {took}."
     for at in times["numbers", FOUND]:
         ratios = (times["numbers", it][at][1] for it in CHOICE_WORDS)
