@@ -8,8 +8,10 @@ use Rattle.micromap_walk.specs.contracts.owning.IntoKeys as into_keys
 use denote.Param.{param}
 
 module _ (T N : RattleType) where
+  -- a set fits
   abbrev pub SetFits : (T.Denot → T.Denot → Bool) → Type 0
   SetFits eq = FitsInMemory (set.the_row (param 0 T) (param 1 N) (record { eq = eq }))
 
+  -- an iterator over the items by value fits
   abbrev pub SetIntoIterFits : Type 0
   SetIntoIterFits = FitsInMemory (into_keys.the_row (param 0 T) unit (param 1 N))

@@ -1,6 +1,5 @@
--- What a law requires of an equality, and of a test of keys. A search finds the words by their names: none unfolds.
--- They stand in the place of the records, whose fields a search could try at each key. In a trial with three laws about the
--- records, each goal was proved that is proved with the words.
+-- What a law requires of an equality, and of a test of keys. A search finds the words by their names: none unfolds. In the
+-- place of a record, whose fields it would try at each key, it matches the word.
 use Rattle.std.specs.Prelude.{◌≡◌, Bool, true}
 use Rattle.std.specs.Cmp.{IsEquivalence}
 
@@ -15,6 +14,6 @@ module _ {K : Type 0} where
   unfoldable pub Lawful : (K → K → Bool) → Type 0
   Lawful eq = IsEquivalence eq
 
-  -- eq is one, and the test is a probe of it
+  -- eq is an equivalence, and the test is a probe of it
   unfoldable pub Probes : (K → K → Bool) → (K → Bool) → Type 0
   Probes eq test = IsProbe eq test

@@ -37,7 +37,7 @@ module _ {K V : Type 0} (eq : K → K → Bool) (same : V → V → Bool) (N M :
   abbrev pub SameForGood : Type 0
   SameForGood = (calls : List (Call K V)) → IsFair eq N M first second calls → AnswersAgree calls × Same eq same (run eq N first calls).1 (run eq M second calls).1
 
-  -- all that a comparison of the two answers
+  -- what the answer of a comparison says of the two
   pub record Compares (answer : Bool) : Type 0 where
     pub says : IsTrue answer ↔ Same eq same first second
     pub each : IsTrue answer ↔ ((k : K) → IsTrue (same_at eq same first second k))

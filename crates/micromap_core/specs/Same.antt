@@ -48,7 +48,7 @@ module _ {K V : Type 0} (eq : K → K → Bool) (same : V → V → Bool) where
   abbrev pub first_difference : List (K × V) → List (K × V) → Option K
   first_difference this other = option_or (first_unequal this other) (first_missing other this)
 
-  -- all that an answer tells which is the first difference
+  -- what an answer says that is the first difference
   pub record TellsDifference (this other : List (K × V)) (answer : Option (Bor K)) : Type 0 where
     pub is : option_copied answer ≡ first_difference this other
     pub none : IsNone answer ↔ Same this other

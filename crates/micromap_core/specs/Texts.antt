@@ -30,12 +30,14 @@ texts pairs = texts_by string_bytes string_bytes pairs
 abbrev pub item_texts : {Z : Type 0} → List (String Z) → List (List ℕ)
 item_texts items = items_by string_bytes items
 
--- of `&str`, the keys by their bytes and the values as they are, both by their bytes, and a set's items
+-- the pairs with each `&str` key as its bytes
 abbrev pub key_strs : {V : Type 0} → List (Bor (List ℕ) × V) → List (List ℕ × V)
 key_strs pairs = texts_by (λ s. s.now) (λ v. v) pairs
 
+-- the pairs with each `&str` key and each `&str` value as its bytes
 abbrev pub strs : List (Bor (List ℕ) × Bor (List ℕ)) → List (List ℕ × List ℕ)
 strs pairs = texts_by (λ s. s.now) (λ s. s.now) pairs
 
+-- a set's `&str` items, each as its bytes
 abbrev pub item_strs : List (Bor (List ℕ)) → List (List ℕ)
 item_strs items = items_by (λ s. s.now) items

@@ -15,8 +15,10 @@ use std::alloc::AllocError;
 /// Each `Copy` key is one, by its copy, and so are a `TextBuf` and a set of such items. A map or a set of such keys has
 /// the trait `Clone`.
 pub trait EqualClone: Eq + Drop {
+    /// Whether the second value is a clone of the first.
     ghost is_equal_clone: { Self → Self → Type 0 };
 
+    /// Whether the clone of a value is always `Ok`.
     ghost never_fails: { Self → Type 0 };
 
     /// Returns a clone that equals this key, or `Err` if there is no memory for it.

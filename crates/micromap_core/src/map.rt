@@ -30,11 +30,11 @@ use std::marker::Model;
 /// A contract sees it as the list of its pairs, from front to end. All `N` slots are part of the value, so no call
 /// allocates memory of its own.
 ///
-/// A *scan* compares the keys from the front, each at most once. If there are 32 slots or more, of at most 4 bytes each,
-/// as for `u8`, it first compares all keys, except in a call by probe that only reads. Unless its text says otherwise, a
-/// call that takes a key or a probe makes one scan, one that takes an iterator makes one for each item, and any other
-/// compares no key. How many keys are compared isn't proved. What `get_counted` and `eq_with_counted` add to their
-/// counter is.
+/// A *scan* compares the keys from the front, up to the one that is found. If there are 32 slots or more, of at most 4
+/// bytes each, as for `u8`, it compares all keys before that, except in a counted call and in a call by probe that only
+/// reads. Unless its text says otherwise, a call that takes a key or a probe makes one scan, one that takes an iterator
+/// makes one for each item, and any other compares no key. How many keys are compared isn't proved. What `get_counted`
+/// and `eq_with_counted` add to their counter is.
 ///
 /// ```
 /// let mut ages: Map<&str, u8, 2> = Map::new();

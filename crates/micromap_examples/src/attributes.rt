@@ -28,7 +28,7 @@ pub fn set<const N: usize>(
 {
     let name = String::from_str(alloc, name)?;
     let value = String::from_str(alloc, value)?;
-    Ok(list.checked_insert(name, value).is_some())
+    Ok(list.put(name, value))
 }
 
 /// Returns the value of an attribute, or the default.

@@ -17,7 +17,7 @@ pub fn assign<const N: usize>(frame: &mut Frame<N>, name: u32, value: i64) -> bo
     ensures answer { result ≡ fits nat_eq N frame.old name }
     ensures frame { frame.new ≡ put_if_fits nat_eq N frame.old name value }
 {
-    frame.checked_insert(name, value).is_some()
+    frame.put(name, value)
 }
 
 /// Gives a variable that is there another value, and returns whether it is there.

@@ -46,7 +46,7 @@ impl<const N: usize> Stock<N> {
         ensures answer { result ≡ fits nat_eq N self.old article }
         ensures stock { self.new ≡ put_if_fits nat_eq N self.old article pieces }
     {
-        self.pieces.checked_insert(article, pieces).is_some()
+        self.pieces.put(article, pieces)
     }
 
     /// Adds pieces of an article, and returns how many there are then: none, if there is no room for the article.

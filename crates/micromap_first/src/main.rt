@@ -13,7 +13,7 @@ pub fn add<'a>(ages: &mut Map<&'a str, u32, 2>, name: &'a str, age: u32) -> bool
     ensures answer { result ≡ fits str_eq 2 ages.old name.entry }
     ensures ages { ages.new ≡ put_if_fits str_eq 2 ages.old name.entry age }
 {
-    ages.checked_insert(name, age).is_some()
+    ages.put(name, age)
 }
 
 fn main(rt: HostRuntime) -> io::Result<()> {

@@ -47,7 +47,7 @@ pub fn set_within(levels: &mut Map<u8, u8, 16>, key: u8, level: u8) -> bool
     ensures answer { result ≡ (nat_le level 100 && fits nat_eq 16 levels.old key) }
     ensures levels { levels.new ≡ (if result then put nat_eq levels.old key level else levels.old) }
 {
-    level <= 100 && levels.checked_insert(key, level).is_some()
+    level <= 100 && levels.put(key, level)
 }
 
 // Returns whether each amount times a factor fits.

@@ -47,7 +47,7 @@ pub fn join(groups: &mut Map<u8, Set<u8, 8>, 16>, group: u8, member: u8) -> bool
         return false;
     }
     members.insert(member);
-    groups.checked_insert(group, members).is_some()
+    groups.put(group, members)
 }
 
 /// Counts the items of all sets of a map.

@@ -41,7 +41,7 @@ pub fn set_age(
     ensures unchanged { OnErr result (ages.new ≡ ages.old) }
 {
     let name = TextBuf::new(alloc, name)?;
-    Ok(ages.checked_insert(name, age).is_some())
+    Ok(ages.put(name, age))
 }
 
 /// Removes the pair of a text, and knows that it is gone.
@@ -119,7 +119,7 @@ pub fn count_word<'a>(counts: &mut Map<&'a str, u32, 64>, word: &'a str) -> bool
             *count = count.saturating_add(1);
             true
         }
-        None => counts.checked_insert(word, 1).is_some(),
+        None => counts.put(word, 1),
     }
 }
 

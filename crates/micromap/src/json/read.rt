@@ -101,7 +101,7 @@ fn map_of_members<const N: usize>(
         };
         all_fit = all_fit && map.put(name, whole);
     }
-    // This tells the prover what a map may hold.
+    // What is true of the map, for the contract: `len` ensures it.
     let _known = map.len();
     if all_fit {
         Ok(map)
@@ -133,6 +133,7 @@ fn set_of_elements<const N: usize>(elements: Vec<Value>) -> Result<Set<String, N
         };
         all_fit = all_fit && set.put(text);
     }
+    // What is true of the set, for the contract: `len` ensures it.
     let _known = set.len();
     if all_fit {
         Ok(set)

@@ -1,6 +1,5 @@
 //! Writing a map as an object, and a set as an array.
 ghost use Rattle.std.specs.Prelude.{◌≡◌, ℕ, ◌≤◌, length, IfOk, IfErr, Ok, Some, string_bytes};
-ghost use Rattle.std.specs.String.{string_eq};
 ghost use Rattle.serde_json.specs.Data.{array, number, object};
 ghost use Rattle.serde_json.specs.Find.{of_integer};
 ghost use Rattle.serde_json.specs.Read.{read};

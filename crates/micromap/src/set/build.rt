@@ -16,7 +16,7 @@ impl<T: Eq + Drop, const N: usize> Set<T, N> {
     /// doesn't fit.
     ///
     /// Requires that the iterator ends, after fewer than `usize::MAX` items. After an `Err` the set is full, and has all
-    /// items before that position.
+    /// items before that position. The item at it is dropped, and no later item is taken.
     ///
     /// ```
     /// let mut seen: Set<u8, 2> = Set::new();
@@ -32,7 +32,7 @@ impl<T: Eq + Drop, const N: usize> Set<T, N> {
         ensures full { OnErr result (length self.new ≡ N) }
         ensures content { AreItems T.eq N self.old self.new }
     {
-        // This tells the prover what a set may hold.
+        // What is true of the set, for the contract: `len` ensures it.
         let _known = self.len();
         let mut position = 0;
         for x in items {
@@ -84,6 +84,7 @@ impl<T: Eq + Drop, const N: usize> Set<T, N> {
             × (self.new ≡ fold (put_item_if_fits T.eq N) self.old xs) }
         ensures content { AreItems T.eq N self.old self.new }
     {
+        // What is true of the set, for the contract: `len` ensures it.
         let _known = self.len();
         let mut all_fit = true;
         for x in items {

@@ -1,7 +1,8 @@
 //! The calls that pass each value to a closure by mutable reference.
 //!
 //! A contract says what the closure was called on, in which order, and that each value is what its call left. It
-//! doesn't say what the closure's captures hold afterwards.
+//! doesn't say what the closure's captures hold afterwards. Each call requires that the closure may be called so, which
+//! the texts of the calls don't repeat.
 ghost use Rattle.std.specs.Prelude.{◌≡◌, ◌≤◌, length, map};
 ghost use Rattle.std.specs.Map.{keys_of};
 ghost use Rattle.std.specs.Map.Calls.{CallableOnEachPair, RetainsPairs};
@@ -54,8 +55,8 @@ impl<K: Eq, V, const N: usize> Map<K, V, N> {
 
     /// Calls `update` on the value of each of `keys` that is stored, and returns which of them are stored.
     ///
-    /// Requires that `keys` are distinct by `==`, stored or not. `update` gets a key's
-    /// position in `keys` and its value, in the order of `keys`. No other value changes. Makes one scan for each key.
+    /// Requires that `keys` are distinct by `==`, stored or not. `update` gets a key's position in `keys` and its value,
+    /// in the order of `keys`. No other value changes. Makes one scan for each key.
     ///
     /// ```
     /// let mut map: Map<u8, usize, 2> = Map::from([(1, 10), (2, 20)]);

@@ -9,7 +9,7 @@ ghost use Rattle.std.specs.Map.Iter.{deref_pair};
 ghost use Rattle.std.specs.Option.{IfSome, option_map};
 ghost use Rattle.micromap_core.specs.Found.{FoundAt, NotFound};
 ghost use Rattle.micromap_core.specs.Lends.{lends_value_at};
-ghost use Rattle.micromap_core.specs.Pairs.{AreContents, IsContent, at, first_index, has_room, index_of, pair, put, put_key, with_value_at, without_at};
+ghost use Rattle.micromap_core.specs.Pairs.{AreContents, IsContent, first_index, has_room, index_of, pair, put, put_key, with_value_at, without_at};
 
 use super::Map;
 use crate::probe::Probe;

@@ -23,7 +23,7 @@ impl<K: Eq + fmt::Display, V: fmt::Display, const N: usize> fmt::Display for Map
     }
 }
 
-// A formatter as a plain writer, whose options no text sees.
+// A formatter as a plain writer, which hides the formatter's options from the texts that are written to it.
 #[derive(Drop)]
 struct Unstyled<'a, W: fmt::Write> {
     f: &'a mut fmt::Formatter<W>,

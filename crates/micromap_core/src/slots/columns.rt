@@ -19,9 +19,10 @@ use std::mem;
 
 // The most bytes of a column of keys whose scan is faster if it is unrolled: 2 slots of `u64`, or 8 of `u16`.
 const MOST_UNROLLED: usize = 40;
-// The fewest keys, and the most bytes of a slot, that are compared faster all at once than one after the other.
+// From this number of slots on, small keys are compared faster all at once than one after the other. The comment of `Map`
+// names it too.
 const MANY_KEYS: usize = 32;
-
+// The most bytes of a slot with a small key. The comment of `Map` names it too.
 const SMALL_SLOT: usize = 4;
 
 /// A list of at most `N` pairs. A contract sees it as that list, from front to end.
@@ -71,6 +72,7 @@ impl<K, V, const N: usize> Columns<K, V, N> {
     /// than comparing one after the other.
     #[inline]
     pub(crate) fn has_many_small_keys(&self) -> bool {
+        // The bytes of the length vanish in the division.
         MANY_KEYS <= N && mem::size_of_val(&self.keys) / N <= SMALL_SLOT
     }
 

@@ -73,7 +73,7 @@ impl<T: Eq + Clone + Drop, const N: usize> Set<T, N> {
         while let Some(x) = next_where(&mut rest, other, wanted) {
             kept.insert(x.clone()?);
         }
-        // This tells the prover what a set may hold.
+        // What is true of the set, for the contract: `len` ensures it.
         let _known = kept.len();
         Ok(kept)
     }

@@ -4,7 +4,7 @@ ghost use Rattle.std.specs.Prelude.{◌≡◌, Some, None, IsTrue, unwrap_or};
 ghost use Rattle.std.specs.Borrow.{sem, Bor, MutBor};
 ghost use Rattle.std.specs.Map.Calls.{ModifiesValue};
 ghost use Rattle.std.specs.Option.{UnwrapsOrElse};
-ghost use Rattle.micromap_core.specs.Entry.{Occupied, AnswersOfKey, entry_key, entry_pairs, entry_put, entry_value, entry_has_room, is_occupied, IsSound, IsEntryOf, IsWritten, IsModified, entry_lends};
+ghost use Rattle.micromap_core.specs.Entry.{Occupied, AnswersOfKey, entry_key, entry_value, entry_has_room, IsSound, IsEntryOf, IsWritten, IsModified, entry_lends};
 
 use super::{Entry, EntryIn, OccupiedEntry, OccupiedIn, VacantIn};
 use crate::Map;

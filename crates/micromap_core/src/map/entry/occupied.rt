@@ -1,7 +1,7 @@
 //! The calls of `OccupiedEntry`.
 ghost use Rattle.std.specs.Prelude.{◌≡◌, Some};
 ghost use Rattle.std.specs.Borrow.{sem};
-ghost use Rattle.micromap_core.specs.Entry.{Occupied, entry_key, entry_pairs, entry_put, entry_value, entry_taken, IsSound, IsWritten, entry_lends, occupied_lends};
+ghost use Rattle.micromap_core.specs.Entry.{Occupied, entry_key, entry_value, entry_taken, IsSound, IsWritten, entry_lends, occupied_lends};
 
 use super::OccupiedIn;
 use crate::Map;

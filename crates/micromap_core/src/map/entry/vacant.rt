@@ -1,7 +1,7 @@
 //! The calls of `VacantEntry`.
 ghost use Rattle.std.specs.Prelude.{◌≡◌, Some, IsTrue};
 ghost use Rattle.std.specs.Borrow.{sem};
-ghost use Rattle.micromap_core.specs.Entry.{Occupied, Vacant, entry_key, entry_pairs, entry_put, entry_has_room, IsSound, IsWritten, entry_lends};
+ghost use Rattle.micromap_core.specs.Entry.{Occupied, Vacant, entry_key, entry_pairs, entry_has_room, IsSound, IsWritten, entry_lends};
 
 use super::{OccupiedEntry, OccupiedIn, VacantIn};
 use crate::Map;
