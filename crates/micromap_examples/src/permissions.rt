@@ -34,9 +34,7 @@ pub fn grant<const N: usize>(role: &mut Role<N>, permission: Permission) -> bool
     ensures granted { OnTrue result (IsTrue (is_member ⟦<Permission as PartialEq>⟧.eq role.new permission)) }
     ensures others { OnTrue result ((p : _) → is_member ⟦<Permission as PartialEq>⟧.eq role.new p ≡ (⟦<Permission as PartialEq>⟧.eq permission p || is_member ⟦<Permission as PartialEq>⟧.eq role.old p)) }
 {
-    let fits = role.fits(&permission);
-    role.checked_insert(permission);
-    fits
+    role.put(permission)
 }
 
 /// Revokes a permission, and returns whether it was granted.

@@ -38,7 +38,7 @@ impl<const N: usize> Stock<N> {
     pub fn pieces(&self, article: u32) -> u32
         ensures { result ≡ unwrap_or (at nat_eq self.now article) 0 }
     {
-        self.pieces.get(&article).copied().unwrap_or(0)
+        self.pieces.get_or(&article, 0)
     }
 
     // Sets the number of pieces of an article, and returns whether there was room for it.
