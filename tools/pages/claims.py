@@ -20,8 +20,8 @@ These are CLAUSES: those of `ensures` of public calls, the ghost members of impl
 
 - A refusal shows that the search found no proof, not that there is none.
 - A: the search proves this very goal of the right body, or all of its goals of this clause, or a right body of the same form. A proof by hand that rests on nothing but what is passed counts like the search, and then the goal stands behind `written:`. A planted body that calls the function itself has A, since it is tried only if the unchanged call is proved.
-- B: the refused return is new, so that a right body of that form may be refused too.
-- A clause counts once, by its best grade, and by an edit if a planted body has no better one. In the tables it has no link if its grade is a planted body's, and [`planted.tsv`](planted.tsv) has the body and its goals. [`goals.tsv`](goals.tsv) has the goals of each edit.THROUGH
+- B: a right body of that form may be refused too, since the return is new, or its goal is proved by hand.
+- A clause counts once, by its best grade, and by an edit if a planted body has no better one. In the tables it has no link if its grade is a planted body's, and [`planted.tsv`](planted.tsv) has the body and its goals, or `refused` if these weren't recorded. THROUGH
 - A to E: if an edit changes the proof, the right body is proved with the same change. F: it isn't; or a loop has no invariant, so that nothing is known of what it changed; or only a proof by hand no longer fits.
 - If a goal names no clause, another may have failed. So it is with VAGUE clauses of the grades A and B. The check calls `next_gives` `steps`, `remaining` `goes`, and `output` `writes`.
 - Some edits narrow the call by a bound, add laws to a `tactic` line, or add a function. The right body isn't tried with these.
@@ -37,7 +37,7 @@ HEADLINE
 
 ## The other calls
 
-A clause leads to the file of its edit, the strongest first. There `# for:` names the clause, and `# wrong:` the mistake. The name is behind `# edit:`, or is the file's, and `goals.tsv` has its goals. A call's only clause, without a name, is called `ensures`. For preconditions there is REQUIRED.
+A clause leads to the file of its edit, the strongest first. There `# for:` names the clause, or the call alone if the clause is `ensures`, which has no name, and `# wrong:` the mistake. An edit's name is behind `# edit:`, or in `must-fail/` is the file's. By it [`goals.tsv`](goals.tsv) has a checksum, the goals of the contract or else one other, where `-clause-old,pairs` stands for two, and whether a right body was proved, if one was tried. For preconditions there is REQUIRED.
 
 | Call | A | B | C to F | P | None |
 |---|---|---|---|---|---|
@@ -51,8 +51,8 @@ GRADES = {
     "D": "an edit of an inner function, on which the call rests, is refused at that function's contract",
     "E": "an edit is refused at the invariant of a loop, or at what a call requires",
     "F": "an edit is refused, but the right body too, or only a proof by hand no longer fits",
-    "P": "a planted body is refused, at whichever clause",
-    "none": "no refusal is known",
+    "P": "a planted body is refused, at another clause or at one that wasn't recorded",
+    "none": "no edit was written for the clause, and no refusal of a planted body is recorded",
 }
 # The calls of the first table of clauses.
 HEADLINE = ["Map::eq_with", "Map::differs_at", *(f"Set::{it}" for it in ("eq_with", "is_subset", "is_superset", "is_disjoint"))]
@@ -205,7 +205,7 @@ class Claims:
             "LAWS": sum(self.laws.values()),
             "NAMES": ", ".join(f"{count} `{it}`" for it, count in self.laws.most_common()),
             "VAGUE": sum(self.vague()),
-            "THROUGH": f" Let through was one of {', '.join(through)}." if through else " No planted body was let through.",
+            "THROUGH": f"{len(self.planted)} calls have bodies there, " + (f"of which one of {', '.join(through)} was let through." if through else "none of which was let through."),
             "OUTSIDE": self.apart(outside),
             "REFUSED": sum(CONTRACT in {kind_of(it, goal) for goal in self.rows[it].goals} for it in outside),
             "REQUIRED": self.apart(required),
