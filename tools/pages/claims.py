@@ -20,10 +20,10 @@ These are CLAUSES: those of `ensures` of public calls, the ghost members of impl
 
 - A refusal shows that the search found no proof, not that there is none.
 - A: the search proves this very goal of the right body, or all of its goals of this clause, or a right body of the same form. A proof by hand that rests on nothing but what is passed counts like the search, and then the goal stands behind `written:`. A planted body that calls the function itself has A, since it is tried only if the unchanged call is proved.
-- B: a right body of that form may be refused too, since the return is new, or its goal is proved by hand.
-- A clause counts once, by its best grade, and by an edit if a planted body has no better one. In the tables it has no link if its grade is a planted body's, and [`planted.tsv`](planted.tsv) has the body and its goals, or `refused` if these weren't recorded. THROUGH
+- B: a right body of that form may be refused too. The same may be so with an A whose return is new.
+- A clause counts once, by its best grade, and by an edit if a planted body has no better one. In the tables it has no link if its grade is a planted body's, and [`planted.tsv`](planted.tsv) has a checksum, then each body and its goals, or `refused` if these weren't recorded. THROUGH
 - A to E: if an edit changes the proof, the right body is proved with the same change. F: it isn't; or a loop has no invariant, so that nothing is known of what it changed; or only a proof by hand no longer fits.
-- If a goal names no clause, another may have failed. So it is with VAGUE clauses of the grades A and B. The check calls `next_gives` `steps`, `remaining` `goes`, and `output` `writes`.
+- `?`: the goal names no clause, so another may have failed. So it is with VAGUE clauses of the grades A and B. The check calls `next_gives` `steps`, `remaining` `goes`, and `output` `writes`.
 - Some edits narrow the call by a bound, add laws to a `tactic` line, or add a function. The right body isn't tried with these.
 - What was tried is the function as it stands. An attribute, a ghost member, a definition or a proof may have changed since.
 
@@ -31,13 +31,13 @@ Edits of functions outside the library are OUTSIDE. REFUSED of them were refused
 
 ## Comparisons and operations on sets
 
-| Call | Clauses and grades | What is wrong in the body | Refused at |
+| Call | Clauses and grades | What is wrong in the body | Refused at, of these clauses |
 |---|---|---|---|
 HEADLINE
 
 ## The other calls
 
-A clause leads to the file of its edit, the strongest first. There `# for:` names the clause, or the call alone if the clause is `ensures`, which has no name, and `# wrong:` the mistake. An edit's name is behind `# edit:`, or in `must-fail/` is the file's. By it [`goals.tsv`](goals.tsv) has a checksum, the goals of the contract or else one other, where `-clause-old,pairs` stands for two, and whether a right body was proved, if one was tried. For preconditions there is REQUIRED.
+A clause leads to the file of its edit, the strongest first. There `# for:` names the clause, or the call alone if the clause is `ensures`, which has no name, and `# wrong:` the mistake. An edit's name is behind `# edit:`, or in `must-fail/` is the file's. By it [`goals.tsv`](goals.tsv) has a checksum, the goals of the contract or else one other, where `-clause-old,pairs` stands for two, and whether a right body was proved, if one was tried. An edit for a precondition is REQUIRED.
 
 | Call | A | B | C to F | P | None |
 |---|---|---|---|---|---|
@@ -45,13 +45,13 @@ OTHERS
 """
 # What the strongest refusal for a clause shows.
 GRADES = {
-    "A": "a wrong body is refused at a goal of the clause, and the search proves the right body there",
-    "B": "a wrong body is refused at a goal of the clause that the right body lacks, or needs a proof by hand for",
+    "A": "a wrong body is refused at a goal of the clause, and the search proves the clause of the right body, maybe at other goals",
+    "B": "a wrong body is refused at a goal of the clause, which the right body needs a proof by hand for",
     "C": "an edit is refused at another clause of the call's contract",
     "D": "an edit of an inner function, on which the call rests, is refused at that function's contract",
     "E": "an edit is refused at the invariant of a loop, or at what a call requires",
     "F": "an edit is refused, but the right body too, or only a proof by hand no longer fits",
-    "P": "a planted body is refused, at another clause or at one that wasn't recorded",
+    "P": "a planted body is refused, at another clause or, for most, at a goal that isn't recorded",
     "none": "no edit was written for the clause, and no refusal of a planted body is recorded",
 }
 # The calls of the first table of clauses.
@@ -157,7 +157,7 @@ class Claims:
                 whats = {f"[{it.said('wrong')[:1].upper()}{it.said('wrong')[1:]}](../{it.path})": self.rows[it] for it in those}
                 planted = Row(self.planted[call][body].split(), "") if body else Row([], "")
                 for what, row in (whats or {f"`{body}`" * bool(body): planted}).items():
-                    clauses[what].append(f"`{label_of(name)}` {grade}")
+                    clauses[what].append(f"`{label_of(name)}` {grade}{self.doubt(name)}")
                     goals[what] |= dict.fromkeys(goals_for(row, name) or row.goals)
             for what in sorted(clauses, key=lambda it: not it):
                 yield f"| {self.linked(call)} | {', '.join(clauses[what])} | {what} | {', '.join(f'`{it}`' for it in goals[what])} |"
@@ -176,7 +176,7 @@ class Claims:
     def cell(self, name):
         """A clause, as links to its edits if it has some."""
         grade, those, body = self.best[name]
-        label = f"`{label_of(name) or 'ensures'}`"
+        label = f"`{label_of(name) or 'ensures'}`{self.doubt(name)}"
         paths = dict.fromkeys(it.path for _, those in self.graded(name) for it in those if not body)
         links = (f"[{n if n > 1 else label}](../{path})" for n, path in enumerate(paths, 1))
         return f"{f'{grade} ' * (grade in 'CDEF')}{' '.join(links)}" if paths else label
@@ -186,12 +186,12 @@ class Claims:
         files = collections.Counter(it.path for it in edits)
         return ", ".join(f"[{count} of `{path.split('/')[1]}`](../{path})" for path, count in files.items())
 
-    def vague(self):
-        """For each clause with an edit, whether its call has several, and no goal of the best edits names it."""
-        for name, (grade, those, _) in self.best.items():
-            goals = [goal for it in those for goal in goals_for(self.rows[it], name)] if grade in "AB" else []
-            is_named = any(clause_in(it) or it.endswith("-value") for it in goals)
-            yield bool(goals) and self.sizes[self.library[name].call] > 1 and not is_named
+    def doubt(self, name):
+        """A mark if a clause has an edit and its call several clauses, and no goal of the best edits names it."""
+        grade, those, _ = self.best[name]
+        goals = [goal for it in those for goal in goals_for(self.rows[it], name)] if grade in "AB" else []
+        is_named = any(clause_in(it) or it.endswith("-value") for it in goals)
+        return "?" * (bool(goals) and self.sizes[self.library[name].call] > 1 and not is_named)
 
     def text(self):
         through = [f"`{call}`" for call, bodies in self.planted.items() if PASSED in bodies.values()]
@@ -204,7 +204,7 @@ class Claims:
             "CLAUSES": f"{len(self.library)} clauses, of which {counts['A', False] + counts['A', True]} have the grade A",
             "LAWS": sum(self.laws.values()),
             "NAMES": ", ".join(f"{count} `{it}`" for it, count in self.laws.most_common()),
-            "VAGUE": sum(self.vague()),
+            "VAGUE": sum(bool(self.doubt(it)) for it in self.best),
             "THROUGH": f"{len(self.planted)} calls have bodies there, " + (f"of which one of {', '.join(through)} was let through." if through else "none of which was let through."),
             "OUTSIDE": self.apart(outside),
             "REFUSED": sum(CONTRACT in {kind_of(it, goal) for goal in self.rows[it].goals} for it in outside),
