@@ -12,13 +12,21 @@ API = "crates/micromap/API.md"
 REPEATED = {"Default": "new", "Index": "index", "IndexMut": "index_mut"}
 STANDS = REPEATED | {"PartialEq": "eq_with", "Clone": "clone"}
 AT = {f"{trait} for {owner}": f"{owner}::{call}" for owner in ("Map", "Set") for trait, call in STANDS.items()}
-BY_PROBE = ": look up by probe"  # how the title of a section of calls ends whose names are those of other calls and `_by`
+BY_PROBE = ": by probe"  # how the title of a section of calls ends whose names are those of other calls and `_by`
+# The calls of sets that do with items what those of maps do with pairs, by the sections at whose head they share a block.
+AS_OF_MAPS = {
+    "Set: look up": ["fits", "first", "last", "len", "is_empty", "capacity"],
+    "Set: remove": ["pop_first", "pop_last", "clear"],
+    "Set: build and convert": ["from_fitting", "into_capacity", "copied", "into_text_bufs", "into_strings"],
+}
 # The clauses that stand at the end, with their sections there.
 ENDS = {"content": "The content of a map or a set", "writes_back": "Written through a reference"}
 # A section: its heading, and what is written by hand, which ends at a row, a call or a block.
 SECTION = r"^## (.+?)$(.*?(?:^\|---.*?$|(?=^##|^```|\Z))).*?(?=^## |\Z)"
 # Members of impls that state nothing, or what the trait states, or the same of all iterators of set operations.
 UNSHOWN = ("total", "matches_partial_cmp", "matches_eq", "clones_are_equal", "remaining", "lower", "upper")
+# The paragraphs of doc comments that the text of a section says once for all.
+SAID_ABOVE = r"clause `content`|^All calls of `next` together\b"
 # What no text says of a precondition, and how a text says that there is one, and what is compared.
 UNSAID, REQUIRES = r"\.pre\b|\.FnMut\b", r"\bRequires\b|, and requires the same\b"
 EQUALITY, NO_SCAN = r"\b[KT]\.eq\b", r"\b(?:IsContent|IsItems|ClonesAreEqual) [KT]\.eq\b"
@@ -62,7 +70,7 @@ def said_above(doc):
 def members(item):
     """The types, the ghost members and the functions of an impl or a trait."""
     of_trait = item.kind == "trait"
-    yield from (f"    {it}" for it in item.types)
+    yield from (f"    {it}" for it in item.types if not is_of_sets(item))
     for docs, name, _, text in item.ghosts:
         yield from (f"    {line.strip()}" for line in docs.split("\n") if line)
         yield from [f"    ghost {name}: {text}"] * (of_trait or name not in UNSHOWN)
@@ -114,7 +122,7 @@ class Api:
         else:
             self.traits[owner] += item.derives
             if item.name not in self.sources.aliases:
-                self.entries[self.sources.call(item)].append((item.doc, self.type_of(item), item))
+                self.entries[self.sources.call(item)].append((item.doc, [] if is_of_sets(item) else self.type_of(item), item))
         for it in functions:
             for _, label, text in it.clauses:
                 if label in ENDS:
@@ -149,6 +157,9 @@ class Api:
         has a heading stand at the type."""
         rest = re.split(r"^## (.*)\n", read(API), flags=re.M)[1:]
         headed = {title: re.findall(r"^### `(.*)`$", text, re.M) for title, text in zip(rest[::2], rest[1::2])}
+        for title, names in AS_OF_MAPS.items():
+            headed[title] += [f"Set::{it}" for it in names]
+            self.places |= {f"Set::{it}": title for it in names}
         listed = [it for names in headed.values() for it in names]
         for title in (it for it in headed if it.endswith(BY_PROBE)):
             start = title.replace(BY_PROBE, "::")
@@ -193,8 +204,9 @@ class Api:
 
     def group(self, title, names):
         """The lines of a group."""
+        shared = [it for it in names if self.places.get(it) == title]
         own = [it for it in names if it in self.entries and it not in self.places]
-        return self.blocks(names) if title.endswith(BY_PROBE) else [line for it in own for line in self.section(it)]
+        return [*(self.blocks(shared) if shared else ()), *(line for it in own for line in self.section(it))]
 
     def row(self, title, names):
         """The row of a group: links to its calls, those behind the others that require something."""
@@ -210,7 +222,7 @@ class Api:
 
     def code(self, name):
         pieces = sorted(self.entries[name], key=lambda it: bool(it[2].trait))
-        return "\n\n".join("\n".join(it) for _, it, _ in pieces)
+        return "\n\n".join("\n".join(it) for _, it, _ in pieces if it)
 
     def blocks(self, names, documented=()):
         """The code of some calls in one block, with the text above it of those that are documented here, and their examples."""
@@ -222,7 +234,7 @@ class Api:
     def section(self, name):
         """What is said of a call or a type, its code and its examples, with those of the calls that stand there."""
         inner = [it for it in self.entries if self.places.get(it) == name]
-        said = [*(it for it in prose(self.doc(name))[0] if "clause `content`" not in it), " ".join(self.facts(name))]
+        said = [*(it for it in prose(self.doc(name))[0] if not re.search(SAID_ABOVE, it)), " ".join(self.facts(name))]
         return ["", f"### `{name}`", "", "\n\n".join(filter(None, said)), *self.blocks([name, *inner], inner)]
 
     def check(self, page):

@@ -3,7 +3,8 @@ import collections
 import re
 
 from pages.api import API
-from pages.edits import CONTRACT, PROOF, PROVED, Row, changed, changes_proof, clause_in, edits, is_fair, kind_of, recorded
+from pages.edits import CONTRACT, PROOF, PROVED, Row, changed, changes_proof, clause_in, edits, has_new_branch, is_fair, kind_of
+from pages.edits import recorded
 from pages.planted import PASSED, answered, calls_itself, calls_of, functions_of, planted
 from pages.sources import LIBRARY, Sources, anchor
 
@@ -16,18 +17,13 @@ Every clause is proved, but may say too little. So wrong bodies are tried, which
 
 TOTALS
 
-These are CLAUSES: those of `ensures` of public calls, the ghost members of impls and the laws of traits. Impls of one name here count once, as `Probe for Text` for three types of key. Not counted are LAWS laws, which no body can break, since they mention neither a result nor a state afterwards, or say the invariant of a map or a set, as `content` does: NAMES.
+These are CLAUSES: those of `ensures` of public calls, the ghost members of impls and the laws of traits. A clause counts once, by its best grade, and by an edit if a planted body has no better one. Impls of one name count once too, as `Probe for Text` for three types of key, or `IntoIterator for Map`, whose A is of the one by value. Not counted are LAWS clauses that no body can break: they mention neither a result nor a state afterwards, or say the invariant of a map or a set, as `content` does.
 
-- A refusal shows that the search found no proof, not that there is none.
-- A: the search proves this very goal of the right body, or all of its goals of this clause, or a right body of the same form. A proof by hand that rests on nothing but what is passed counts like the search, and then the goal stands behind `written:`. A planted body that calls the function itself has A, since it is tried only if the unchanged call is proved.
-- B: a right body of that form may be refused too. The same may be so with an A whose return is new.
-- A clause counts once, by its best grade, and by an edit if a planted body has no better one. In the tables it has no link if its grade is a planted body's, and [`planted.tsv`](planted.tsv) has a checksum, then each body and its goals, or `refused` if these weren't recorded. THROUGH
-- A to E: if an edit changes the proof, the right body is proved with the same change. F: it isn't; or a loop has no invariant, so that nothing is known of what it changed; or only a proof by hand no longer fits.
+- A refusal shows only that the search found no proof. BEYOND edits are refused at `content` too, which no body can break, and `eq_with_index_by_index` is at `outlasts`, which it keeps.
+- `†`: the wrong body returns in a branch that the right one lacks, so a right body with that branch may be refused too. So it is with NEW clauses of grade A. The same may be so with each B.
 - `?`: the goal names no clause, so another may have failed. So it is with VAGUE clauses of the grades A and B. The check calls `next_gives` `steps`, `remaining` `goes`, and `output` `writes`.
-- Some edits narrow the call by a bound, add laws to a `tactic` line, or add a function. The right body isn't tried with these.
+- Some edits add a bound, a law or a function. The right body isn't tried with these.
 - What was tried is the function as it stands. An attribute, a ghost member, a definition or a proof may have changed since.
-
-Edits of functions outside the library are OUTSIDE. REFUSED of them were refused at a goal of the contract. Their clauses aren't counted.
 
 ## Comparisons and operations on sets
 
@@ -37,7 +33,7 @@ HEADLINE
 
 ## The other calls
 
-A clause leads to the file of its edit, the strongest first. There `# for:` names the clause, or the call alone if the clause is `ensures`, which has no name, and `# wrong:` the mistake. An edit's name is behind `# edit:`, or in `must-fail/` is the file's. By it [`goals.tsv`](goals.tsv) has a checksum, the goals of the contract or else one other, where `-clause-old,pairs` stands for two, and whether a right body was proved, if one was tried. An edit for a precondition is REQUIRED.
+A clause leads to its strongest edits. By the name of an edit, which stands behind `# edit:` or is that of its file, [`goals.tsv`](goals.tsv) has a checksum, the goals of the contract or else one other, where `-clause-old,pairs` stands for two, and whether a right body was proved, if one was tried. A clause without a link has its grade by a planted body. [`planted.tsv`](planted.tsv) has a checksum, then a body for each clause, with its goals, or `refused` if these weren't recorded. THROUGH
 
 | Call | A | B | C to F | P | None |
 |---|---|---|---|---|---|
@@ -45,12 +41,12 @@ OTHERS
 """
 # What the strongest refusal for a clause shows.
 GRADES = {
-    "A": "a wrong body is refused at a goal of the clause, and the search proves the clause of the right body, maybe at other goals",
+    "A": "a wrong body is refused at a goal of the clause, which the search proves of the right body, or of another right body of that form",
     "B": "a wrong body is refused at a goal of the clause, which the right body needs a proof by hand for",
     "C": "an edit is refused at another clause of the call's contract",
     "D": "an edit of an inner function, on which the call rests, is refused at that function's contract",
     "E": "an edit is refused at the invariant of a loop, or at what a call requires",
-    "F": "an edit is refused, but the right body too, or only a proof by hand no longer fits",
+    "F": "an edit is refused, but so is a right body of that form; or a loop has no invariant, so that nothing is known of what it changed; or only a proof by hand no longer fits",
     "P": "a planted body is refused, at another clause or, for most, at a goal that isn't recorded",
     "none": "no edit was written for the clause, and no refusal of a planted body is recorded",
 }
@@ -102,8 +98,8 @@ class Claims:
         self.claims = {it: claims_of(it) for it in edits()}
         wrong += [f"{it.name}: no clause is {name}" for it, names in self.claims.items() for name in names if name not in known]
         self.library = {name: it for name, it in clauses.items() if not is_law(it)}
+        self.laws = len(clauses) - len(self.library)
         self.sizes = collections.Counter(it.call for it in clauses.values())
-        self.laws = collections.Counter(label_of(it) for it in clauses if it not in self.library)
         self.best = {it: self.best_of(it) for it in self.library}
 
     def is_inner(self, edit, clause):
@@ -154,10 +150,10 @@ class Claims:
             clauses, goals = collections.defaultdict(list), collections.defaultdict(dict)
             for name in (it for it, clause in self.library.items() if clause.call == call):
                 grade, those, body = self.best[name]
-                whats = {f"[{it.said('wrong')[:1].upper()}{it.said('wrong')[1:]}](../{it.path})": self.rows[it] for it in those}
+                whats = {f"[{it.said('wrong')[:1].upper()}{it.said('wrong')[1:]}](../{it.place})": self.rows[it] for it in those}
                 planted = Row(self.planted[call][body].split(), "") if body else Row([], "")
                 for what, row in (whats or {f"`{body}`" * bool(body): planted}).items():
-                    clauses[what].append(f"`{label_of(name)}` {grade}{self.doubt(name)}")
+                    clauses[what].append(f"`{label_of(name)}` {grade}{self.marks(name)}")
                     goals[what] |= dict.fromkeys(goals_for(row, name) or row.goals)
             for what in sorted(clauses, key=lambda it: not it):
                 yield f"| {self.linked(call)} | {', '.join(clauses[what])} | {what} | {', '.join(f'`{it}`' for it in goals[what])} |"
@@ -175,40 +171,40 @@ class Claims:
 
     def cell(self, name):
         """A clause, as links to its edits if it has some."""
+        grade, those, _ = self.best[name]
+        label = f"`{label_of(name) or 'ensures'}`{self.marks(name)}"
+        links = (f"[{n if n > 1 else label}](../{it.place})" for n, it in enumerate(those, 1))
+        return f"{f'{grade} ' * (grade in 'CDEF')}{' '.join(links)}" if those else label
+
+    def is_new(self, name):
+        """Whether a clause has A, and each wrong body that shows it returns in a branch that the right one lacks."""
         grade, those, body = self.best[name]
-        label = f"`{label_of(name) or 'ensures'}`{self.doubt(name)}"
-        paths = dict.fromkeys(it.path for _, those in self.graded(name) for it in those if not body)
-        links = (f"[{n if n > 1 else label}](../{path})" for n, path in enumerate(paths, 1))
-        return f"{f'{grade} ' * (grade in 'CDEF')}{' '.join(links)}" if paths else label
+        return grade == "A" and not calls_itself(self.library[name].call, body) and all(map(has_new_branch, those))
 
-    def apart(self, edits):
-        """Edits of which no clause is counted, with links to their files."""
-        files = collections.Counter(it.path for it in edits)
-        return ", ".join(f"[{count} of `{path.split('/')[1]}`](../{path})" for path, count in files.items())
-
-    def doubt(self, name):
-        """A mark if a clause has an edit and its call several clauses, and no goal of the best edits names it."""
+    def is_vague(self, name):
+        """Whether a clause has an edit and its call several clauses, and no goal of the best edits names it."""
         grade, those, _ = self.best[name]
         goals = [goal for it in those for goal in goals_for(self.rows[it], name)] if grade in "AB" else []
         is_named = any(clause_in(it) or it.endswith("-value") for it in goals)
-        return "?" * (bool(goals) and self.sizes[self.library[name].call] > 1 and not is_named)
+        return bool(goals) and self.sizes[self.library[name].call] > 1 and not is_named
+
+    def marks(self, name):
+        return "†" * self.is_new(name) + "?" * self.is_vague(name)
 
     def text(self):
         through = [f"`{call}`" for call, bodies in self.planted.items() if PASSED in bodies.values()]
         counts = collections.Counter((grade, bool(body)) for grade, _, body in self.best.values())
-        outside = [it for it in self.claims if it.path.split("/")[1] not in LIBRARY]
-        required = [it for it, names in self.claims.items() if it not in outside and not self.library.keys() & names]
+        beyond = [it for it in self.claims if it.path.split("/")[1] in LIBRARY and "content" in map(clause_in, self.rows[it].goals)]
+        planted = len(self.planted.keys() & {it.call for it in self.library.values()})
         totals = [f"| {it} | {said} | {counts[it, False] or ''} | {counts[it, True] or ''} |" for it, said in GRADES.items()]
         said = {
             "TOTALS": "\n".join(["| Grade | Strongest refusal | By an edit | By a planted body |\n|---|---|--:|--:|", *totals]),
             "CLAUSES": f"{len(self.library)} clauses, of which {counts['A', False] + counts['A', True]} have the grade A",
-            "LAWS": sum(self.laws.values()),
-            "NAMES": ", ".join(f"{count} `{it}`" for it, count in self.laws.most_common()),
-            "VAGUE": sum(bool(self.doubt(it)) for it in self.best),
-            "THROUGH": f"{len(self.planted)} calls have bodies there, " + (f"of which one of {', '.join(through)} was let through." if through else "none of which was let through."),
-            "OUTSIDE": self.apart(outside),
-            "REFUSED": sum(CONTRACT in {kind_of(it, goal) for goal in self.rows[it].goals} for it in outside),
-            "REQUIRED": self.apart(required),
+            "LAWS": self.laws,
+            "BEYOND": len(beyond),
+            "NEW": sum(map(self.is_new, self.best)),
+            "VAGUE": sum(map(self.is_vague, self.best)),
+            "THROUGH": f"{planted} of these calls have bodies there, " + (f"of which one of {', '.join(through)} was let through." if through else "none of which was let through."),
             "HEADLINE": "\n".join(self.headline()),
             "OTHERS": "\n".join(self.others()),
         }

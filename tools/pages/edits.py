@@ -38,6 +38,12 @@ class Edit(collections.namedtuple("Edit", "path name text")):
     def crate(self):
         return "/".join(self.path.split("/")[:2])
 
+    @property
+    def place(self):
+        """The file, with the line of the edit's name."""
+        before = read(self.path).partition(f"# edit: {self.name}\n")
+        return self.path + f"#L{before[0].count(chr(10)) + 1}" * bool(before[1])
+
     def said(self, word):
         found = re.search(rf"^# {word}: (.+)$", self.text, re.M)
         return found[1] if found else ""
@@ -254,13 +260,19 @@ def branches(text):
     return text if re.search(OPERAND, text) else re.findall(BRANCH, text)
 
 
+def has_new_branch(edit):
+    """Whether the body of an edit has a branch that the right one lacks, and no right body with that branch is told."""
+    pairs = [it for it in pairs_of(edit.text) if it[0].startswith("src/")]
+    return not has_right(edit) and any(branches(old) != branches(new) for _, old, new, _ in pairs)
+
+
 def is_fair(edit, row, goal, clause):
-    """Whether a right body of the form of an edit is proved at a goal: the edit's own is, or the right one has the goal too, or
-    no written proof serves the clause."""
+    """Whether the search proves a goal of a clause of a right body of the form of an edit, or all goals of the clause of the
+    right one."""
     if has_right(edit):
         return row.right == PROVED
-    is_same = all(branches(old) == branches(new) for file, old, new, _ in pairs_of(edit.text) if file.startswith("src/"))
-    return goal.startswith(WRITTEN) or is_same or not any(clause_in(it) in ("", clause) for it in answers_of(edit))
+    is_searched = not any(clause_in(it) in ("", clause) for it in answers_of(edit))
+    return not goal.startswith(WRITTEN) and (is_searched or not has_new_branch(edit))
 
 
 def stale_claims():

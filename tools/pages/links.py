@@ -1,4 +1,5 @@
 """The links of documents, and the laws that PROVING.md names."""
+import functools
 import glob
 import os
 import re
@@ -14,6 +15,15 @@ def prose(text):
     return re.sub(r"^```.*?^```$", "", text, flags=re.M | re.S)
 
 
+@functools.cache
+def anchors_of(path):
+    """The anchors in a page, and those of the lines of another file."""
+    if not path.endswith(".md"):
+        return {f"L{number}" for number in range(1, read(path).count("\n") + 1)}
+    text = prose(read(path))
+    return {*map(anchor, re.findall(r"^#+ (.*)$", text, re.M)), *re.findall(r'^<a id="(.*?)"></a>$', text, re.M)}
+
+
 def dead_links(document, top="."):
     """What is amiss in the links of a document of a repository: the files, headings and names of code that aren't there."""
     for name, where in re.findall(r"\[`(\w+)`\]\(([^)\s]+\.rt)\)", read(f"{top}/{document}")):
@@ -23,10 +33,7 @@ def dead_links(document, top="."):
     for where in re.findall(r"\]\(([^)\s]+)", re.sub(r"`[^`\n]*`", "", prose(read(f"{top}/{document}")))):
         path, _, at = where.partition("#")
         path = os.path.normpath(os.path.join(top, os.path.dirname(document), path) if path else f"{top}/{document}")
-        is_page = path.endswith(".md") and os.path.exists(path)
-        text = prose(read(path)) if is_page else ""
-        anchors = {*map(anchor, re.findall(r"^#+ (.*)$", text, re.M)), *re.findall(r'^<a id="(.*?)"></a>$', text, re.M)}
-        if not re.match(r"\w+:", where) and (not os.path.exists(path) or (at and at not in anchors)):
+        if not re.match(r"\w+:", where) and (not os.path.exists(path) or (at and at not in anchors_of(path))):
             yield f"{document}: the link {where} leads nowhere"
 
 

@@ -1,5 +1,5 @@
-"""What `rt plant` found: the wrong bodies that it tried on each call. A row of the record has a call, the sum of its bodies, and
-planted bodies, each with the goals that refused it, or PASSED."""
+"""What `rt plant` found: the wrong bodies that it tried on each call. A row of the record has a call, the sum of its contracts and
+bodies, and planted bodies, each with the goals that refused it, or PASSED."""
 import collections
 import re
 
@@ -31,13 +31,9 @@ def functions_of(sources):
 
 
 def sums_of(sources):
-    """The sum of the bodies of each call, without their contracts."""
-    bodies = collections.defaultdict(list)
-    for call, functions in functions_of(sources).items():
-        for crate, it in functions:
-            code = code_of(f"{crate}/{it.file}", it)
-            bodies[call] += code[next((at for at, line in enumerate(code) if line.strip() == "{"), 0) :]
-    return {call: sum_of(code) for call, code in bodies.items()}
+    """The sum of the contracts and the bodies of each call."""
+    lines_of_call = lambda functions: [line for crate, it in functions for line in code_of(f"{crate}/{it.file}", it)]
+    return {call: sum_of(lines_of_call(functions)) for call, functions in functions_of(sources).items()}
 
 
 def planted(sources):
