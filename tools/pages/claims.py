@@ -43,7 +43,7 @@ OTHERS
 GRADES = {
     "A": "a wrong body is refused at a goal of the clause, which the search proves of the right body, or of another right body of that form",
     "B": "a wrong body is refused at a goal of the clause, which the right body needs a proof by hand for",
-    "C": "an edit is refused at another clause of the call's contract",
+    "C": "an edit is refused at another clause of the call's contract, and this one has a proof by hand",
     "D": "an edit of an inner function, on which the call rests, is refused at that function's contract",
     "E": "an edit is refused at the invariant of a loop, or at what a call requires",
     "F": "an edit is refused, but so is a right body of that form; or a loop has no invariant, so that nothing is known of what it changed; or only a proof by hand no longer fits",
