@@ -33,7 +33,7 @@ def tasks_of(text):
     """The functions of the tables, each with the file that is named last before it, and its task."""
     file = ""
     for line in text.split("\n"):
-        heading, row = re.match(r"## .*`(\w+)\.rt`$", line), re.match(r"\| (.+) \| `(\w+)` \|$", line)
+        heading, row = re.match(r"## .*`(\w+)\.rt`$", line), re.match(r"(.+) \| `(\w+)`$", line)
         file = heading[1] if heading else file
         if row:
             yield row[2], file, row[1]

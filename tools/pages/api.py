@@ -22,11 +22,9 @@ AS_OF_MAPS = {
 # The clauses that stand at the end, with their sections there.
 ENDS = {"content": "The content of a map or a set", "writes_back": "Written through a reference"}
 # A section: its heading, and what is written by hand, which ends at a row, a call or a block.
-SECTION = r"^## (.+?)$(.*?(?:^\|---.*?$|(?=^##|^```|\Z))).*?(?=^## |\Z)"
+SECTION = r"^## (.+?)$(.*?(?:^---\|.*?$|(?=^##|^```|\Z))).*?(?=^## |\Z)"
 # Members of impls that state nothing, or what the trait states, or the same of all iterators of set operations.
 UNSHOWN = ("total", "matches_partial_cmp", "matches_eq", "clones_are_equal", "remaining", "lower", "upper")
-# The paragraphs of doc comments that the text of a section says once for all.
-SAID_ABOVE = r"clause `content`|^All calls of `next` together\b"
 # What no text says of a precondition, and how a text says that there is one, and what is compared.
 UNSAID, REQUIRES = r"\.pre\b|\.FnMut\b", r"\bRequires\b|, and requires the same\b"
 EQUALITY, NO_SCAN = r"\b[KT]\.eq\b", r"\b(?:IsContent|IsItems|ClonesAreEqual) [KT]\.eq\b"
@@ -116,7 +114,8 @@ class Api:
         elif item.trait:
             self.take_impl(item, owner)
         elif item.kind in ("impl", "fn"):
-            where = [f"Self = {item.whom}"] * ("&" in item.whom) + item.bounds
+            is_of_some = re.match("(?:Map|Set)<(?!K, V, N>|T, N>)", item.whom)
+            where = [f"Self = {item.whom}"] * bool(is_of_some) + item.bounds
             for it in functions:
                 self.entries[self.sources.call(item, it)].append((it.doc, signature(it, where), item))
         else:
@@ -135,7 +134,7 @@ class Api:
         is_alone = owner in ("Map", "Set") and call not in AT and not of_trait
         doc = item.doc or "\n\n".join(it.doc for it in item.functions if it.doc)
         where = bounds(item.bounds)
-        above = said_above(item.doc * (not is_alone and "::" not in AT.get(call, "")))
+        above = said_above(item.doc * (not is_alone and (trait != "PartialEq" or call not in AT)))
         head = f"impl {item.trait} for {self.sources.public(item.whom)}"
         code = [*above, head, *[f"where {where}"] * bool(where), *members(item)]
         at = trait if of_trait else call if is_alone else AT.get(call, owner)
@@ -189,8 +188,10 @@ class Api:
         if name in self.views:
             yield f"In clauses: `{self.sources.public(self.views[name].ghosts[0][3])}`."
         traits = [f"`{it}`" for it in self.traits[name]]
+        stated = {it.trait.partition("<")[0] for it in self.sources.items if it.trait and self.subject(it) == name}
+        stated = [f"`{it}`" for it in sorted(stated - {"Model", *self.traits[name]}) if name in ("Map", "Set")]
         if traits and not any(map(is_of_sets, items)):
-            yield f"Implements {', '.join(traits)}."
+            yield f"Implements {', '.join(traits)}" + f", and with contracts {', '.join(stated)}" * bool(stated) + "."
 
     def text(self):
         """The page, with what is written there by hand."""
@@ -206,7 +207,8 @@ class Api:
         """The lines of a group."""
         shared = [it for it in names if self.places.get(it) == title]
         own = [it for it in names if it in self.entries and it not in self.places]
-        return [*(self.blocks(shared) if shared else ()), *(line for it in own for line in self.section(it))]
+        block = self.blocks(shared, shared * (title in AS_OF_MAPS)) if shared else ()
+        return [*block, *(line for it in own for line in self.section(it))]
 
     def row(self, title, names):
         """The row of a group: links to its calls, those behind the others that require something."""
@@ -215,7 +217,7 @@ class Api:
             place, name = self.places.get(it, it), it.partition(" for ")[0].removeprefix(title.partition(": ")[0] + "::")
             requires = re.search(REQUIRES, self.doc(AT[it] if is_repeated(it) else it))
             cells[bool(requires)].append(f"[`{name}`](#{anchor(place)})")
-        return f"| [{title}](#{anchor(title)}) | {' | '.join(', '.join(it) for it in cells.values())} |"
+        return f"[{title}](#{anchor(title)}) | {' | '.join(', '.join(it) for it in cells.values())}".rstrip()
 
     def doc(self, name):
         return "\n\n".join(it for it, _, _ in self.entries.get(name, ()) if it)
@@ -226,15 +228,19 @@ class Api:
 
     def blocks(self, names, documented=()):
         """The code of some calls in one block, with the text above it of those that are documented here, and their examples."""
-        above = lambda it: said_above(re.split("^```", self.doc(it), flags=re.M)[0]) if it in documented else []
+        above = lambda it: said_above("\n\n".join(self.said(it))) if it in documented else []
         lines = lambda it: self.code(it).split("\n")[: 1 if "requires the same" in self.doc(it) else None]
         yield from ("", "```rust", "\n\n".join("\n".join([*above(it), *lines(it)]) for it in names), "```")
         yield from (f"\n{it}" for name in names for it in prose(self.doc(name))[1])
 
+    def said(self, name):
+        """The paragraphs of a call or a type, but for what the page says of all at its end."""
+        return [it for it in prose(self.doc(name))[0] if "clause `content`" not in it]
+
     def section(self, name):
         """What is said of a call or a type, its code and its examples, with those of the calls that stand there."""
         inner = [it for it in self.entries if self.places.get(it) == name]
-        said = [*(it for it in prose(self.doc(name))[0] if not re.search(SAID_ABOVE, it)), " ".join(self.facts(name))]
+        said = [*self.said(name), " ".join(self.facts(name))]
         return ["", f"### `{name}`", "", "\n\n".join(filter(None, said)), *self.blocks([name, *inner], inner)]
 
     def check(self, page):
@@ -263,7 +269,7 @@ class Api:
             others = [it for it in changing if it not in names]
             are_most = len(others) < len(names)
             cell = ", ".join(f"`{it}`" for it in (others if are_most else names))
-            yield f"| `{text}` | {'each of a map or a set by `&mut self`, but ' * are_most}{cell} |"
+            yield f"`{text}` | {'each of a map or a set by `&mut self`, but ' * are_most}{cell}"
 
     def texts(self):
         """Each piece of code, each clause and each view, with the imports of its file."""

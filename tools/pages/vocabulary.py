@@ -27,4 +27,4 @@ def index(texts, wrong):
         bare = (it for it in words if not re.search(rf"^ *-- .*\n *{DEFINED}{re.escape(it)} ", read(path), re.M))
         wrong += [f"{path}: no comment above {it} says what it means" for it in sorted(bare)]
         shown = ", ".join(f"`{it}`" for it in sorted(words, key=lambda it: (it.lower(), it)))
-        yield f"| [`{module}`]({os.path.relpath(path, 'crates/micromap')}) | {shown} |"
+        yield f"[`{module}`]({os.path.relpath(path, 'crates/micromap')}) | {shown}"
