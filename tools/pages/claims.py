@@ -3,8 +3,8 @@ import collections
 import re
 
 from pages.api import API
-from pages.edits import CONTRACT, PROOF, PROVED, Row, changed, changes_proof, clause_in, edits, has_new_branch, is_fair, kind_of
-from pages.edits import recorded
+from pages.edits import CONTRACT, PROOF, PROVED, WRITTEN, Row, changed, changes_proof, clause_in, edits, has_new_branch, has_new_call
+from pages.edits import is_fair, kind_of, recorded
 from pages.planted import PASSED, answered, calls_itself, calls_of, functions_of, planted
 from pages.sources import LIBRARY, Sources, anchor
 
@@ -13,17 +13,17 @@ HEAD = """# Claims
 
 Made by `tools/documents` from the sources, the edits, and what [`tools/claims`](MAINTAINING.md#edits) recorded.
 
-Every clause is proved, but may say too little. So wrong bodies are tried, which the check must refuse. A refusal suggests that a clause rules out this one mistake. A body is refused at *goals*, statements to be proved, which are [named](../crates/micromap/WHEN_A_CHECK_FAILS.md) for the clause. An *edit* is a wrong body that was written for some clauses, as a mistake that is likely. A *planted* body is made by `rt plant` from the types alone, and is coarser: it gives up, as `None`, or changes an argument, a field or the result.
+Every clause is proved, but may say too little. So wrong bodies are tried, which the check must refuse. A refusal suggests that a clause rules out this one mistake. A body is refused at *goals*, statements to be proved, which are [named](../crates/micromap/WHEN_A_CHECK_FAILS.md) for the clause. An *edit* is a wrong body that was written by hand against some clauses: a likely mistake, or a contrived one, as `if self.len() == 1 { return None; }`. A *planted* body is made by `rt plant` from the types alone, and is coarser: it gives up, as `None`, or changes an argument, a field or the result.
 
 TOTALS
 
-These are CLAUSES: those of `ensures` of public calls, the ghost members of impls and the laws of traits. A clause counts once, by its best grade, and by an edit if a planted body has no better one. Impls of one name count once too, as `Probe for Text` for three types of key, or `IntoIterator for Map`, whose A is of the one by value. Not counted are LAWS clauses that no body can break: they mention neither a result nor a state afterwards, or say the invariant of a map or a set, as `content` does.
+These are CLAUSES clauses: those of `ensures` of public calls, the ghost members of impls and the laws of traits. GOOD have the grade A. A clause counts once, by its best grade, and by an edit if a planted body has no better one. Impls of one name count once too, as `Probe for Text` for three types of key, or `IntoIterator for Map`, whose A is of the one by value. Not counted are LAWS clauses: they mention neither a result nor a state afterwards, or say, as `content` does, the invariant of a map or a set, which is a goal of its own.
 
-- A refusal shows only that the search found no proof. BEYOND edits are refused at `content` too, which no body can break, and `eq_with_index_by_index` is at `outlasts`, which it keeps.
-- `†`: the wrong body returns in a branch that the right one lacks, so a right body with that branch may be refused too. So it is with NEW clauses of grade A. The same may be so with each B.
+- A refusal shows only that no proof was found. Some edits are refused at a clause that they keep, as `set_insert_replaces_the_item` at `answer`.
+- `†`: each wrong body that gives this A has a branch or a call that the right one lacks, so a right body with these may be refused too. So it is with NEW clauses. The same may be so with each B.
 - `?`: the goal names no clause, so another may have failed. So it is with VAGUE clauses of the grades A and B. The check calls `next_gives` `steps`, `remaining` `goes`, and `output` `writes`.
 - Some edits add a bound, a law or a function. The right body isn't tried with these.
-- What was tried is the function as it stands. An attribute, a ghost member, a definition or a proof may have changed since.
+- The contract and the body are as they were tried. An attribute, a ghost member, a definition or a proof may have changed since. The gate tries again only GATE edits, those in `must-fail/`.
 
 ## Comparisons and operations on sets
 
@@ -33,7 +33,9 @@ HEADLINE
 
 ## The other calls
 
-A clause leads to its strongest edits. By the name of an edit, which stands behind `# edit:` or is that of its file, [`goals.tsv`](goals.tsv) has a checksum, the goals of the contract or else one other, where `-clause-old,pairs` stands for two, and whether a right body was proved, if one was tried. A clause without a link has its grade by a planted body. [`planted.tsv`](planted.tsv) has a checksum, then a body for each clause, with its goals, or `refused` if these weren't recorded. THROUGH
+A clause leads to its strongest edits. [`goals.tsv`](goals.tsv) has a row for each edit, by the name behind `# edit:` or of its file: a checksum, the goals of the contract or else one other, and `proved` or `open` if a right body, from the lines `# right:`, was tried. There `-clause-old,pairs` stands for two goals, and `written:` means that a proof by hand no longer fits.
+
+A graded clause without a link has its grade by a planted body. [`planted.tsv`](planted.tsv) has a checksum, then bodies with their goals, or `refused` if these weren't recorded. THROUGH
 
 | Call | A | B | C to F | P | None |
 |---|---|---|---|---|---|
@@ -79,8 +81,8 @@ def is_law(clause):
 
 def goals_for(row, name):
     """The goals of a row that may be of a clause: those that name it, or else those that name none."""
-    label = GHOSTS.get(label_of(name), label_of(name))
-    return [it for it in row.goals if clause_in(it) == label] or [it for it in row.goals if not clause_in(it)]
+    label, goals = GHOSTS.get(label_of(name), label_of(name)), [it for it in row.goals if not it.startswith(WRITTEN)]
+    return [it for it in goals if clause_in(it) == label] or [it for it in goals if not clause_in(it)]
 
 
 class Claims:
@@ -154,7 +156,7 @@ class Claims:
                 planted = Row(self.planted[call][body].split(), "") if body else Row([], "")
                 for what, row in (whats or {f"`{body}`" * bool(body): planted}).items():
                     clauses[what].append(f"`{label_of(name)}` {grade}{self.marks(name)}")
-                    goals[what] |= dict.fromkeys(goals_for(row, name) or row.goals)
+                    goals[what] |= dict.fromkeys(goals_for(row, name) or (it for it in row.goals if not it.startswith(WRITTEN)))
             for what in sorted(clauses, key=lambda it: not it):
                 yield f"| {self.linked(call)} | {', '.join(clauses[what])} | {what} | {', '.join(f'`{it}`' for it in goals[what])} |"
 
@@ -177,9 +179,9 @@ class Claims:
         return f"{f'{grade} ' * (grade in 'CDEF')}{' '.join(links)}" if those else label
 
     def is_new(self, name):
-        """Whether a clause has A, and each wrong body that shows it returns in a branch that the right one lacks."""
+        """Whether a clause has A, and each wrong body that shows it has a branch or a call that the right one lacks."""
         grade, those, body = self.best[name]
-        return grade == "A" and not calls_itself(self.library[name].call, body) and all(map(has_new_branch, those))
+        return grade == "A" and not calls_itself(self.library[name].call, body) and all(has_new_branch(it) or has_new_call(it) for it in those)
 
     def is_vague(self, name):
         """Whether a clause has an edit and its call several clauses, and no goal of the best edits names it."""
@@ -194,17 +196,18 @@ class Claims:
     def text(self):
         through = [f"`{call}`" for call, bodies in self.planted.items() if PASSED in bodies.values()]
         counts = collections.Counter((grade, bool(body)) for grade, _, body in self.best.values())
-        beyond = [it for it in self.claims if it.path.split("/")[1] in LIBRARY and "content" in map(clause_in, self.rows[it].goals)]
-        planted = len(self.planted.keys() & {it.call for it in self.library.values()})
+        calls = {it.call for it in self.library.values()}
+        gate = [it for it in self.claims if it.path.split("/")[1] in LIBRARY and "/must-fail/" in it.path]
         totals = [f"| {it} | {said} | {counts[it, False] or ''} | {counts[it, True] or ''} |" for it, said in GRADES.items()]
         said = {
             "TOTALS": "\n".join(["| Grade | Strongest refusal | By an edit | By a planted body |\n|---|---|--:|--:|", *totals]),
-            "CLAUSES": f"{len(self.library)} clauses, of which {counts['A', False] + counts['A', True]} have the grade A",
+            "CLAUSES": len(self.library),
+            "GOOD": counts["A", False] + counts["A", True],
             "LAWS": self.laws,
-            "BEYOND": len(beyond),
             "NEW": sum(map(self.is_new, self.best)),
             "VAGUE": sum(map(self.is_vague, self.best)),
-            "THROUGH": f"{planted} of these calls have bodies there, " + (f"of which one of {', '.join(through)} was let through." if through else "none of which was let through."),
+            "GATE": len(gate),
+            "THROUGH": f"{len(self.planted.keys() & calls)} of {len(calls)} calls have bodies there, " + (f"of which one of {', '.join(through)} was let through." if through else "none of which was let through."),
             "HEADLINE": "\n".join(self.headline()),
             "OTHERS": "\n".join(self.others()),
         }

@@ -238,16 +238,10 @@ def answers_of(edit):
     return answers_in(edit.crate, changed(edit), changes_of(edit))
 
 
-def is_neutral(answer):
-    """Whether a written proof rests on nothing that the body does: it cites no more than what the call was given."""
-    return not re.search(r"(?<![\w.])c\b(?!\.(?:args|self|requires)\b)", answer)
-
-
 def kind_of(edit, goal):
-    name = goal.removeprefix(WRITTEN)
-    if name != goal and not is_neutral(answers_of(edit).get(name, "c")):
+    if goal.startswith(WRITTEN):
         return PROOF
-    is_of_contract = name.startswith("returns") or name.endswith("-value")  # a law that an impl owes its trait has such a name
+    is_of_contract = goal.startswith("returns") or goal.endswith("-value")  # a law that an impl owes its trait has such a name
     return CONTRACT if is_of_contract else SERVING
 
 
@@ -266,13 +260,20 @@ def has_new_branch(edit):
     return not has_right(edit) and any(branches(old) != branches(new) for _, old, new, _ in pairs)
 
 
+def has_new_call(edit):
+    """Whether the body of an edit calls what the right one doesn't, and no right body with that call is told."""
+    called = lambda text: {*re.findall(r"\b([a-z]\w*)(?:::<[^()]*>)?!?\(", text)}
+    known = {it for one in changed(edit) for it in called("\n".join(code_of(f"{edit.crate}/{one.file}", one)))}
+    return not has_right(edit) and any(called(new) - known for file, _, new, _ in pairs_of(edit.text) if file.startswith("src/"))
+
+
 def is_fair(edit, row, goal, clause):
     """Whether the search proves a goal of a clause of a right body of the form of an edit, or all goals of the clause of the
     right one."""
     if has_right(edit):
         return row.right == PROVED
     is_searched = not any(clause_in(it) in ("", clause) for it in answers_of(edit))
-    return not goal.startswith(WRITTEN) and (is_searched or not has_new_branch(edit))
+    return is_searched or not has_new_branch(edit)
 
 
 def stale_claims():
