@@ -27,8 +27,8 @@ These are CLAUSES clauses: those of `ensures` of public calls, the ghost members
 
 ## Comparisons and operations on sets
 
-| Call | Clauses and grades | What is wrong in the body | Refused at, of these clauses |
-|---|---|---|---|
+Call | Clauses and grades | What is wrong in the body | Refused at, of these clauses
+---|---|---|---
 HEADLINE
 
 ## The other calls
@@ -158,7 +158,7 @@ class Claims:
                     clauses[what].append(f"`{label_of(name)}` {grade}{self.marks(name)}")
                     goals[what] |= dict.fromkeys(goals_for(row, name) or (it for it in row.goals if not it.startswith(WRITTEN)))
             for what in sorted(clauses, key=lambda it: not it):
-                yield f"| {self.linked(call)} | {', '.join(clauses[what])} | {what} | {', '.join(f'`{it}`' for it in goals[what])} |"
+                yield f"{self.linked(call)} | {', '.join(clauses[what])} | {what} | {', '.join(f'`{it}`' for it in goals[what])}"
 
     def others(self):
         """A row for each other call, with its clauses by their grades."""
@@ -198,9 +198,9 @@ class Claims:
         counts = collections.Counter((grade, bool(body)) for grade, _, body in self.best.values())
         calls = {it.call for it in self.library.values()}
         gate = [it for it in self.claims if it.path.split("/")[1] in LIBRARY and "/must-fail/" in it.path]
-        totals = [f"| {it} | {said} | {counts[it, False] or ''} | {counts[it, True] or ''} |" for it, said in GRADES.items()]
+        totals = [f"{it} | {said} | {counts[it, False] or ''} | {counts[it, True] or ''}".rstrip() for it, said in GRADES.items()]
         said = {
-            "TOTALS": "\n".join(["| Grade | Strongest refusal | By an edit | By a planted body |\n|---|---|--:|--:|", *totals]),
+            "TOTALS": "\n".join(["Grade | Strongest refusal | By an edit | By a planted body\n---|---|--:|--:", *totals]),
             "CLAUSES": len(self.library),
             "GOOD": counts["A", False] + counts["A", True],
             "LAWS": self.laws,

@@ -43,6 +43,6 @@ def wrong_of_laws():
         if not read(path).startswith("-- For callers: "):
             yield f"{path}: its first comment doesn't say what its laws are for callers"
     known = {it for path in glob.glob("crates/micromap*/**/*.antt", recursive=True) for it in re.findall(r"[\w'≢-]+", read(path))}
-    rows = "\n".join(it for it in read(PROVING).split("\n") if it.startswith("| "))
+    rows = "\n".join(it for it in read(PROVING).split("\n") if re.match(r"[^-#].* \| ", it))
     named = re.findall(r"`([\w'≢]+[_-][\w'≢-]+)`", rows)
     yield from (f"{PROVING}: a table names {it}, which is no law" for it in named if it not in known)
