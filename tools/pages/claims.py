@@ -5,7 +5,7 @@ import re
 from pages.api import API
 from pages.edits import CONTRACT, PROOF, PROVED, WRITTEN, Row, changed, changes_proof, clause_in, edits, has_new_branch, has_new_call
 from pages.edits import is_fair, kind_of, recorded
-from pages.planted import PASSED, answered, calls_itself, calls_of, functions_of, planted
+from pages.planted import PASSED, answered, calls_itself, calls_of, functions_of, is_unbranched, planted
 from pages.sources import LIBRARY, Sources, anchor
 
 CLAIMS = "docs/CLAIMS.md"
@@ -134,7 +134,7 @@ class Claims:
             of_clause = any(re.fullmatch(own, it) for it in said.split())
             is_fair = calls_itself(call, body) or not {"", label} & self.answered[call]
             found += [("P" if not of_clause else "A" if is_fair else "B", body)] * (said != PASSED)
-        return min(found, default=("none", ""))
+        return min(found, key=lambda it: (it[0], not is_unbranched(call, it[1]), it), default=("none", ""))
 
     def best_of(self, name):
         """The best grade of a clause, the edits that have it, and the planted body that does if none has."""
@@ -180,8 +180,9 @@ class Claims:
 
     def is_new(self, name):
         """Whether a clause has A, and each wrong body that shows it has a branch or a call that the right one lacks."""
-        grade, those, body = self.best[name]
-        return grade == "A" and not calls_itself(self.library[name].call, body) and all(has_new_branch(it) or has_new_call(it) for it in those)
+        (grade, those, _), (found, body) = self.best[name], self.by_plants(name)
+        is_fair = found == "A" and is_unbranched(self.library[name].call, body)
+        return grade == "A" and not is_fair and all(has_new_branch(it) or has_new_call(it) for it in those)
 
     def is_vague(self, name):
         """Whether a clause has an edit and its call several clauses, and no goal of the best edits names it."""

@@ -54,6 +54,11 @@ def calls_itself(call, body):
     return bool(re.search(rf"\b{re.escape(call.rpartition('::')[2])}(::<.*?>)?\(", body))
 
 
+def is_unbranched(call, body):
+    """Whether a planted body calls the function and has no branch besides."""
+    return calls_itself(call, body) and not re.search(r"\b(?:match|if)\b", body)
+
+
 def answered(functions):
     """The clauses of a call of which goals are proved by hand, with "" if a whole return is."""
     return {clause_in(it) for crate, function in functions for it in answers_in(crate, [function], {})}
