@@ -49,7 +49,7 @@ GRADES = {
     "D": "an edit of an inner function, on which the call rests, is refused at that function's contract",
     "E": "an edit is refused at the invariant of a loop, or at what a call requires",
     "F": "an edit is refused, but so is a right body of that form; or a loop has no invariant, so that nothing is known of what it changed; or only a proof by hand no longer fits",
-    "P": "a planted body is refused, at another clause or, for most, at a goal that isn't recorded",
+    "P": "a planted body is refused at another clause, or at a goal that isn't recorded",
     "none": "no edit was written for the clause, and no refusal of a planted body is recorded",
 }
 # The calls of the first table of clauses.
@@ -199,7 +199,7 @@ class Claims:
         counts = collections.Counter((grade, bool(body)) for grade, _, body in self.best.values())
         calls = {it.call for it in self.library.values()}
         gate = [it for it in self.claims if it.path.split("/")[1] in LIBRARY and "/must-fail/" in it.path]
-        totals = [f"{it} | {said} | {counts[it, False] or ''} | {counts[it, True] or ''}".rstrip() for it, said in GRADES.items()]
+        totals = [f"{it} | {said} | {counts[it, False] or ''} | {counts[it, True] or ''}".rstrip() for it, said in GRADES.items() if counts[it, False] + counts[it, True]]
         said = {
             "TOTALS": "\n".join(["Grade | Strongest refusal | By an edit | By a planted body\n---|---|--:|--:", *totals]),
             "CLAUSES": len(self.library),
