@@ -5,7 +5,7 @@ import re
 from pages.api import API
 from pages.edits import CONTRACT, PROOF, PROVED, WRITTEN, Row, changed, changes_proof, clause_in, edits, has_new_branch, has_new_call
 from pages.edits import is_fair, kind_of, recorded
-from pages.planted import PASSED, answered, calls_itself, calls_of, functions_of, is_unbranched, planted
+from pages.planted import PASSED, answered, calls_itself, calls_of, functions_of, is_unbranched, planted, row_of
 from pages.sources import LIBRARY, Sources, anchor
 
 CLAIMS = "docs/CLAIMS.md"
@@ -33,9 +33,9 @@ HEADLINE
 
 ## The other calls
 
-A clause leads to its strongest edits. [`goals.tsv`](goals.tsv) has a row for each edit, by the name behind `# edit:` or of its file: a checksum, the goals of the contract or else one other, and `proved` or `open` if a right body, from the lines `# right:`, was tried. There `-clause-old,pairs` stands for two goals, and `written:` means that a proof by hand no longer fits.
+A clause leads to its strongest edits, or else to its call's planted bodies. [`goals.tsv`](goals.tsv) has a row for each edit, by the name behind `# edit:` or of its file: a checksum, the goals of the contract or else one other, and `proved` or `open` if a right body, from the lines `# right:`, was tried. There `-clause-old,pairs` stands for two goals, and `written:` means that a proof by hand no longer fits.
 
-A graded clause without a link has its grade by a planted body. [`planted.tsv`](planted.tsv) has a checksum, then bodies with their goals, or `refused` if these weren't recorded. THROUGH
+A row of [`planted.tsv`](planted.tsv) has a checksum, then bodies with their goals, or `refused` if these weren't recorded. THROUGH
 
 | Call | A | B | C to F | P | None |
 |---|---|---|---|---|---|
@@ -172,11 +172,12 @@ class Claims:
             yield f"|{self.linked(call)}|{'|'.join(cells)}|"
 
     def cell(self, name):
-        """A clause, as links to its edits if it has some."""
-        grade, those, _ = self.best[name]
+        """A clause, as links to its edits or to the planted bodies of its call, if it has some."""
+        grade, those, body = self.best[name]
         label = f"`{label_of(name) or 'ensures'}`{self.marks(name)}"
-        links = (f"[{n if n > 1 else label}](../{it.place})" for n, it in enumerate(those, 1))
-        return f"{f'{grade} ' * (grade in 'CDEF')}{' '.join(links)}" if those else label
+        places = [f"planted.tsv#L{row_of(self.library[name].call)}"] if body else [f"../{it.place}" for it in those]
+        links = (f"[{n if n > 1 else label}]({place})" for n, place in enumerate(places, 1))
+        return f"{f'{grade} ' * (grade in 'CDEF')}{' '.join(links)}" if places else label
 
     def is_new(self, name):
         """Whether a clause has A, and each wrong body that shows it has a branch or a call that the right one lacks."""

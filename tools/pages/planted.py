@@ -42,6 +42,11 @@ def planted(sources):
     return {call: dict(zip(cells[::2], cells[1::2])) for call, sum, *cells in lines_of(PLANTED) if sums.get(call) == sum}
 
 
+def row_of(call):
+    """The number of a call's row in the record."""
+    return 1 + [it[0] for it in lines_of(PLANTED)].index(call)
+
+
 def keep_planted(sources, known):
     sums = sums_of(sources)
     calls = sorted(it for it in known if known[it] and it in sums)
