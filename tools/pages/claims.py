@@ -13,15 +13,15 @@ HEAD = """# Claims
 
 Made by `tools/documents` from the sources, the edits, and what [`tools/claims`](MAINTAINING.md#edits) recorded.
 
-Every clause is proved, but may say too little. So wrong bodies are tried, which the check must refuse. A refusal suggests that a clause rules out this one mistake. A body is refused at *goals*, statements to be proved, which are [named](../crates/micromap/WHEN_A_CHECK_FAILS.md) for the clause. An *edit* is a wrong body that was written by hand against some clauses: a likely mistake, or a contrived one, as `if self.len() == 1 { return None; }`. A *planted* body is made by `rt plant` from the types alone, and is coarser: it gives up, as `None`, or changes an argument, a field or the result.
+Every clause is proved, but may say too little. So wrong bodies are tried, which the check must refuse. A refusal suggests that a clause rules out this one mistake. A body is refused at *goals*, statements to be proved, which are [named](../crates/micromap/WHEN_A_CHECK_FAILS.md) for the clause. The check calls `next_gives` `steps`, `remaining` `goes`, and `output` `writes`. An *edit* is a wrong body that was written by hand against some clauses: a likely mistake, or a contrived one, as `if self.len() == 1 { return None; }`. A *planted* body is made by `rt plant` from the types alone, and is coarser. It gives up, as `None`, or calls the right function, as `Self::get(..)`, twice or with an argument, a field or the result changed. Of that call only the contract is known.
 
 TOTALS
 
-These are CLAUSES clauses: those of `ensures` of public calls, the ghost members of impls and the laws of traits. GOOD have the grade A. A clause counts once, by its best grade, and by an edit if a planted body has no better one. Impls of one name count once too, as `Probe for Text` for three types of key, or `IntoIterator for Map`, whose A is of the one by value. Not counted are LAWS clauses: they mention neither a result nor a state afterwards, or say, as `content` does, the invariant of a map or a set, which is a goal of its own.
+These are CLAUSES clauses: those of `ensures` of public calls, the ghost members of impls and the laws of traits. GOOD have the grade A, PLAIN of them without a mark. A clause counts once, by its best grade, and by an edit if a planted body has no better one. Impls of one name count once too, as `Probe for Text` for three types of key, or `IntoIterator for Map`, whose A is of the one by value. Not counted are LAWS clauses that mention neither a result nor a state afterwards, so that no body breaks them, and CONTENT of the name `content`, which say the invariant of a map or a set.
 
 - A refusal shows only that no proof was found. Some edits are refused at a clause that they keep, as `set_insert_replaces_the_item` at `answer`.
-- `†`: each wrong body that gives this A has a branch or a call that the right one lacks, so a right body with these may be refused too. So it is with NEW clauses. The same may be so with each B.
-- `?`: the goal names no clause, so another may have failed. So it is with VAGUE clauses of the grades A and B. The check calls `next_gives` `steps`, `remaining` `goes`, and `output` `writes`.
+- `†`: each wrong body that gives this A gives up, or has a branch or a call that the right one lacks. A right body of its form may be refused too. So it is with NEW clauses. The same may be so with each B.
+- `?`: the goal names none of the call's several clauses, so another may have failed. So it is with VAGUE clauses of the grades A and B.
 - Some edits add a bound, a law or a function. The right body isn't tried with these.
 - The contract and the body are as they were tried. An attribute, a ghost member, a definition or a proof may have changed since. The gate tries again only GATE edits, those in `must-fail/`.
 
@@ -33,7 +33,7 @@ HEADLINE
 
 ## The other calls
 
-A clause leads to its strongest edits, or else to its call's planted bodies. [`goals.tsv`](goals.tsv) has a row for each edit, by the name behind `# edit:` or of its file: a checksum, the goals of the contract or else one other, and `proved` or `open` if a right body, from the lines `# right:`, was tried. There `-clause-old,pairs` stands for two goals, and `written:` means that a proof by hand no longer fits.
+A clause leads to its strongest edits, or else to its call's planted bodies. [`goals.tsv`](goals.tsv) has a row for each edit, by the name behind `# edit:` or of its file: a checksum, the goals of the contract or else one other, and `proved` or `open` if a right body was tried, by `# right:` or without its written proof. There `-clause-old,pairs` stands for two goals, and `written:` means that a proof by hand no longer fits.
 
 A row of [`planted.tsv`](planted.tsv) has a checksum, then bodies with their goals, or `refused` if these weren't recorded. THROUGH
 
@@ -49,7 +49,7 @@ GRADES = {
     "D": "an edit of an inner function, on which the call rests, is refused at that function's contract",
     "E": "an edit is refused at the invariant of a loop, or at what a call requires",
     "F": "an edit is refused, but so is a right body of that form; or a loop has no invariant, so that nothing is known of what it changed; or only a proof by hand no longer fits",
-    "P": "a planted body is refused at another clause, or at a goal that isn't recorded",
+    "P": "a planted body is refused at another clause, or at a goal that is of no clause or isn't recorded",
     "none": "no edit was written for the clause, and no refusal of a planted body is recorded",
 }
 # The calls of the first table of clauses.
@@ -100,7 +100,7 @@ class Claims:
         self.claims = {it: claims_of(it) for it in edits()}
         wrong += [f"{it.name}: no clause is {name}" for it, names in self.claims.items() for name in names if name not in known]
         self.library = {name: it for name, it in clauses.items() if not is_law(it)}
-        self.laws = len(clauses) - len(self.library)
+        self.laws = [label_of(it) for it in clauses if it not in self.library]
         self.sizes = collections.Counter(it.call for it in clauses.values())
         self.best = {it: self.best_of(it) for it in self.library}
 
@@ -205,11 +205,13 @@ class Claims:
             "TOTALS": "\n".join(["Grade | Strongest refusal | By an edit | By a planted body\n---|---|--:|--:", *totals]),
             "CLAUSES": len(self.library),
             "GOOD": counts["A", False] + counts["A", True],
-            "LAWS": self.laws,
+            "PLAIN": sum(it[0] == "A" and not self.marks(name) for name, it in self.best.items()),
+            "LAWS": len(self.laws) - self.laws.count("content"),
+            "CONTENT": self.laws.count("content"),
             "NEW": sum(map(self.is_new, self.best)),
             "VAGUE": sum(map(self.is_vague, self.best)),
             "GATE": len(gate),
-            "THROUGH": f"{len(self.planted.keys() & calls)} of {len(calls)} calls have bodies there, " + (f"of which one of {', '.join(through)} was let through." if through else "none of which was let through."),
+            "THROUGH": f"{len(self.planted.keys() & calls)} of {len(calls)} calls have bodies there, " + (f"of which one of {', '.join(through)} was let through." if through else "none of which was let through. Of the others no body was judged wrong or refused."),
             "HEADLINE": "\n".join(self.headline()),
             "OTHERS": "\n".join(self.others()),
         }
