@@ -37,6 +37,8 @@ A clause leads to its strongest edits, or else to its call's planted bodies. [`g
 
 A row of [`planted.tsv`](planted.tsv) has a checksum, then bodies with their goals, or `refused` if these weren't recorded. THROUGH
 
+The gate also tries edits that are the strongest for no clause, each with the grade that it would give, or `-` if its clause isn't counted: WEAKER.
+
 | Call | A | B | C to F | P | None |
 |---|---|---|---|---|---|
 OTHERS
@@ -179,6 +181,13 @@ class Claims:
         links = (f"[{n if n > 1 else label}]({place})" for n, place in enumerate(places, 1))
         return f"{f'{grade} ' * (grade in 'CDEF')}{' '.join(links)}" if places else label
 
+    def weaker(self):
+        """The edits of the gate that are the strongest for no clause, with the grades that they would give."""
+        used = {it for _, those, _ in self.best.values() for it in those}
+        for edit in (it for it in self.claims if "/must-fail/" in it.path and it not in used):
+            grade = min((self.grade(edit, it) for it in self.claims[edit] if it in self.library), default="-")
+            yield f"[`{edit.name}`](../{edit.place}) {grade}"
+
     def is_new(self, name):
         """Whether a clause has A, and each wrong body that shows it has a branch or a call that the right one lacks."""
         (grade, those, _), (found, body) = self.best[name], self.by_plants(name)
@@ -199,8 +208,7 @@ class Claims:
         through = [f"`{call}`" for call, bodies in self.planted.items() if PASSED in bodies.values()]
         counts = collections.Counter((grade, bool(body)) for grade, _, body in self.best.values())
         calls = {it.call for it in self.library.values()}
-        gate = [it for it in self.claims if it.path.split("/")[1] in LIBRARY and "/must-fail/" in it.path]
-        totals = [f"{it} | {said} | {counts[it, False] or ''} | {counts[it, True] or ''}".rstrip() for it, said in GRADES.items() if counts[it, False] + counts[it, True]]
+        totals = [f"{it} | {said} | {counts[it, False] or ''} | {counts[it, True] or ''}".rstrip() for it, said in GRADES.items()]
         said = {
             "TOTALS": "\n".join(["Grade | Strongest refusal | By an edit | By a planted body\n---|---|--:|--:", *totals]),
             "CLAUSES": len(self.library),
@@ -210,7 +218,8 @@ class Claims:
             "CONTENT": self.laws.count("content"),
             "NEW": sum(map(self.is_new, self.best)),
             "VAGUE": sum(map(self.is_vague, self.best)),
-            "GATE": len(gate),
+            "GATE": sum("/must-fail/" in it.path for it in self.claims),
+            "WEAKER": ", ".join(self.weaker()),
             "THROUGH": f"{len(self.planted.keys() & calls)} of {len(calls)} calls have bodies there, " + (f"of which one of {', '.join(through)} was let through." if through else "none of which was let through. Of the others no body was judged wrong or refused."),
             "HEADLINE": "\n".join(self.headline()),
             "OTHERS": "\n".join(self.others()),

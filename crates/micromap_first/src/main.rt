@@ -8,7 +8,7 @@ ghost use Rattle.micromap.specs.Texts.{str_eq};
 use micromap::Map;
 use std::io;
 
-/// Adds a person, or sets the age of one who is there, and returns `false` if there is no room.
+/// Adds a person if there is room, or sets the age of one who is there, and returns whether it did.
 pub fn add<'a>(ages: &mut Map<&'a str, u32, 2>, name: &'a str, age: u32) -> bool
     ensures answer { result ≡ fits str_eq 2 ages.old name.entry }
     ensures ages { ages.new ≡ put_if_fits str_eq 2 ages.old name.entry age }
