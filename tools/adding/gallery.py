@@ -39,6 +39,12 @@ def tasks_of(text):
             yield row[2], file, row[1]
 
 
+def by_hand(text, word):
+    """The rows with this word whose functions are in a larger example."""
+    rows = re.findall(r"(.+) \| `(\w+)`, in `(.+)`$", text, re.M)
+    return [f"{name} of {path}, which is copied by hand" for task, name, path in rows if word.lower() in task.lower()]
+
+
 def wrong_of_tasks():
     """What is amiss in TASKS.md, and in the comments of the gallery."""
     named, own = {it[:2] for it in tasks_of(text_of(f"{TOP}/{TASKS}"))}, {*examples().items()}
@@ -122,11 +128,11 @@ def with_module(text, line):
 
 def found(name):
     """The file of an example. Of another name this says the nearest, and the examples whose tasks have it."""
-    known = examples()
+    known, text = examples(), text_of(f"{TOP}/{TASKS}")
     if name in known:
         return known[name]
-    tasks = [it for it, _, task in tasks_of(text_of(f"{TOP}/{TASKS}")) if name.lower() in task.lower()]
-    near = dict.fromkeys([*tasks, *difflib.get_close_matches(name, known, 5, 0.6)])
+    tasks = [it for it, _, task in tasks_of(text) if name.lower() in task.lower()]
+    near = dict.fromkeys([*tasks, *difflib.get_close_matches(name, known, 5, 0.6), *by_hand(text, name)])
     told = f"the nearest are {', '.join(near)}" if near else f"{TASKS} lists all"
     raise Refused(f"no example is named {name}; {told}")
 

@@ -13,15 +13,15 @@ HEAD = """# Claims
 
 Made by `tools/documents` from the sources, the edits, and what [`tools/claims`](MAINTAINING.md#edits) recorded.
 
-Every clause is proved, but may say too little. So wrong bodies are tried, which the check must refuse. A refusal suggests that a clause rules out this one mistake. A body is refused at *goals*, statements to be proved, which are [named](../crates/micromap/WHEN_A_CHECK_FAILS.md) for the clause. The check calls `next_gives` `steps`, `remaining` `goes`, and `output` `writes`. An *edit* is a wrong body that was written by hand against some clauses: a likely mistake, or a contrived one, as `if self.len() == 1 { return None; }`. A *planted* body is made by `rt plant` from the types alone, and is coarser. It gives up, as `None`, or calls the right function, as `Self::get(..)`, twice or with an argument, a field or the result changed. Of that call only the contract is known.
+Every clause is proved, but may say too little. So wrong bodies are tried, which the check must refuse. A body is refused at *goals*, statements to be proved, which are [named](../crates/micromap/WHEN_A_CHECK_FAILS.md) for the clause. The check calls `next_gives` `steps`, `remaining` `goes`, `output` and `debug_output` `writes`, and `styled_output` `styled`. An *edit* is a wrong body that was written by hand against some clauses: a likely mistake, or a contrived one, as `if self.len() == 1 { return None; }`. A *planted* body is made by `rt plant` from a function's signature, and is coarser. It gives up, as `None`, or calls the right function, as `Self::get(..)`, twice, or with an argument, a field or the result changed. Of that call only the contract is known.
 
 TOTALS
 
-These are CLAUSES clauses: those of `ensures` of public calls, the ghost members of impls and the laws of traits. GOOD have the grade A, PLAIN of them without a mark. A clause counts once, by its best grade, and by an edit if a planted body has no better one. Impls of one name count once too, as `Probe for Text` for three types of key, or `IntoIterator for Map`, whose A is of the one by value. Not counted are LAWS clauses that mention neither a result nor a state afterwards, so that no body breaks them, and CONTENT of the name `content`, which say the invariant of a map or a set.
+These are CLAUSES clauses: those of `ensures` of public calls, the ghost members of impls and the laws of traits. GOOD have the grade A: PLAIN without a mark, DAGGER with `†`, QUERY with `?`, and BOTH with both. A clause counts once, by its best grade, and by an edit if a planted body has no better one. Impls of one name count once too, as `Probe for Text` for three types of key, or `IntoIterator for Map`, whose A is of the one by value. Not counted are LAWS clauses that mention neither a result nor a state afterwards, so that no body breaks them, and CONTENT of the name `content`, which say the invariant of a map or a set.
 
 - A refusal shows only that no proof was found. Some edits are refused at a clause that they keep, as `set_insert_replaces_the_item` at `answer`.
-- `†`: each wrong body that gives this A gives up, or has a branch or a call that the right one lacks. A right body of its form may be refused too. So it is with NEW clauses. The same may be so with each B.
-- `?`: the goal names none of the call's several clauses, so another may have failed. So it is with VAGUE clauses of the grades A and B.
+- `†`: each wrong body that gives this A gives up, or has a branch or a call that the right one lacks. A right body of its form may be refused too. The same may be so with each B.
+- `?`: the goal names none of the call's several clauses, so another may have failed. VAGUE clauses of the grades A and B have it.
 - Some edits add a bound, a law or a function. The right body isn't tried with these.
 - The contract and the body are as they were tried. An attribute, a ghost member, a definition or a proof may have changed since. The gate tries again only GATE edits, those in `must-fail/`.
 
@@ -54,6 +54,8 @@ GRADES = {
     "P": "a planted body is refused at another clause, or at a goal that is of no clause or isn't recorded",
     "none": "no edit was written for the clause, and no refusal of a planted body is recorded",
 }
+# The words of the head for how many have the grade A with these marks.
+MARKS = {"PLAIN": "", "DAGGER": "†", "QUERY": "?", "BOTH": "†?"}
 # The calls of the first table of clauses.
 HEADLINE = ["Map::eq_with", "Map::differs_at", *(f"Set::{it}" for it in ("eq_with", "is_subset", "is_superset", "is_disjoint"))]
 for _call in ("difference", "difference_ref", "intersection", "union", "symmetric_difference"):
@@ -62,7 +64,7 @@ for _call in ("difference", "difference_ref", "intersection", "union", "symmetri
 LOOPS = """remove_moves_the_last_pair_into_the_gap remove_moves_the_last_value_into_the_gap into_capacity_reverses_the_pairs
 into_iter_from_the_end read_entries_empties_the_source""".split()
 # What the clauses are called that ghost members of traits stand in.
-GHOSTS = {"next_gives": "steps", "remaining": "goes", "output": "writes"}
+GHOSTS = {"next_gives": "steps", "remaining": "goes", "output": "writes", "styled_output": "styled", "debug_output": "writes"}
 
 
 def claims_of(edit):
@@ -213,14 +215,13 @@ class Claims:
             "TOTALS": "\n".join(["Grade | Strongest refusal | By an edit | By a planted body\n---|---|--:|--:", *totals]),
             "CLAUSES": len(self.library),
             "GOOD": counts["A", False] + counts["A", True],
-            "PLAIN": sum(it[0] == "A" and not self.marks(name) for name, it in self.best.items()),
+            **{word: sum(it[0] == "A" and self.marks(name) == mark for name, it in self.best.items()) for word, mark in MARKS.items()},
             "LAWS": len(self.laws) - self.laws.count("content"),
             "CONTENT": self.laws.count("content"),
-            "NEW": sum(map(self.is_new, self.best)),
             "VAGUE": sum(map(self.is_vague, self.best)),
             "GATE": sum("/must-fail/" in it.path for it in self.claims),
             "WEAKER": ", ".join(self.weaker()),
-            "THROUGH": f"{len(self.planted.keys() & calls)} of {len(calls)} calls have bodies there, " + (f"of which one of {', '.join(through)} was let through." if through else "none of which was let through. Of the others no body was judged wrong or refused."),
+            "THROUGH": f"{len(self.planted.keys() & calls)} of {len(calls)} calls have bodies there, " + (f"of which one of {', '.join(through)} was let through." if through else "none of which was let through. `rt plant` made none of the others that could be judged."),
             "HEADLINE": "\n".join(self.headline()),
             "OTHERS": "\n".join(self.others()),
         }

@@ -1,8 +1,8 @@
--- Values that all pass a test: they still do after a put of one that passes, and after a removal.
+-- Values that all pass a test: they still do after a put of one that passes.
 use Rattle.std.proofs.Common.{◌≡◌, [], ◌∷◌, ◌++◌, arith, true, Bool, List, refl}
 use Rattle.std.specs.List.{list_all}
-use Rattle.std.specs.Map.{remove_entry, set_value, values_of}
-use Rattle.micromap.specs.Pairs.{put, take_out}
+use Rattle.std.specs.Map.{set_value, values_of}
+use Rattle.micromap.specs.Pairs.{put}
 
 module _ {K V : Type 0} (test : V → Bool) where
   all_set : (key : K → Bool) (pairs : List (K × V)) (v : V) → list_all test (values_of pairs) ≡ true

@@ -1,4 +1,4 @@
--- What `words` has of a text that is cut at its first space, and what the loops of `words.rt` need.
+-- What `words` has of a text that is cut at its first space, and what the loop of `words_of` needs.
 use Rattle.std.proofs.Common.{◌≡◌, ℕ, ◌==◌, ◌∙◌, [], ◌∷◌, Bor, List, None, Option, Some}
 use Rattle.std.proofs.Common.{arith, ap, filter, if◌then◌else◌, length, nat_lt, refl, sym}
 use Rattle.std.specs.Option.{MatchOption}
@@ -6,9 +6,6 @@ use Rattle.std.specs.List.{slice_split}
 use Rattle.std.proofs.lemmas.List.Splits.{slice_split_first, slice_split_none}
 use Rattle.std.proofs.lemmas.List.Sums.{fails_before_first}
 use Rattle.std.proofs.lemmas.Str.Pattern.{IsSplitOnceResult, split_once_first}
-use Rattle.micromap_core.proofs.Laws.CountLaws.{count_laws}
-use Rattle.micromap_core.proofs.Laws.MapLaws.{map_laws}
-use Rattle.micromap_core.proofs.Laws.TextLaws.{text_laws}
 use Rattle.micromap.proofs.Laws.SetLoopLaws.{set_loop_laws}
 use Rattle.micromap.proofs.Laws.SetTextLaws.{set_text_laws}
 use Rattle.micromap_uses.specs.Words.{words}
@@ -33,7 +30,5 @@ words_cut text (Some x) is =
     ap (filter (λ word. nat_lt 0 (length word))) (slice_split_first (λ b. b == 32) text 0 first.0)
     ∙ (λ i. filter (λ word. nat_lt 0 (length word)) (sym first.1 i ∷ slice_split (λ b. b == 32) (sym first.2 i)))
 
--- for a loop that puts words into a set, and one that counts them in a map
+-- for a loop that puts words into a set
 pub ruleset set_of_words = (set_text_laws, set_loop_laws, words_none)
-
-pub ruleset map_of_words = (map_laws, text_laws, count_laws, words_none)

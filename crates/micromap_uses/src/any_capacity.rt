@@ -1,9 +1,9 @@
 //! Functions that serve maps of any capacity.
 //!
-//! Write one only if it has to: a check at a generic capacity takes up to six times as long.
+//! Write one only if it must serve several capacities: its check takes up to six times as long.
 #![tactic(auto, using(micromap::proofs::Rules::caller))]
 
-ghost use Rattle.std.specs.Prelude.{◌≡◌, ◌↔◌, ◌<◌, ◌≤◌, [], IfSome, IsFalse, count_by, filter, length, nat_eq, not, slice_get, unwrap_or, Some};
+ghost use Rattle.std.specs.Prelude.{◌≡◌, ◌<◌, ◌≤◌, [], IfSome, IsFalse, count_by, filter, length, nat_eq, not, slice_get, unwrap_or, Some};
 ghost use Rattle.std.specs.Bool.{OnTrue};
 ghost use Rattle.micromap.specs.Build.{put_all};
 ghost use Rattle.micromap.specs.Memory.{IntoIterFits, MapFits};
@@ -23,33 +23,14 @@ pub fn put_each<K: Eq + Copy + Drop, const N: usize>(
     ensures refused { IsFalse result → N < length (put_all K.eq map.old items.now) }
 {
     for item in items {
-        if !map.fits(&item.0) {
+        if !map.put(item.0, item.1) {
             return false;
         }
-        map.insert(item.0, item.1);
     }
     true
 }
 
-/// Puts a map over another, all or nothing.
-/// It returns `false`, and nothing changes, exactly if they don't all fit. By `is_ok()` the search finds no proof of keys
-/// of any type.
-#[tactic(auto)]
-pub fn put_over<K: Eq + Copy, V: Copy, const N: usize, const M: usize>(
-    map: &mut Map<K, V, N>,
-    other: &Map<K, V, M>,
-) -> bool
-    ensures all { OnTrue result (map.new ≡ put_all K.eq map.old other.now) }
-    ensures none { IsFalse result → map.new ≡ map.old }
-    ensures refused { IsFalse result ↔ (N < length (put_all K.eq map.old other.now)) }
-{
-    match map.try_extend_from(other) {
-        Ok(()) => true,
-        Err(_) => false,
-    }
-}
-
-/// Counts the votes for each name, under an invariant of one's own.
+/// Counts the votes for each name, under an invariant of one's own, or returns `None` if the names don't fit.
 /// Under `caller` the search gives up at one of its limits. The laws of one file are enough.
 #[tactic(auto, using(micromap_core::proofs::Laws::MapLaws::map_laws, std::proofs::lemmas::Grind::common_steps))]
 pub fn count_votes<const N: usize>(votes: &[u8]) -> Option<Map<u8, usize, N>>
@@ -60,14 +41,14 @@ pub fn count_votes<const N: usize>(votes: &[u8]) -> Option<Map<u8, usize, N>>
         if !counts.fits(vote) {
             return None;
         }
-        let tally = counts.entry(*vote).or_insert(0);
-        *tally += 1;
+        *counts.entry(*vote).or_insert(0) += 1;
     }
     Some(counts)
 }
 
-/// Counts the distinct keys of a list, in a local map, which has to fit in memory.
-/// The contract says only that they are at most `N`. For numbers `requires { N ≤ 1000 }` serves, and for a set `SetFits`.
+/// Counts the distinct keys of a list in a local map, or returns `None` if they don't fit.
+/// The map has to fit in memory. The contract says only that the keys are at most `N`. For numbers `requires { N ≤ 1000 }`
+/// serves, and for a set `SetFits`.
 #[tactic(auto)]
 pub fn count_keys<K: Eq + Copy, V: Copy, const N: usize>(pairs: &[(K, V)]) -> Option<usize>
     requires { MapFits K.row V.row N.row K.eq }
@@ -103,12 +84,12 @@ pub fn lacking_any<const N: usize, const M: usize>(
 ) -> Map<u8, u32, N>
     ensures { result ≡ filter (λ p. not (has nat_eq other.now p.0)) pairs.now }
 {
-    let mut some = pairs.copied();
-    some.retain(
+    let mut lacking = pairs.copied();
+    lacking.retain(
         |key: &u8, value: &mut u32| -> bool
             ensures answer { result ≡ not (has nat_eq other.entry.now key.now) }
             ensures same { value.new ≡ value.old }
         { !other.contains_key(key) },
     );
-    some
+    lacking
 }

@@ -1,7 +1,7 @@
 //! Signed amounts: balances, transfers, and a ledger.
 #![tactic(auto, using(micromap::proofs::Rules::caller))]
 
-ghost use Rattle.std.specs.Prelude.{◌≡◌, ◌&&◌, ◌↔◌, ◌+ℤ◌, ◌<◌, IsFalse, Some, fold, if◌then◌else◌, int_lt, length, map, nat_eq, pos, unwrap_or};
+ghost use Rattle.std.specs.Prelude.{◌≡◌, ◌&&◌, ◌↔◌, ◌+ℤ◌, ◌-ℤ◌, ◌<◌, IsFalse, Some, fold, if◌then◌else◌, int_lt, length, map, nat_eq, pos, unwrap_or};
 ghost use Rattle.std.specs.Bool.{OnTrue};
 ghost use Rattle.std.specs.Int.{saturate_signed, w64};
 ghost use Rattle.std.specs.Map.{values_of};
@@ -94,7 +94,7 @@ pub fn transfer(balances: &mut Map<u8, i64, 16>, from: u8, to: u8, amount: i64) 
 }
 
 /// Swaps the signed values of two keys.
-/// It returns whether both are stored, and else changes nothing. Both are asked for before the values are read: from two
+/// It returns whether both are stored. Otherwise nothing changes. Both are asked for before the values are read: from two
 /// calls of `get` the search doesn't find that the second key still fits.
 pub fn swap(balances: &mut Map<u8, i64, 16>, one: u8, other: u8) -> bool
     ensures answer { result ≡ (has nat_eq balances.old one && has nat_eq balances.old other) }
@@ -109,12 +109,12 @@ pub fn swap(balances: &mut Map<u8, i64, 16>, one: u8, other: u8) -> bool
     true
 }
 
-/// Changes the signed values that pass a test, as by a fee for balances below zero.
-/// With an `if` without `else` around `saturating_add` the search finds no proof.
+/// Takes a fee from each balance below zero, as a change of the signed values that pass a test.
+/// With an `if` without `else` in the closure the search finds no proof.
 pub fn charge(balances: &mut Map<u8, i64, 16>, fee: i64)
-    ensures { balances.new ≡ map (λ p. (p.0, if int_lt p.1 (pos 0) then saturate_signed w64 (p.1 +ℤ fee) else p.1)) balances.old }
+    ensures { balances.new ≡ map (λ p. (p.0, if int_lt p.1 (pos 0) then saturate_signed w64 (p.1 -ℤ fee) else p.1)) balances.old }
 {
-    balances.update_all(|_, b| *b = if *b < 0 { b.saturating_add(fee) } else { *b });
+    balances.update_all(|_, b| *b = if *b < 0 { b.saturating_sub(fee) } else { *b });
 }
 
 // Adds an amount to a balance, which is 0 if there is none.
@@ -127,7 +127,7 @@ fn added(balance: Option<i64>, amount: &i64) -> i64
 
 /// Adds each signed amount of a list to the balance of its key, as a ledger does.
 /// A sum that doesn't fit stays at the end of the range. It returns `false`, and nothing changes, exactly if there would be
-/// more than 16 keys. With `checked_insert` or `entry` in the loop the search gives up.
+/// more than 16 keys. With `entry` in the loop the search gives up.
 pub fn add_signed_list(balances: &mut Map<u8, i64, 16>, amounts: &[(u8, i64)]) -> bool
     ensures balances { OnTrue result (balances.new ≡ merged nat_eq balance_with balances.old amounts.now) }
     ensures refused { IsFalse result ↔ (16 < length (merged nat_eq balance_with balances.old amounts.now)) }
@@ -135,11 +135,10 @@ pub fn add_signed_list(balances: &mut Map<u8, i64, 16>, amounts: &[(u8, i64)]) -
 {
     let mut sums = balances.copied();
     for (account, amount) in amounts {
-        if !sums.fits(account) {
+        let balance = added(sums.get(account).copied(), amount);
+        if !sums.put(*account, balance) {
             return false;
         }
-        let balance = added(sums.get(account).copied(), amount);
-        sums.insert(*account, balance);
     }
     *balances = sums;
     true

@@ -11,15 +11,23 @@ ghost use Rattle.micromap.specs.Pairs.{at, fits, has, has_room, pair, put, take_
 
 use micromap::{Entry, Map, Set};
 
+// Keeps the pairs that pass a test.
+fn keep(pairs: &mut Map<u8, u32, 16>, limit: u32)
+    ensures { pairs.new ≡ filter (λ p. nat_lt limit p.1) pairs.old }
+{
+    pairs.retain(|_, value| *value > limit);
+}
+
 /// Keeps the pairs that pass a test, and returns how many went.
-/// A set's items go the same way, by `|item|`. The count stands before `retain`.
+/// A set's items go the same way, by `|item|`. The `retain` is a function of its own: beside it the search doesn't find the
+/// count.
 pub fn keep_above(pairs: &mut Map<u8, u32, 16>, limit: u32) -> usize
     ensures went { result ≡ count_by (λ p. nat_le p.1 limit) pairs.old }
     ensures kept { pairs.new ≡ filter (λ p. nat_lt limit p.1) pairs.old }
 {
-    let count = pairs.iter().filter(|(_, value)| **value <= limit).count();
-    pairs.retain(|_, value| *value > limit);
-    count
+    let count = pairs.len();
+    keep(pairs, limit);
+    count - pairs.len()
 }
 
 /// Changes all values.
@@ -39,7 +47,7 @@ pub fn tick(timers: &mut Map<u8, u8, 16>)
 }
 
 /// Sets a value that is within a limit, so that a bound of all values is kept.
-/// It returns whether it did, and else changes nothing. The law that a `put` keeps the bound is in the line `tactic`.
+/// It returns whether it did. Otherwise nothing changes. The law that a `put` keeps the bound is in the line `tactic`.
 #[tactic(auto, using(micromap_core::proofs::Laws::MapLaws::map_laws, crate::proofs::ValueLaws::all_values_put))]
 pub fn set_within(levels: &mut Map<u8, u8, 16>, key: u8, level: u8) -> bool
     requires { list_all (λ v. nat_le v 100) (values_of levels.old) ≡ true }
@@ -71,7 +79,7 @@ pub fn scale(amounts: &mut Map<u8, u32, 16>, factor: u32) -> bool
     true
 }
 
-/// Sets a value if the old one passes a test or the key is new, by a `match` on the entry.
+/// Sets a value if the old one passes a test, or if the key is new and fits, by a `match` on the entry.
 /// It returns whether it did.
 pub fn raise_any(levels: &mut Map<u8, u8, 16>, key: u8, limit: u8, value: u8) -> bool
     ensures answer { result ≡ option_map_or (λ old. nat_lt old limit) (at nat_eq levels.old key) (has_room 16 levels.old) }
@@ -92,14 +100,14 @@ pub fn raise_any(levels: &mut Map<u8, u8, 16>, key: u8, limit: u8, value: u8) ->
 }
 
 /// Renames a key: moves its value to a key that must be new.
-/// It returns whether the old key was stored and the new one wasn't, and else changes nothing. The pair goes last.
+/// It returns whether the old key was stored and the new one wasn't. Otherwise nothing changes. The pair goes last.
 pub fn reissue(leases: &mut Map<u8, u8, 16>, from: u8, to: u8) -> bool
     ensures answer { result ≡ (has nat_eq leases.old from && not (has nat_eq leases.old to)) }
     ensures missing { IsTrue result → pair nat_eq leases.old to ≡ None }
     ensures moved { IsTrue result → leases.new ≡ option_map_or (λ value. put nat_eq (take_out nat_eq leases.old from) to value) (at nat_eq leases.old from) leases.old }
     ensures unchanged { IsFalse result → leases.new ≡ leases.old }
 {
-    if leases.get(&to).is_some() {
+    if leases.contains_key(&to) {
         return false;
     }
     match leases.remove(&from) {
@@ -120,7 +128,7 @@ pub fn put_edge(map: &mut Map<u8, u8, 16>, one: u8, other: u8) -> bool
     ensures unchanged { IsFalse result → map.new ≡ map.old }
 {
     let mut copy = map.copied();
-    if copy.checked_insert(one, other).is_none() || copy.checked_insert(other, one).is_none() {
+    if !copy.put(one, other) || !copy.put(other, one) {
         return false;
     }
     *map = copy;
@@ -128,7 +136,7 @@ pub fn put_edge(map: &mut Map<u8, u8, 16>, one: u8, other: u8) -> bool
 }
 
 /// Takes the first pair out, as from a queue, or returns `None` if there is none.
-/// Its key found its value, and finds none now. `pop_last` takes the last one.
+/// Its key had its value, and isn't found then. `pop_last` takes the last one.
 pub fn take_first(queue: &mut Map<u8, u32, 16>) -> Option<(u8, u32)>
     ensures first { result ≡ slice_get queue.old 0 }
     ensures found { IfSome result (λ p. at nat_eq queue.old p.0 ≡ Some p.1) }
@@ -138,13 +146,12 @@ pub fn take_first(queue: &mut Map<u8, u32, 16>) -> Option<(u8, u32)>
     queue.pop_first()
 }
 
-/// Adds an item to the newest, of which the oldest goes if there are 8.
+/// Adds an item to a set of the 8 newest, and takes out the oldest if there is no room.
 /// An item that is there already takes none out. The contract leaves the result open, which is the item that went.
 pub fn add_newest(newest: &mut Set<u8, 8>, item: u8) -> Option<u8>
     ensures { newest.new ≡ put_item nat_eq (if item_fits nat_eq 8 newest.old item then newest.old else drop 1 newest.old) item }
 {
-    if newest.fits(&item) {
-        newest.insert(item);
+    if newest.put(item) {
         return None;
     }
     let oldest = newest.pop_first();
@@ -152,7 +159,7 @@ pub fn add_newest(newest: &mut Set<u8, 8>, item: u8) -> Option<u8>
     oldest
 }
 
-/// Finds a pair with the least value, or `None` exactly if there is no pair.
+/// Finds a pair with the least value, or returns `None` exactly if there is no pair.
 /// Of several such pairs the contract leaves open which it is. One with the greatest value is found by `max_by_key`, as
 /// in `winner`.
 pub fn cheapest(prices: &Map<u8, u32, 16>) -> Option<(u8, u32)>
@@ -182,12 +189,12 @@ pub fn take_cheapest(prices: &mut Map<u8, u32, 16>) -> Option<(u8, u32)>
 /// It returns the pair that was taken out, if any.
 pub fn set_evicting(prices: &mut Map<u8, u32, 16>, key: u8, price: u32) -> Option<(u8, u32)>
     ensures fit { IsTrue (fits nat_eq 16 prices.old key) → prices.new ≡ put nat_eq prices.old key price }
+    ensures least { IfSome result (λ least. All (λ other. least.1 ≤ other.1) prices.old) }
     ensures evicted { IfSome result (λ least. prices.new ≡ put nat_eq (take_out nat_eq prices.old least.0) key price) }
     ensures none { IsNone result ↔ IsTrue (fits nat_eq 16 prices.old key) }
     ensures stored { at nat_eq prices.new key ≡ Some price }
 {
-    if prices.fits(&key) {
-        prices.insert(key, price);
+    if prices.put(key, price) {
         return None;
     }
     let least = take_cheapest(prices);

@@ -89,7 +89,7 @@ pub fn price_of(prices: &Map<u8, u32, 16>, basket: &[u8]) -> Option<u32>
 
 /// Adds each amount of a list to the total of its key.
 /// A total stays at the greatest number. New keys go last, in the order in which each first came. It returns `false`, and
-/// nothing changes, exactly if there would be more than 16 keys. From a map of no pair it makes the totals of the list.
+/// nothing changes, exactly if there would be more than 16 keys. From an empty map it makes the totals of the list.
 pub fn add_amounts(totals: &mut Map<u8, u32, 16>, amounts: &[(u8, u32)]) -> bool
     ensures totals { OnTrue result (totals.new ≡ merged nat_eq (sum_up_to (2 ^ 32 - 1)) totals.old amounts.now) }
     ensures refused { IsFalse result ↔ (16 < length (merged nat_eq (sum_up_to (2 ^ 32 - 1)) totals.old amounts.now)) }
@@ -97,17 +97,16 @@ pub fn add_amounts(totals: &mut Map<u8, u32, 16>, amounts: &[(u8, u32)]) -> bool
 {
     let mut sums = totals.copied();
     for (number, amount) in amounts {
-        if !sums.fits(number) {
+        let total = sums.get(number).copied().unwrap_or(0);
+        if !sums.put(*number, total.saturating_add(*amount)) {
             return false;
         }
-        let total = sums.get(number).copied().unwrap_or(0);
-        sums.insert(*number, total.saturating_add(*amount));
     }
     *totals = sums;
     true
 }
 
-/// Finds a key with the greatest value, as the winner of a vote, or `None` exactly if there is no pair.
+/// Finds a key with the greatest value, as the winner of a vote, or returns `None` exactly if there is no pair.
 /// Of several such keys the contract leaves open which it is.
 pub fn winner(counts: &Map<u8, usize, 16>) -> Option<(u8, usize)>
     ensures none { IsNone result ↔ (counts.now ≡ []) }

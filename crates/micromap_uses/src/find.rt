@@ -26,7 +26,7 @@ pub fn all_stored(set: &Set<u8, 16>, list: &[u8]) -> bool
     list.iter().all(|x| set.contains(x))
 }
 
-/// Finds the greatest value, or `None` if there is no pair.
+/// Finds the greatest value, or returns `None` if there is no pair.
 /// The least goes the same way, by `min()`. By `copied()` in the place of `map` the search doesn't find it. Of signed
 /// values it finds neither: take `max_by_key`, as `winner` does. An `unwrap_or` behind it stands in a second function.
 pub fn greatest(pairs: &Map<u8, u32, 16>) -> Option<u32>

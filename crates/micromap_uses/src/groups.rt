@@ -13,8 +13,9 @@ ghost use Rattle.micromap_uses.specs.Graphs.{is_closed};
 
 use micromap::{Map, Set};
 
-/// Groups a list: makes a map of the members of each key, or `None` exactly if there are more than 16 keys.
-/// A group has the members for which its set has room.
+/// Groups a list: makes a map of the members of each key, or returns `None` exactly if there are more than
+/// 16 keys.
+/// A group has the members for which its set has room. The line `_known` tells the proof that at most 16 keys are there.
 pub fn groups_of(list: &[(u8, u8)]) -> Option<Map<u8, Set<u8, 8>, 16>>
     ensures groups { IfSome result (λ groups. groups ≡ merged nat_eq (with_item nat_eq 8) [] list.now) }
     ensures refused { IsNone result ↔ (16 < distinct_count nat_eq (keys_of list.now)) }
@@ -24,17 +25,14 @@ pub fn groups_of(list: &[(u8, u8)]) -> Option<Map<u8, Set<u8, 8>, 16>>
         if !groups.fits(group) {
             return None;
         }
-        groups
-            .entry(*group)
-            .or_insert(Set::new())
-            .checked_insert(*member);
+        groups.entry(*group).or_default().put(*member);
     }
     let _known = groups.len();
     Some(groups)
 }
 
 /// Adds an item to the set of a key, as in a multimap; the set is made if the key is new.
-/// It returns whether both fit, and else changes nothing. Of `&str` keys and items the clauses have `str_eq`.
+/// It returns whether both fit. Otherwise nothing changes. Of `&str` keys and items the clauses have `str_eq`.
 pub fn join(groups: &mut Map<u8, Set<u8, 8>, 16>, group: u8, member: u8) -> bool
     ensures answer { result ≡ (item_fits nat_eq 8 (unwrap_or (at nat_eq groups.old group) []) member && fits nat_eq 16 groups.old group) }
     ensures groups { groups.new ≡ (if result then put nat_eq groups.old group (put_item nat_eq (unwrap_or (at nat_eq groups.old group) []) member) else groups.old) }
@@ -43,11 +41,7 @@ pub fn join(groups: &mut Map<u8, Set<u8, 8>, 16>, group: u8, member: u8) -> bool
         Some(members) => members.copied(),
         None => Set::new(),
     };
-    if !members.fits(&member) {
-        return false;
-    }
-    members.insert(member);
-    groups.put(group, members)
+    members.put(member) && groups.put(group, members)
 }
 
 /// Counts the items of all sets of a map.
@@ -63,7 +57,7 @@ fn is_empty_group(groups: &Map<u8, Set<u8, 8>, 16>, group: u8) -> bool
     ensures { result ≡ nat_eq (length (unwrap_or (at nat_eq groups.now group) [])) 0 }
 {
     match groups.get(&group) {
-        Some(members) => members.len() == 0,
+        Some(members) => members.is_empty(),
         None => true,
     }
 }
@@ -110,7 +104,7 @@ pub fn pour(from: &mut Set<u8, 16>, into: &mut Set<u8, 8>)
     ensures poured { into.new ≡ fold (put_item_if_fits nat_eq 8) into.old from.old }
 {
     while let Some(item) = from.pop_first() {
-        into.checked_insert(item);
+        into.put(item);
     }
 }
 
@@ -160,16 +154,11 @@ pub fn reached_from(graph: &Map<u8, Set<u8, 8>, 64>, start: u8) -> Option<Set<u8
     ensures refused { IsNone result → (s : List ℕ) → is_member nat_eq s start ≡ true → is_closed graph.now s ≡ true → 64 < length s }
 {
     let mut met: Set<u8, 64> = Set::new();
-    if !met.fits(&start) {
-        return None;
-    }
     met.insert(start);
     while let Some(node) = next_node(graph, &met) {
-        if !met.fits(&node) {
-            let _known = met.len();
+        if !met.put(node) {
             return None;
         }
-        met.insert(node);
     }
     Some(met)
 }

@@ -10,7 +10,6 @@ pub mod groups;
 pub mod make;
 pub mod merge;
 pub mod own_types;
-pub mod passing;
 pub mod registers;
 pub mod scopes;
 pub mod texts;

@@ -29,7 +29,7 @@ pub fn fill_in(settings: &mut Map<u16, u32, 32>, defaults: &Map<u16, u32, 16>)
 {
     for (key, value) in defaults {
         if !settings.contains_key(key) {
-            settings.checked_insert(*key, *value);
+            settings.put(*key, *value);
         }
     }
 }
@@ -45,10 +45,7 @@ pub fn add_map(totals: &mut Map<u8, u32, 32>, amounts: &Map<u8, u32, 16>) -> boo
     let mut sums = totals.copied();
     for (number, amount) in amounts {
         let total = sums.get(number).copied().unwrap_or(0);
-        if sums
-            .checked_insert(*number, total.saturating_add(*amount))
-            .is_none()
-        {
+        if !sums.put(*number, total.saturating_add(*amount)) {
             return false;
         }
     }
@@ -56,7 +53,7 @@ pub fn add_map(totals: &mut Map<u8, u32, 32>, amounts: &Map<u8, u32, 16>) -> boo
     true
 }
 
-/// Makes a set of the union of two sets, or an error exactly if it has more than 16 items.
+/// Makes a set of the union of two sets, or returns an error exactly if it has more than 16 items.
 /// Difference and symmetric difference go the same way, by their words.
 pub fn set_of_union(a: &Set<u8, 16>, b: &Set<u8, 16>) -> Result<Set<u8, 16>, Overfull>
     ensures made { IfOk result (λ s. s ≡ union nat_eq a.now b.now) }

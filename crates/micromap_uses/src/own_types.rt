@@ -31,13 +31,12 @@ pub struct Square {
 }
 
 /// Puts a value at a key that is a struct, as a piece on a board, if it fits.
-/// It returns the value, or `None` if it doesn't fit.
-pub fn place(board: &mut Map<Square, char, 64>, square: Square, piece: char) -> Option<char>
-    ensures answer { result ≡ (if fits ⟦<Square as PartialEq>⟧.eq 64 board.old square then Some piece else None) }
+/// It returns whether it fits.
+pub fn place(board: &mut Map<Square, char, 64>, square: Square, piece: char) -> bool
+    ensures answer { result ≡ fits ⟦<Square as PartialEq>⟧.eq 64 board.old square }
     ensures board { board.new ≡ put_if_fits ⟦<Square as PartialEq>⟧.eq 64 board.old square piece }
 {
-    board.checked_insert(square, piece)?;
-    Some(piece)
+    board.put(square, piece)
 }
 
 // Adds the time of a leg, if it is stored and the sum fits.
@@ -151,10 +150,10 @@ pub fn enrol(places: &mut Map<Course, u16, 8>, course: Course, student: u16) -> 
     if places.contains_key(&course) {
         return Err(Refusal::Taken);
     }
-    match places.checked_insert(course, student) {
-        Some(_) => Ok(()),
-        None => Err(Refusal::Full),
+    if !places.put(course, student) {
+        return Err(Refusal::Full);
     }
+    Ok(())
 }
 
 /// A guest. Two guests are equal by `==` if their numbers are, whatever their tables.
@@ -182,11 +181,11 @@ impl Eq for Guest {
 
 /// Puts a value at a key with an `==` of one's own, which reads one field.
 /// The type says its `==` and proves the laws of it. The contract says what `b` finds then.
-pub fn put_guest(map: &mut Map<Guest, u8, 8>, a: Guest, b: &Guest) -> Option<u8>
+pub fn put_guest(map: &mut Map<Guest, u8, 8>, a: Guest, value: u8, b: &Guest) -> Option<u8>
     requires { IsTrue (fits (on (λ k. k.number) nat_eq) 8 map.old a) }
-    ensures { result ≡ (if nat_eq a.number b.now.number then Some 1 else at (on (λ k. k.number) nat_eq) map.old b.now) }
+    ensures { result ≡ (if nat_eq a.number b.now.number then Some value else at (on (λ k. k.number) nat_eq) map.old b.now) }
 {
-    map.insert(a, 1);
+    map.insert(a, value);
     map.get(b).copied()
 }
 
@@ -230,7 +229,7 @@ impl Model for Stock {
 }
 
 impl Stock {
-    /// Creates a stock of no article.
+    /// Creates an empty stock.
     pub fn new() -> Self
         ensures { result ≡ [] }
     {

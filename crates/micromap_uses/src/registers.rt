@@ -1,9 +1,9 @@
 //! A struct of one's own around a map, generic in key and value.
 #![tactic(auto, using(micromap::proofs::Rules::calls))]
 
-ghost use Rattle.std.specs.Prelude.{◌≡◌, ◌↔◌, [], length, IsTrue};
+ghost use Rattle.std.specs.Prelude.{◌≡◌, ◌↔◌, [], IsTrue, length};
 ghost use Rattle.std.specs.Option.{option_copied};
-ghost use Rattle.micromap.specs.Pairs.{IsContent, at, fits, has, put_if_fits, take_out};
+ghost use Rattle.micromap.specs.Pairs.{IsContent, at, fits, put_if_fits, take_out};
 
 use micromap::Map;
 use std::marker::Model;
@@ -53,13 +53,6 @@ impl<K: Eq, V, const N: usize> Register<K, V, N> {
         ensures { option_copied result ≡ at K.eq self.now key.now }
     {
         self.entries.get(key)
-    }
-
-    /// Returns `true` if the key is there.
-    pub fn has(&self, key: &K) -> bool
-        ensures { result ≡ has K.eq self.now key.now }
-    {
-        self.entries.contains_key(key)
     }
 }
 

@@ -1,7 +1,7 @@
 //! Texts as keys, items or values: owned ones (`TextBuf`, `String`), borrowed ones (`&str`), JSON and printing.
 #![tactic(auto, using(micromap::proofs::Rules::caller))]
 
-ghost use Rattle.std.specs.Prelude.{◌≡◌, ◌↔◌, ◌+◌, ◌-◌, ◌<◌, ◌^◌, [], ℕ, ℤ, IfErr, IfOk, IsFalse, IsNone, List, None, Ok, OnErr, Some, filter, fold, if◌then◌else◌, length, map, min, not, string_bytes, unwrap_or};
+ghost use Rattle.std.specs.Prelude.{◌≡◌, ◌↔◌, ◌+◌, ◌-◌, ◌<◌, ◌^◌, [], ℕ, ℤ, IfErr, IfOk, IsFalse, IsNone, List, None, Ok, OnErr, Some, filter, fold, length, map, min, not, string_bytes, unwrap_or};
 ghost use Rattle.std.proofs.lemmas.Cmp.{nat_list_eq_equiv};
 ghost use Rattle.std.specs.Bool.{OnTrue};
 ghost use Rattle.std.specs.Borrow.{Bor};
@@ -44,7 +44,7 @@ pub fn set_age(
     Ok(ages.put(name, age))
 }
 
-/// Removes the pair of a text, and knows that it is gone.
+/// Removes the pair of a text, which isn't found then.
 /// Of `&str` keys this is `lookup (is_str name.now) ages.new ≡ None`.
 pub fn forget(ages: &mut Map<TextBuf, u8, 16>, name: &str) -> Option<u8>
     ensures old { result ≡ at bytes_eq ages.old name.now }
@@ -67,7 +67,8 @@ pub fn first_age<'a>(layers: &'a [Map<TextBuf, u32, 16>], name: &str) -> Option<
     None
 }
 
-/// Copies settings with others put over them, by a loop that clones each text, or refuses if they don't all fit.
+/// Copies settings with others put over them, by a loop that clones each text, or returns `Ok(None)` exactly if
+/// they don't all fit.
 pub fn merged_settings(
     settings: &Map<TextBuf, TextBuf, 32>,
     other: &Map<TextBuf, TextBuf, 16>,
@@ -77,24 +78,23 @@ pub fn merged_settings(
 {
     let mut merged = settings.clone()?;
     for (name, value) in other {
-        if !merged.fits(name) {
+        if !merged.put(name.clone()?, value.clone()?) {
             return Ok(None);
         }
-        merged.insert(name.clone()?, value.clone()?);
     }
     Ok(Some(merged))
 }
 
-/// Copies the texts of a list into a set, or refuses if they don't all fit.
+/// Copies the texts of a list into a set, or returns `Ok(None)` exactly if more than 16 are distinct.
 pub fn names_of(alloc: Global, list: &[&str]) -> Result<Option<Set<TextBuf, 16>>, AllocError>
-    ensures { IfOk result (λ answer. IfSome answer (λ new. new ≡ put_all_items bytes_eq [] (map (λ name. name.now) list.now))) }
+    ensures made { IfOk result (λ answer. IfSome answer (λ new. new ≡ put_all_items bytes_eq [] (map (λ name. name.now) list.now))) }
+    ensures refused { IfOk result (λ answer. IsNone answer ↔ (16 < length (put_all_items bytes_eq [] (map (λ name. name.now) list.now)))) }
 {
     let mut names = Set::new();
     for name in list {
-        if !names.fits_by(&Text(*name)) {
+        if !names.put(TextBuf::new(alloc, *name)?) {
             return Ok(None);
         }
-        names.insert(TextBuf::new(alloc, *name)?);
     }
     Ok(Some(names))
 }
@@ -144,25 +144,6 @@ pub fn count_words_in<'a>(text: &'a str) -> Option<Map<&'a str, usize, 64>>
     ensures { (split : _) × (words : _) × (split_whitespace_rest split ≡ text.now) × Drains split_whitespace_steps split words × (result ≡ counts_or_refuse str_eq 64 words) }
 {
     Map::counts_of(text.split_whitespace())
-}
-
-/// Lists the words of a list that are no value of a map, by a closure that has a chain of its own.
-pub fn unused_words<'a>(
-    alloc: Global,
-    words: &[&'a str],
-    bindings: &Map<&str, &str, 16>,
-) -> Result<Vec<&'a str>, AllocError>
-    ensures { IfOk result (λ list. list.items ≡ filter (λ word. list_all (λ used. not (str_eq used word)) (values_of bindings.now)) words.now) }
-{
-    words
-        .iter()
-        .copied()
-        .filter(
-            |word: &&str| -> bool
-                ensures { result ≡ list_all (λ used. not (str_eq used word.now)) (values_of bindings.entry.now) }
-            { bindings.values().all(|used| *used != *word) },
-        )
-        .collect(alloc)
 }
 
 // Returns whether all of these words are keys.
@@ -228,8 +209,8 @@ pub fn text_of_amounts(alloc: Global, amounts: &Map<u8, u8, 16>) -> Result<Strin
     format!(in alloc; "{amounts}")
 }
 
-/// Matches the key that is this text in small letters.
-/// Two keys that match one probe must be equal. So the keys are in small letters, and the probe folds only its text.
+/// Matches the key that is this text in lowercase.
+/// Two keys that match one probe must be equal. So the keys are in lowercase, and the probe folds only its text.
 #[derive(Clone, Copy)]
 pub struct AnyCase<'a>(pub &'a str);
 
@@ -245,7 +226,7 @@ impl<'a> Probe<TextBuf> for AnyCase<'a> {
     }
 }
 
-// Whether the second text is the first in small letters.
+// Whether the second text is the first in lowercase. By `eq` of two chains the search finds no proof.
 fn is_folded(text: &[u8], folded: &[u8]) -> bool
     ensures { result ≡ bytes_eq (str_to_ascii_lowercase text.now) folded.now }
 {
@@ -258,7 +239,7 @@ fn is_folded(text: &[u8], folded: &[u8]) -> bool
     }
 }
 
-/// Finds a value by a text in any case, as of a header, where keys are in small letters.
+/// Finds a value by a text in any case, as of a header, where keys are in lowercase.
 pub fn age_of(ages: &Map<TextBuf, u8, 16>, name: &str) -> Option<u8>
     ensures { result ≡ at bytes_eq ages.now (str_to_ascii_lowercase name.now) }
 {

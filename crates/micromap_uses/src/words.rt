@@ -1,17 +1,15 @@
-//! Words of a text: a loop that takes one after the other off its front, and a set of them.
+//! Words of a text as a set: by a loop that takes one after the other off its front, and by `split_whitespace`.
 #![tactic(auto, using(micromap::proofs::Rules::caller))]
 
-ghost use Rattle.std.specs.Prelude.{◌≡◌, ◌↔◌, ◌-◌, ◌<◌, ◌^◌, ◌∷◌, [], IfSome, IsNone, length, if◌then◌else◌, map, nat_lt};
+ghost use Rattle.std.specs.Prelude.{◌≡◌, ◌↔◌, ◌<◌, ◌∷◌, IfSome, IsNone, length, if◌then◌else◌, nat_lt};
 ghost use Rattle.std.specs.Iterator.{Drains};
 ghost use Rattle.std.specs.Str.{bytes_eq};
 ghost use Rattle.std.specs.Str.Iter.{split_whitespace_rest, split_whitespace_steps};
-ghost use Rattle.micromap.specs.Build.{merged};
 ghost use Rattle.micromap.specs.Extend.{distinct, distinct_or_refuse};
-ghost use Rattle.micromap.specs.Merges.{sum_up_to};
-ghost use Rattle.micromap.specs.Texts.{item_strs, key_strs, str_eq};
+ghost use Rattle.micromap.specs.Texts.{item_strs, str_eq};
 ghost use Rattle.micromap_uses.specs.Words.{words};
 
-use micromap::{Map, Set};
+use micromap::Set;
 
 // Cuts a text at its first space: gives what is before it, which may be empty, and what is behind it.
 #[tactic(auto, using(crate::proofs::WordLaws::words_none))]
@@ -36,40 +34,12 @@ pub fn words_of<'a>(text: &'a str) -> Option<Set<&'a str, 16>>
     let mut rest = text;
     while !rest.is_empty() {
         let (word, after) = cut(rest);
-        if !word.is_empty() {
-            if !found.fits(&word) {
-                return None;
-            }
-            found.insert(word);
+        if !word.is_empty() && !found.put(word) {
+            return None;
         }
         rest = after;
     }
     Some(found)
-}
-
-/// Counts the words of a text, by a loop that takes one after the other off its front.
-/// A count stays at the greatest number. It returns `None` exactly if more than 16 are distinct. The words are what
-/// stands between spaces.
-#[tactic(auto, using(crate::proofs::WordLaws::map_of_words))]
-pub fn word_counts<'a>(text: &'a str) -> Option<Map<&'a str, u32, 16>>
-    ensures counted { IfSome result (λ m. key_strs m ≡ merged bytes_eq (sum_up_to (2 ^ 32 - 1)) [] (map (λ word. (word, 1)) (words text.now))) }
-    ensures refused { IsNone result ↔ (16 < length (merged bytes_eq (sum_up_to (2 ^ 32 - 1)) [] (map (λ word. (word, 1)) (words text.now)))) }
-{
-    let mut counts: Map<&'a str, u32, 16> = Map::new();
-    let mut rest = text;
-    while !rest.is_empty() {
-        let (word, after) = cut(rest);
-        if !word.is_empty() {
-            if !counts.fits(&word) {
-                let _known = counts.len();
-                return None;
-            }
-            let count = counts.get(&word).copied().unwrap_or(0);
-            counts.insert(word, count.saturating_add(1));
-        }
-        rest = after;
-    }
-    Some(counts)
 }
 
 /// Collects the words of a text into a set, or returns `None` exactly if more than 16 are distinct.
