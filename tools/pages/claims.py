@@ -17,13 +17,14 @@ Every clause is proved, but may say too little. So wrong bodies are tried, which
 
 TOTALS
 
-These are CLAUSES clauses: those of `ensures` of public calls, the ghost members of impls and the laws of traits. GOOD have the grade A: PLAIN without a mark, DAGGER with `†`, QUERY with `?`, and BOTH with both. A clause counts once, by its best grade, and by an edit if a planted body has no better one. Impls of one name count once too, as `Probe for Text` for three types of key, or `IntoIterator for Map`, whose A is of the one by value. Not counted are LAWS clauses that mention neither a result nor a state afterwards, so that no body breaks them, and CONTENT of the name `content`, which say the invariant of a map or a set.
+These are CLAUSES clauses: those of `ensures` of public calls, the ghost members of impls and the laws of traits. A clause counts once, by its best grade, and by an edit if a planted body has no better one. Impls of one name count once too, as `Probe for Text` for three types of key, or `IntoIterator for Map`, by value and by reference. Not counted are those of `micromap_walk::slot`, LAWS clauses that mention neither a result nor a state afterwards, so that no body breaks them, and CONTENT of the name `content`, which say the invariant of a map or a set.
 
 - A refusal shows only that no proof was found. Some edits are refused at a clause that they keep, as `set_insert_replaces_the_item` at `answer`.
-- `†`: each wrong body that gives this A gives up, or has a branch or a call that the right one lacks. A right body of its form may be refused too. The same may be so with each B.
+- `†`: each wrong body that gives this A is planted and gives up, or has a branch or a call that the right one lacks. A right body of its form may be refused too. The same may be so with each B.
 - `?`: the goal names none of the call's several clauses, so another may have failed. VAGUE clauses of the grades A and B have it.
+- GOOD clauses have the grade A: PLAIN without a mark, DAGGER with `†`, QUERY with `?`, and BOTH with both.
 - Some edits add a bound, a law or a function. The right body isn't tried with these.
-- The contract and the body are as they were tried. An attribute, a ghost member, a definition or a proof may have changed since. The gate tries again only GATE edits, those in `must-fail/`.
+- The contract and the body are as they were tried. An attribute, a called function's contract, a ghost member, a definition or a proof may have changed since. The gate tries again only GATE edits, those in `must-fail/`.
 
 ## Comparisons and operations on sets
 
@@ -33,9 +34,9 @@ HEADLINE
 
 ## The other calls
 
-A clause leads to its strongest edits, or else to its call's planted bodies. [`goals.tsv`](goals.tsv) has a row for each edit, by the name behind `# edit:` or of its file: a checksum, the goals of the contract or else one other, and `proved` or `open` if a right body was tried, by `# right:` or without its written proof. There `-clause-old,pairs` stands for two goals, and `written:` means that a proof by hand no longer fits.
+A clause leads to its strongest edits, or else to its call's planted bodies. [`goals.tsv`](goals.tsv) has a row for each edit, by the name behind `# edit:` or of its file: a checksum, the goals of the contract or else one other, and `proved` or `open` if a right body was tried, by `# right:` or without its written proof. There `-clause-old,pairs` stands for two goals.
 
-A row of [`planted.tsv`](planted.tsv) has a checksum, then bodies with their goals, or `refused` if these weren't recorded. THROUGH
+A row of [`planted.tsv`](planted.tsv) has a checksum, then bodies with their goals. THROUGH
 
 The gate also tries edits that are the strongest for no clause, each with the grade that it would give, or `-` if its clause isn't counted: WEAKER.
 
@@ -45,13 +46,13 @@ OTHERS
 """
 # What the strongest refusal for a clause shows.
 GRADES = {
-    "A": "a wrong body is refused at a goal of the clause, which the search proves of the right body, or of another right body of that form",
+    "A": "a wrong body is refused at a goal of the clause, which the prover proves by itself of the right body, or of another right body of that form",
     "B": "a wrong body is refused at a goal of the clause, which the right body needs a proof by hand for",
     "C": "an edit is refused at another clause of the call's contract, and this one has a proof by hand",
     "D": "an edit of an inner function, on which the call rests, is refused at that function's contract",
     "E": "an edit is refused at the invariant of a loop, or at what a call requires",
     "F": "an edit is refused, but so is a right body of that form; or a loop has no invariant, so that nothing is known of what it changed; or only a proof by hand no longer fits",
-    "P": "a planted body is refused at another clause, or at a goal that is of no clause or isn't recorded",
+    "P": "a planted body is refused at another clause, or at a goal that is of no clause",
     "none": "no edit was written for the clause, and no refusal of a planted body is recorded",
 }
 # The words of the head for how many have the grade A with these marks.
@@ -221,7 +222,7 @@ class Claims:
             "VAGUE": sum(map(self.is_vague, self.best)),
             "GATE": sum("/must-fail/" in it.path for it in self.claims),
             "WEAKER": ", ".join(self.weaker()),
-            "THROUGH": f"{len(self.planted.keys() & calls)} of {len(calls)} calls have bodies there, " + (f"of which one of {', '.join(through)} was let through." if through else "none of which was let through. `rt plant` made none of the others that could be judged."),
+            "THROUGH": f"{len(self.planted.keys() & calls)} of {len(calls)} calls have bodies there, " + (f"of which one of {', '.join(through)} was let through." if through else "none of which was let through, but for those that are right."),
             "HEADLINE": "\n".join(self.headline()),
             "OTHERS": "\n".join(self.others()),
         }

@@ -24,6 +24,7 @@ CONTRACT, SERVING, PROOF = range(3)
 ANSWER = re.compile(r"^(returns\S*) (?:\S+ )+=((?:.*\n)(?:^(?: .*)?\n)*)", re.M)
 # What the names of goals are made of: these, or the whole text where it has a call before a `?` or an operand.
 BRANCH, OPERAND = r"\b(?:if|match|while|for)\b[^{]*|\belse\b|\breturn\b|\S+ =>", r"&&|\|\||\?"
+BARS = r"((?:^|[(,=]|\bmove)\s*)\|[^|]*\|"  # those of a closure, behind what comes before one
 Row = collections.namedtuple("Row", "goals right")
 
 
@@ -250,14 +251,18 @@ def clause_in(goal):
     return named[1] if named else ""
 
 
-def branches(text):
+def branch_names(text):
     return text if re.search(OPERAND, text) else re.findall(BRANCH, text)
 
 
-def has_new_branch(edit):
+def branches(text):
+    return sorted(re.findall(f"{BRANCH}|{OPERAND}", re.sub(BARS, r"\1", text)))
+
+
+def has_new_branch(edit, of=branches):
     """Whether the body of an edit has a branch that the right one lacks, and no right body with that branch is told."""
     pairs = [it for it in pairs_of(edit.text) if it[0].startswith("src/")]
-    return not has_right(edit) and any(branches(old) != branches(new) for _, old, new, _ in pairs)
+    return not has_right(edit) and any(of(old) != of(new) for _, old, new, _ in pairs)
 
 
 def has_new_call(edit):
@@ -273,7 +278,7 @@ def is_fair(edit, row, goal, clause):
     if has_right(edit):
         return row.right == PROVED
     is_searched = not any(clause_in(it) in ("", clause) for it in answers_of(edit))
-    return is_searched or not has_new_branch(edit)
+    return is_searched or not has_new_branch(edit, branch_names)
 
 
 def stale_claims():
