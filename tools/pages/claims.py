@@ -13,23 +13,23 @@ HEAD = """# Claims
 
 Made by `tools/documents` from the sources, the edits, and what [`tools/claims`](MAINTAINING.md#edits) recorded.
 
-Every clause is proved, but may say too little. So wrong bodies are tried, which the check must refuse. A body is refused at *goals*, statements to be proved, which are [named](../crates/micromap/WHEN_A_CHECK_FAILS.md) for the clause. The check calls `next_gives` `steps`, `remaining` `goes`, `output` and `debug_output` `writes`, and `styled_output` `styled`. An *edit* is a wrong body that was written by hand against some clauses: a likely mistake, or a contrived one, as `if self.len() == 1 { return None; }`. A *planted* body is made by `rt plant` from a function's signature, and is coarser. It gives up, as `None`, or calls the right function, as `Self::get(..)`, twice, or with an argument, a field or the result changed. Of that call only the contract is known.
+Every clause is proved, but may say too little. So wrong bodies are tried, which the check must refuse. A body is refused at *goals*, statements to be proved, which are [named](../crates/micromap/WHEN_A_CHECK_FAILS.md) for the clause. In goals `next_gives` is `steps`, `remaining` is `goes`, `output` and `debug_output` are `writes`, and `styled_output` is `styled`. An *edit* is a wrong body that was written by hand against some clauses: a likely mistake, or a contrived one, as `if self.len() == 1 { return None; }`. A *planted* body is made by `rt plant` from a function's signature, and is coarser. It gives up, as `None`, or calls the right function, as `Self::get(..)`: twice, or with an argument, a field or the result changed. Of that call only the contract is known.
 
 TOTALS
 
-These are CLAUSES clauses: those of `ensures` of public calls, the ghost members of impls and the laws of traits. A clause counts once, by its best grade, and by an edit if a planted body has no better one. Impls of one name count once too, as `Probe for Text` for three types of key, or `IntoIterator for Map`, by value and by reference. Not counted are those of `micromap_walk::slot`, LAWS clauses that mention neither a result nor a state afterwards, so that no body breaks them, and CONTENT of the name `content`, which say the invariant of a map or a set.
+These are CLAUSES clauses: those of `ensures` of public calls, the ghost members of impls and the laws of traits. A clause counts once, by its best grade, and by an edit if a planted body has no better one. Impls of one name count once too, as `Probe for Text` for three types of key, or `IntoIterator for Map`, by value and by reference. Not counted are LAWS clauses, as `Set::union: unique`, that mention neither a result nor a state afterwards, so that no body breaks them, CONTENT of the name `content`, which say the invariant of a map or a set, and those of `micromap_walk::slot`.
 
 - A refusal shows only that no proof was found. Some edits are refused at a clause that they keep, as `set_insert_replaces_the_item` at `answer`.
-- `†`: each wrong body that gives this A is planted and gives up, or has a branch or a call that the right one lacks. A right body of its form may be refused too. The same may be so with each B.
+- `†`: each wrong body that gives this A is planted and gives up or branches, or is an edit with a branch or a call that the right one lacks. A right body of that form may be refused too, as with each B. A planted body that calls the function is tried only where the unchanged call is proved.
 - `?`: the goal names none of the call's several clauses, so another may have failed. VAGUE clauses of the grades A and B have it.
 - GOOD clauses have the grade A: PLAIN without a mark, DAGGER with `†`, QUERY with `?`, and BOTH with both.
 - Some edits add a bound, a law or a function. The right body isn't tried with these.
-- The contract and the body are as they were tried. An attribute, a called function's contract, a ghost member, a definition or a proof may have changed since. The gate tries again only GATE edits, those in `must-fail/`.
+- The contract and the body are as they were tried. An attribute, a called function's contract, a ghost member, a definition or a proof may have changed since. The gate tries again only GATE of EDITS edits, those in `must-fail/`.
 
 ## Comparisons and operations on sets
 
-Call | Clauses and grades | What is wrong in the body | Refused at, of these clauses
----|---|---|---
+Call | Clauses and grades | What is wrong in the body
+---|---|---
 HEADLINE
 
 ## The other calls
@@ -46,7 +46,7 @@ OTHERS
 """
 # What the strongest refusal for a clause shows.
 GRADES = {
-    "A": "a wrong body is refused at a goal of the clause, which the prover proves by itself of the right body, or of another right body of that form",
+    "A": "a wrong body is refused at a goal of the clause, which, or else the whole clause, the prover proves by itself of the right body, or of another right body of that form",
     "B": "a wrong body is refused at a goal of the clause, which the right body needs a proof by hand for",
     "C": "an edit is refused at another clause of the call's contract, and this one has a proof by hand",
     "D": "an edit of an inner function, on which the call rests, is refused at that function's contract",
@@ -55,6 +55,8 @@ GRADES = {
     "P": "a planted body is refused at another clause, or at a goal that is of no clause",
     "none": "no edit was written for the clause, and no refusal of a planted body is recorded",
 }
+# The clauses that a recorded planted body keeps, though it is refused at them.
+KEPT = {"Map::retain: order", "Set::retain: order", "map_from_json: pairs", "map_from_json: order"}
 # The words of the head for how many have the grade A with these marks.
 MARKS = {"PLAIN": "", "DAGGER": "†", "QUERY": "?", "BOTH": "†?"}
 # The calls of the first table of clauses.
@@ -136,7 +138,7 @@ class Claims:
         call, label, found = self.library[name].call, GHOSTS.get(label_of(name), label_of(name)), []
         own = rf"returns\S*-clause-{label or '-'}" + r"|returns((?!-clause-)\S)*" * (self.sizes[call] == 1)
         for body, said in self.planted.get(call, {}).items():
-            of_clause = any(re.fullmatch(own, it) for it in said.split())
+            of_clause = name not in KEPT and any(re.fullmatch(own, it) for it in said.split())
             is_fair = calls_itself(call, body) or not {"", label} & self.answered[call]
             found += [("P" if not of_clause else "A" if is_fair else "B", body)] * (said != PASSED)
         return min(found, key=lambda it: (it[0], not is_unbranched(call, it[1]), it), default=("none", ""))
@@ -154,16 +156,14 @@ class Claims:
     def headline(self):
         """Rows of the calls that matter most: each edit that is the best for some clauses, and the clauses that have none."""
         for call in HEADLINE:
-            clauses, goals = collections.defaultdict(list), collections.defaultdict(dict)
+            clauses = collections.defaultdict(list)
             for name in (it for it, clause in self.library.items() if clause.call == call):
                 grade, those, body = self.best[name]
-                whats = {f"[{it.said('wrong')[:1].upper()}{it.said('wrong')[1:]}](../{it.place})": self.rows[it] for it in those}
-                planted = Row(self.planted[call][body].split(), "") if body else Row([], "")
-                for what, row in (whats or {f"`{body}`" * bool(body): planted}).items():
+                whats = [f"[{it.said('wrong')[:1].upper()}{it.said('wrong')[1:]}](../{it.place})" for it in those]
+                for what in whats or [f"`{body}`" * bool(body)]:
                     clauses[what].append(f"`{label_of(name)}` {grade}{self.marks(name)}")
-                    goals[what] |= dict.fromkeys(goals_for(row, name) or (it for it in row.goals if not it.startswith(WRITTEN)))
             for what in sorted(clauses, key=lambda it: not it):
-                yield f"{self.linked(call)} | {', '.join(clauses[what])} | {what} | {', '.join(f'`{it}`' for it in goals[what])}"
+                yield f"{self.linked(call)} | {', '.join(clauses[what])} | {what}".rstrip()
 
     def others(self):
         """A row for each other call, with its clauses by their grades."""
@@ -221,8 +221,9 @@ class Claims:
             "CONTENT": self.laws.count("content"),
             "VAGUE": sum(map(self.is_vague, self.best)),
             "GATE": sum("/must-fail/" in it.path for it in self.claims),
+            "EDITS": len(self.claims),
             "WEAKER": ", ".join(self.weaker()),
-            "THROUGH": f"{len(self.planted.keys() & calls)} of {len(calls)} calls have bodies there, " + (f"of which one of {', '.join(through)} was let through." if through else "none of which was let through, but for those that are right."),
+            "THROUGH": f"{len(self.planted.keys() & calls)} of {len(calls)} calls have bodies there, " + (f"of which one of {', '.join(through)} was let through." if through else "all refused. Of the others none that was tried is known to be refused."),
             "HEADLINE": "\n".join(self.headline()),
             "OTHERS": "\n".join(self.others()),
         }
