@@ -3,16 +3,17 @@
 use Rattle.std.proofs.Common.{◌≡◌, ℕ, ◌<◌, ◌≤◌, Bool, true, false, List, [], ◌∷◌, length, Option, Some, None, option_map, option_and_then}
 use Rattle.std.proofs.Common.{ok_or, if◌then◌else◌, Result, Ok, Err, MatchResult, IfOk, IfErr, inr, int_eq, true≢false, lt-ltb, le-ltb}
 use Rattle.std.proofs.Common.{bytes_eq, string_bytes, string_cmp, string_eq, ℤ, refl, ap, sym, subst, ◌∙◌, arith}
-use Rattle.std.specs.{Cmp.IsEquivalence, Cmp.int_eq_equiv, Cmp.Lexicographic.nat_list_eq_equiv, List.IsDistinct, List.fold}
-use Rattle.std.specs.{List.Sorted.IsStrictlySortedBy, Map.keys_of, Result.is_ok, Result.result_map_both}
+use Rattle.std.specs.{Cmp.Lexicographic.nat_list_eq_equiv, List.IsDistinct, List.fold, List.Sorted.IsStrictlySortedBy, Map.keys_of}
+use Rattle.std.specs.Result.{is_ok, result_map_both}
 use Rattle.std.proofs.lemmas.{Map.Keys.IsDistinct-from_sorted, Map.Text.is_eq-slice_cmp}
 use Rattle.serde_json.{specs.View.members_view, proofs.Views.Entry}
-use Rattle.micromap_core.specs.{Build.build, Same.Same, Same.is_same, SameLaws.is_same_equiv}
+use Rattle.micromap_core.specs.{Build.build, Same.Same}
 use Rattle.micromap_core.specs.Texts.{item_texts, items_by, key_texts}
-use Rattle.micromap_core.proofs.{KeyedLemmas.built_in_turn, Laws.TextLaws.same_texts}
+use Rattle.micromap_core.proofs.{Laws.KeyedLemmas.built_in_turn, Laws.TextLaws.same_texts}
 use Rattle.micromap.specs.Json.{Bytes, HasPairs, IsFault, Pairs, and_then, items_for, pairs_for, whole_members}
 use Rattle.micromap.{specs.declared.json.JsonFault.JsonFault, proofs.Laws.SetTextLaws.unique_item_texts}
 use Rattle.micromap.specs.declared.json.JsonFault.TheVariants.{Memory, NotWhole, TooMany}
+use Rattle.micromap.proofs.Laws.JsonLemmas.{bytes_equiv}
 
 pub few : {X : Type 0} (N : ℕ) (xs : List X) → length xs ≤ N → items_for N xs ≡ Ok xs
 few N xs short = ap (λ b. if b then Err TooMany else Ok xs) (le-ltb N (length xs) short)
@@ -89,9 +90,6 @@ members_built N es sorted = by (whole_members (members_view es)) refl
     by None is = refl
     by (Some ps) is = ap (items_for N) (built_in_turn nat_list_eq_equiv [] ps
         (subst (IsDistinct bytes_eq) (sym (names_kept es ps is)) names))
-
-pub bytes_equiv : IsEquivalence (is_same bytes_eq int_eq)
-bytes_equiv = is_same_equiv nat_list_eq_equiv int_eq_equiv
 
 -- a map of what the text has has its pairs, and is the same map for each that it has
 pub map_read : (N : ℕ) (text : Bytes) (result : Result Pairs JsonFault)

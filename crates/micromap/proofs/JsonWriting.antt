@@ -1,26 +1,22 @@
 -- A loop that writes a map's pairs as the members of an object, or a set's items as the elements of an array.
-use Rattle.std.proofs.Common.{◌≡◌, ℕ, suc, ◌≤◌, Bool, true, false, ◌||◌, List, [], ◌∷◌, ◌++◌, length, map, Some}
-use Rattle.std.proofs.Common.{option_map, Ok, nat_cmp, String, Global, string_bytes, bytes_eq, ℤ, refl, ap}
-use Rattle.std.proofs.Common.{sym, subst, ◌∙◌, arith, int_eq}
-use Rattle.std.specs.{BTreeMap.insert_entry, Cmp.first_so, Cmp.Derive.both_true}
-use Rattle.std.specs.{Cmp.Lexicographic.nat_list_eq_equiv, Cmp.Lexicographic.slice_cmp, List.IsDistinct, List.list_all, List.list_any}
-use Rattle.std.specs.{Map.keys_of, Set.is_member, String.string_eq, String.string_eq_equiv}
+use Rattle.std.proofs.Common.{◌≡◌, ℕ, ◌≤◌, Bool, false, List, [], ◌∷◌, ◌++◌, length, map, Some, option_map, Ok, String, Global}
+use Rattle.std.proofs.Common.{string_bytes, ℤ, refl, ap, sym, subst, ◌∙◌, arith}
+use Rattle.std.specs.{Cmp.Lexicographic.nat_list_eq_equiv, List.IsDistinct, List.list_any, Map.keys_of, String.string_eq}
+use Rattle.std.specs.String.{string_eq_equiv}
 use Rattle.std.proofs.lemmas.List.{append_assoc, append-nil, length_push, map-append, map_push}
-use Rattle.std.proofs.lemmas.{List.Folds.list_any-append, List.Sums.fold_push, Map.Text.is_eq-slice_cmp}
-use Rattle.serde_json.specs.Data.{Data, null, boolean, number, string, array, object, unsigned, negative, float}
-use Rattle.serde_json.specs.Data.{Members, no_members, member, depth, items_depth, members_depth, put}
+use Rattle.std.proofs.lemmas.{List.Folds.list_any-append, List.Sums.fold_push}
+use Rattle.serde_json.specs.Data.{Data, null, boolean, number, string, array, object, unsigned, negative, float, Members, no_members}
+use Rattle.serde_json.specs.Data.{member, depth, items_depth, members_depth, put}
 use Rattle.serde_json.specs.{Find.of_integer, Read.read, Read.max_depth, View.view, View.items_of, View.items_view}
 use Rattle.serde_json.specs.Written.{compact_text, has_float, items_have_float, members_have_float}
 use Rattle.serde_json.specs.declared.value.Value.{Value}
 use Rattle.micromap.specs.Json.{Bytes, HasPairs, Pairs, all_texts, elements, members, texts_for, whole_number, whole_members}
-use Rattle.micromap_core.specs.Same.{Same, pair_eq}
 use Rattle.micromap_core.specs.Texts.{item_texts, items_by, key_texts, texts_by}
-use Rattle.micromap_core.proofs.{DistinctLemmas.new_behind, Walked.walk_goes_on, Walked.walk_seam, Walked.Walked}
-use Rattle.micromap.proofs.{AddedItems.added_all, Laws.SetTextLaws.length_item_texts, Laws.SetTextLaws.unique_item_texts}
-use Rattle.micromap.proofs.JsonReading.{bytes_equiv, few}
-
-abbrev insert : List (Bytes × ℤ) → Bytes → ℤ → List (Bytes × ℤ)
-insert = insert_entry (slice_cmp nat_cmp)
+use Rattle.micromap_core.proofs.Laws.DistinctLemmas.{new_behind}
+use Rattle.micromap_walk.proofs.Laws.Walked.{walk_goes_on, walk_seam, Walked}
+use Rattle.micromap.proofs.{Laws.AddedItems.added_all, Laws.SetTextLaws.length_item_texts, Laws.SetTextLaws.unique_item_texts}
+use Rattle.micromap.proofs.JsonReading.{few}
+use Rattle.micromap.proofs.Laws.JsonLemmas.{insert, Lacks, any-insert, length-insert, any-names, same_items}
 
 module _ (k : Bytes) (d : Data) (n : ℤ) (is : whole_number d ≡ Some n) where
   whole-put : (ms : Members) (ps : List (Bytes × ℤ)) → whole_members ms ≡ Some ps → whole_members (put k d ms) ≡ Some (insert ps k n)
@@ -42,25 +38,6 @@ members-flat : (ms : Members) (ps : List (Bytes × ℤ)) → whole_members ms �
     → (members_depth ms ≡ 0) × (members_have_float ms ≡ false)
 members-flat no_members ps whole = (refl, refl)
 members-flat (member k d ms) ps whole = grind (arith, whole, whole-flat d, members-flat ms)
-
--- no pair has this name
-abbrev Lacks : List (Bytes × ℤ) → Bytes → Type 0
-Lacks ps k = list_any (λ p. bytes_eq k p.0) ps ≡ false
-
-any-insert : (test : Bytes × ℤ → Bool) (ps : List (Bytes × ℤ)) (k : Bytes) (n : ℤ) → Lacks ps k
-    → list_any test (insert ps k n) ≡ (test (k, n) || list_any test ps)
-any-insert test [] k n new = refl
-any-insert test (p ∷ ps) k n new = grind (arith, new, any-insert test ps k n, is_eq-slice_cmp k p.0)
-
-length-insert : (ps : List (Bytes × ℤ)) (k : Bytes) (n : ℤ) → Lacks ps k → length (insert ps k n) ≡ suc (length ps)
-length-insert [] k n new = refl
-length-insert (p ∷ ps) k n new = grind (arith, new, length-insert ps k n, is_eq-slice_cmp k p.0)
-
-any-names : (k : String Global) (pairs : Pairs) → list_any (λ p. bytes_eq (string_bytes k) p.0)
-    (key_texts pairs) ≡ is_member string_eq (keys_of pairs) k
-unfolding texts_by
-any-names k [] = refl
-any-names k (p ∷ pairs) = ap (λ b. bytes_eq (string_bytes k) (string_bytes p.0) || b) (any-names k pairs)
 
 -- the members of these pairs
 pub record HasWritten (ms : Members) (before : Pairs) : Type 0 where
@@ -98,16 +75,6 @@ writes_one {ms} {after} {rest} {later} {all} {k} {n} d walked distinct next seen
       );
       count = omega (arith, has.count, length-insert has.pairs (string_bytes k) n new, length_push before (k, n));
     })
-
--- lists that have the same items by any test
-same_items : (first second : List (Bytes × ℤ)) → ((test : Bytes × ℤ → Bool) → list_any test second ≡ list_any test first)
-    → Same bytes_eq int_eq first second
-same_items first second same =
-    let one : list_all (λ x. list_any (pair_eq bytes_eq int_eq x) second) first ≡ true =
-    ap (λ found. list_all found first) (λ i x. same (pair_eq bytes_eq int_eq x) i) ∙ first_so _ _ (bytes_equiv.refl first) in
-    let other : list_all (λ y. list_any (pair_eq bytes_eq int_eq y) first) second ≡ true =
-    sym (ap (λ found. list_all found second) (λ i x. same (pair_eq bytes_eq int_eq x) i)) ∙ first_so _ _ (bytes_equiv.refl second) in
-    both_true one other
 
 module _ {ms : Members} {all : Pairs} (text : Bytes) (has : HasWritten ms all) where
   flat : (members_depth ms ≡ 0) × (members_have_float ms ≡ false)

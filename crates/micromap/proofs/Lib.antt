@@ -1,15 +1,12 @@
-pub mod Laws
-pub mod AddedItems
-pub mod ExtendLemmas
 pub mod Forwarded
-pub mod ItemLemmas
 pub mod JsonReading
 pub mod JsonWriting
-pub mod OperationLaws
-pub mod OperationSteps
-pub mod RetainItems
+pub mod Laws
 pub mod Rules
-pub mod SetStreamLemmas
-pub use Rattle.micromap_core.proofs.ClosureLemmas
-pub use Rattle.micromap_core.proofs.DistinctLemmas
-pub use Rattle.micromap_core.proofs.FairLemmas
+-- older paths of laws, which callers may have written
+pub use Rattle.micromap.proofs.Laws.ItemLemmas
+pub use Rattle.micromap.proofs.Laws.OperationLaws
+pub use Rattle.micromap.proofs.Laws.SetStreamLaws as SetStreamLemmas
+pub use Rattle.micromap_core.proofs.Laws.ClosureLaws as ClosureLemmas
+pub use Rattle.micromap_core.proofs.Laws.SublistLaws as DistinctLemmas
+pub use Rattle.micromap_core.proofs.Laws.FairLemmas

@@ -11,6 +11,7 @@ mod clone;
 mod closures;
 mod compare;
 mod insert;
+mod iter;
 mod lookup;
 mod operations;
 mod print;
@@ -19,12 +20,11 @@ mod relation;
 mod remove;
 mod stream;
 mod texts;
-mod walk;
 
 use crate::Map;
+pub use iter::{Drain, IntoIter, Iter};
 pub use operations::{Difference, DifferenceRef, Intersection, SymmetricDifference, Union};
 use std::marker::Model;
-pub use walk::{Drain, IntoIter, Iter};
 
 /// A set of at most `N` distinct items, which are found by `==`, from the front.
 ///
@@ -44,7 +44,7 @@ pub struct Set<T: Eq, const N: usize> {
 
 // Returns the item of an entry of a set's map.
 #[inline]
-fn item_of<T>(entry: Option<(T, ())>) -> Option<T>
+fn item_of_entry<T>(entry: Option<(T, ())>) -> Option<T>
     ensures { result ≡ option_map (λ e. e.0) entry }
 {
     let (item, _) = entry?;

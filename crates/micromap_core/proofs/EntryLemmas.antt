@@ -1,12 +1,12 @@
 -- The entry of a stored key, the entry of a new key, and an entry after its value is written.
-use Rattle.std.proofs.Common.{◌≡◌, ℕ, [], ◌∷◌, ◌++◌, ◌∙◌, append-nil, length, refl, set-set, slice_get, sym, Bool, List, MutBor, None, Some}
-use Rattle.std.proofs.{Math.Seq.set-append_seam, lemmas.Option.slice_get_within}
+use Rattle.std.proofs.Common.{◌≡◌, ℕ, [], ◌∷◌, ◌++◌, ◌∙◌, append-nil, length, refl, slice_get, sym, Bool, List, MutBor, None, Some}
+use Rattle.std.proofs.lemmas.Option.{slice_get_within}
 use Rattle.micromap_core.specs.Entry.{entry_key, entry_map_ref, entry_put, entry_taken, IsEntryOf, IsWritten, Occupied, Vacant}
-use Rattle.micromap_core.specs.{Found.FoundAt, Found.NotFound, declared.map.entry.EntryIn.EntryIn, declared.map.entry.OccupiedIn.OccupiedIn}
-use Rattle.micromap_core.specs.Pairs.{index_of, take_out, with_value_at, without_at}
-use Rattle.micromap_core.specs.declared.map.entry.VacantIn.{VacantIn}
-use Rattle.micromap_core.proofs.Lists.{remove-set, remove_seam, slice_get-set_same, slice_get_seam}
-use Rattle.micromap_core.proofs.MapLemmas.{push-put, with_value_at-put}
+use Rattle.micromap_walk.proofs.Laws.Lists.{remove_seam}
+use Rattle.micromap_core.specs.{Found.FoundAt, Found.NotFound, Pairs.index_of, Pairs.take_out, Pairs.with_value_at, Pairs.without_at}
+use Rattle.micromap_core.specs.declared.map.entry.{EntryIn.EntryIn, OccupiedIn.OccupiedIn, VacantIn.VacantIn}
+use Rattle.micromap_core.proofs.{Laws.Lists.slice_get_seam, Laws.MapLemmas.push-put, Laws.MapLemmas.with_value_at-put}
+use Rattle.micromap_core.proofs.Laws.MapLemmas.{read_written, written_again, written_taken, pushed_written}
 
 module _ {K V : Type 0} (eq : K → K → Bool) (map : MutBor (List (K × V))) (k : K) where
   -- the key is stored at the index
@@ -36,23 +36,6 @@ module _ {K V : Type 0} (eq : K → K → Bool) (map : MutBor (List (K × V))) (
     taken = sym n.taken;
     sound = missing;
   }
-
--- the pair at an index, once v is its value
-module _ {K V : Type 0} (pairs : List (K × V)) (i : ℕ) (p : K × V) (here : slice_get pairs i ≡ Some p) (v : V) where
-  read_written : slice_get (with_value_at pairs i v) i ≡ Some (p.0, v)
-  read_written = rw here (slice_get-set_same pairs i (p.0, v) (slice_get_within pairs i p here))
-
-  written_again : (w : V) → with_value_at (with_value_at pairs i v) i w ≡ with_value_at pairs i w
-  written_again w = rw (read_written, here) (set-set pairs i (p.0, v) (p.0, w))
-
-  written_taken : without_at (with_value_at pairs i v) i ≡ without_at pairs i
-  unfolding without_at
-  written_taken = rw here (remove-set pairs i (p.0, v))
-
--- the pair that was pushed, once w is its value
-pushed_written : {K V : Type 0} (pairs : List (K × V)) (k : K) (v w : V)
-    → with_value_at (pairs ++ (k, v) ∷ []) (length pairs) w ≡ pairs ++ (k, w) ∷ []
-pushed_written pairs k v w = rw (slice_get_seam pairs (k, v) []) (set-append_seam pairs (k, v) [] (k, w))
 
 module _ {K V : Type 0} (eq : K → K → Bool) (v : V) (new : MutBor (List (K × V))) where
   -- v was put by e, and (k, v) stands at the index

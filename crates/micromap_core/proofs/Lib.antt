@@ -1,21 +1,10 @@
-pub mod CloneLemmas
-pub mod ClosureLemmas
-pub mod ConvertedLemmas
-pub mod CountLemmas
-pub mod DistinctLemmas
 pub mod EntryLemmas
-pub mod FairLemmas
-pub mod KeyedLemmas
 pub mod Laws
-pub mod Lists
-pub mod MapLemmas
 pub mod Opened
-pub mod PrintLemmas
-pub mod PuttingLemmas
-pub mod SameLemmas
-pub mod ScanLemmas
-pub mod SlotsLemmas
-pub mod StepsLemmas
 pub mod StreamLemmas
-pub mod Views
-pub mod Walked
+pub mod UnstyledLemmas
+-- older paths of laws, which callers may have written
+pub use Rattle.micromap_core.proofs.Laws.ClosureLaws as ClosureLemmas
+pub use Rattle.micromap_core.proofs.Laws.SublistLaws as DistinctLemmas
+pub use Rattle.micromap_core.proofs.Laws.FairLemmas
+pub use Rattle.micromap_core.proofs.Laws.MapLemmas

@@ -7,9 +7,9 @@ use Rattle.micromap_core.specs.{Build.pair_fits, Build.put_pair, Build.put_pair_
 use Rattle.micromap_core.specs.Stream.{stream_of, Faultless, Faults, MapReads, Stream}
 use Rattle.micromap_core.specs.declared.stream.ReadFault.{ReadFault}
 use Rattle.micromap_core.specs.declared.stream.ReadFault.TheVariants.{Source, TooMany}
-use Rattle.micromap_core.proofs.KeyedLemmas.{built_in_turn, few_distinct, many_put, pairs_keyed, IsContent-build}
-use Rattle.micromap_core.proofs.PuttingLemmas.{puts_each, putting_begins, putting_goes_on, walk_puts, Putting}
-use Rattle.micromap_core.proofs.Walked.{walk_begins, walk_goes_on, walk_seam, Walked}
+use Rattle.micromap_core.proofs.Laws.KeyedLemmas.{built_in_turn, few_distinct, many_put, pairs_keyed, IsContent-build}
+use Rattle.micromap_core.proofs.Laws.PuttingLemmas.{puts_each, putting_begins, putting_goes_on, walk_puts, Putting}
+use Rattle.micromap_walk.proofs.Laws.Walked.{walk_begins, walk_goes_on, walk_seam, Walked}
 
 -- no fault, and then a call with none
 pub still_faultless : {S E : Type 0} {faults : S → ℕ} {last_fault : S → Option E} {old now new : S}

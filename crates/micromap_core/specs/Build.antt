@@ -1,6 +1,9 @@
 -- What a map is after pairs are put into it one after the other, and what a set is after items are.
-use Rattle.std.specs.Prelude.{◌≡◌, ℕ, ◌+◌, ◌-◌, ◌^◌, Bool, true, not, ◌&&◌, List, [], ◌∷◌, take, Option, Some, None, IsTrue, if◌then◌else◌, unwrap_or, fold}
+use Rattle.std.specs.Prelude.{◌≡◌, ℕ, ◌+◌, ◌-◌, ◌^◌, Bool, true, not, ◌&&◌, List, [], ◌∷◌, take, Option, Some, None, IsTrue, if◌then◌else◌, unwrap_or, fold, ⊤, false, nat_eq, refl}
+use Rattle.std.specs.Iterator.{Drains}
 use Rattle.std.specs.Iterator.Runs.{SomeRun, WholeRun}
+use Rattle.std.proofs.Common.{sym, true≢false}
+use Rattle.micromap_core.specs.Examples.{half_eq}
 use Rattle.micromap_core.specs.Pairs.{at, fits, put}
 use Rattle.micromap_core.specs.declared.overfull.Overfull.{Overfull}
 
@@ -8,10 +11,17 @@ use Rattle.micromap_core.specs.declared.overfull.Overfull.{Overfull}
 abbrev pub most_items : ℕ
 most_items = 2 ^ 64 - 2
 
+most_items-digits : most_items ≡ 18446744073709551614
+most_items-digits = refl
+
 module _ {S A : Type 0} (next_gives : S → Option A → S → Type 0) (items : S) where
   -- the iterator gave all its items, and P holds of these
   abbrev pub AllItems : (List A → Type 0) → Type 0
   AllItems P = WholeRun next_gives items (λ p. P p.items)
+
+  -- the same as `AllItems`, in the form of the clause of `Sum::sum`: the checker follows this one through a chain
+  abbrev pub TakesAll : (List A → Type 0) → Type 0
+  TakesAll P = (xs : List A) × (⊤ → Drains next_gives items xs) × P xs
 
   -- the iterator gave items up to the one that didn't fit, and P holds of these and of its position
   abbrev pub ItemsUpTo : (List A → ℕ → Type 0) → Overfull → Type 0
@@ -90,6 +100,94 @@ module _ {K V : Type 0} (eq : K → K → Bool) where
   abbrev pub PutsBefore : ℕ → List (K × V) → List (K × V) → List (K × V) → ℕ → Type 0
   PutsBefore N = PutsUpTo (pair_fits N) put_pair
 
+-- into a full list, at a stored key and at a new one
+put_pair_if_fits-full_stored : put_pair_if_fits {V = ℕ} nat_eq 2 ((1, 10) ∷ (2, 20) ∷ []) (2, 21) ≡ (1, 10) ∷ (2, 21) ∷ []
+unfolding put
+put_pair_if_fits-full_stored = refl
+
+put_pair_if_fits-full_new : put_pair_if_fits {V = ℕ} nat_eq 2 ((1, 10) ∷ (2, 20) ∷ []) (3, 30) ≡ (1, 10) ∷ (2, 20) ∷ []
+put_pair_if_fits-full_new = refl
+
+-- a stored key into a full list, a new one, and any pair after one that didn't fit
+put_or_refuse-full_stored : put_or_refuse {V = ℕ} nat_eq 1 (Some ((1, 10) ∷ [])) (1, 11) ≡ Some ((1, 11) ∷ [])
+unfolding put_or_refuse put
+put_or_refuse-full_stored = refl
+
+put_or_refuse-full_new : put_or_refuse {V = ℕ} nat_eq 1 (Some ((1, 10) ∷ [])) (2, 20) ≡ None
+unfolding put_or_refuse
+put_or_refuse-full_new = refl
+
+put_or_refuse-after : put_or_refuse {V = ℕ} nat_eq 1 None (1, 11) ≡ None
+unfolding put_or_refuse
+put_or_refuse-after = refl
+
+-- items that fit, one that doesn't, and no item
+build_or_refuse-fits : build_or_refuse {V = ℕ} nat_eq 3 ((1, 10) ∷ (2, 20) ∷ (1, 11) ∷ (3, 30) ∷ []) ≡ Some ((1, 11) ∷ (2, 20) ∷ (3, 30) ∷ [])
+unfolding put_or_refuse put
+build_or_refuse-fits = refl
+
+build_or_refuse-refuses : build_or_refuse {V = ℕ} nat_eq 2 ((1, 10) ∷ (2, 20) ∷ (1, 11) ∷ (3, 30) ∷ []) ≡ None
+unfolding put_or_refuse put
+build_or_refuse-refuses = refl
+
+build_or_refuse-none : build_or_refuse {V = ℕ} nat_eq 0 [] ≡ Some []
+build_or_refuse-none = refl
+
+-- into a list with pairs: a stored key keeps its index
+put_all-stored : put_all {V = ℕ} nat_eq ((1, 10) ∷ (2, 20) ∷ []) ((3, 30) ∷ (1, 11) ∷ []) ≡ (1, 11) ∷ (2, 20) ∷ (3, 30) ∷ []
+unfolding put
+put_all-stored = refl
+
+-- a repeated key has its last value at the index where it came first, also one that is equal and isn't the same
+build-repeated : build {V = ℕ} nat_eq ((1, 10) ∷ (2, 20) ∷ (3, 30) ∷ (1, 40) ∷ (2, 50) ∷ []) ≡ (1, 40) ∷ (2, 50) ∷ (3, 30) ∷ []
+unfolding put
+build-repeated = refl
+
+build-equal : build {V = ℕ} half_eq ((2, 20) ∷ (3, 30) ∷ []) ≡ (2, 30) ∷ []
+unfolding put
+build-equal = refl
+
+build-none : build {V = ℕ} nat_eq [] ≡ []
+build-none = refl
+
+-- three distinct keys at capacities 3 and 2, and no item at capacity 0
+all_fit-three : all_fit {V = ℕ} nat_eq 3 ((1, 10) ∷ (2, 20) ∷ (1, 11) ∷ (3, 30) ∷ []) ≡ true
+unfolding put
+all_fit-three = refl
+
+all_fit-one_too_many : all_fit {V = ℕ} nat_eq 2 ((1, 10) ∷ (2, 20) ∷ (1, 11) ∷ (3, 30) ∷ []) ≡ false
+unfolding put
+all_fit-one_too_many = refl
+
+all_fit-none : all_fit {V = ℕ} nat_eq 0 [] ≡ true
+all_fit-none = refl
+
+-- the fourth of the items, and not the third, whose key is stored by then
+MisfitIn-fourth : MisfitIn {V = ℕ} nat_eq 2 [] ((1, 10) ∷ (2, 20) ∷ (1, 11) ∷ (3, 30) ∷ []) 3
+unfolding put
+MisfitIn-fourth = (refl, refl)
+
+MisfitIn-third : ¬ MisfitIn {V = ℕ} nat_eq 2 [] ((1, 10) ∷ (2, 20) ∷ (1, 11) ∷ (3, 30) ∷ []) 2
+unfolding put
+MisfitIn-third stops = true≢false (sym stops.1)
+
+-- a stored key and a new one, and not a second new one
+PutsAll-fits : PutsAll {V = ℕ} nat_eq 2 ((1, 10) ∷ []) ((1, 11) ∷ (2, 20) ∷ []) ((1, 11) ∷ (2, 20) ∷ [])
+unfolding put
+PutsAll-fits = (refl, refl)
+
+PutsAll-one_too_many : ¬ PutsAll {V = ℕ} nat_eq 2 ((1, 10) ∷ []) ((1, 10) ∷ (2, 20) ∷ []) ((2, 20) ∷ (3, 30) ∷ [])
+unfolding put
+PutsAll-one_too_many puts = true≢false (sym puts.0)
+
+PutsBefore-third : PutsBefore {V = ℕ} nat_eq 2 ((1, 10) ∷ []) ((1, 11) ∷ (2, 20) ∷ []) ((2, 20) ∷ (1, 11) ∷ (3, 30) ∷ (1, 12) ∷ []) 2
+unfolding put
+PutsBefore-third = ((refl, refl), refl)
+
+PutsBefore-second : ¬ PutsBefore {V = ℕ} nat_eq 2 ((1, 10) ∷ []) ((1, 10) ∷ (2, 20) ∷ []) ((2, 20) ∷ (1, 11) ∷ (3, 30) ∷ []) 1
+unfolding put
+PutsBefore-second puts = true≢false (sym puts.0.1)
+
 -- a counter: a map that has each of the items that came with the number of times that it came
 module _ {K : Type 0} (eq : K → K → Bool) where
   -- the pairs once one more of x came
@@ -108,6 +206,36 @@ module _ {K : Type 0} (eq : K → K → Bool) where
   abbrev pub counts_or_refuse : ℕ → List K → Option (List (K × ℕ))
   counts_or_refuse N items = fold (count_or_refuse N) (Some []) items
 
+-- of a first item, and of one that came before
+count_one-first : count_one nat_eq [] 5 ≡ (5, 1) ∷ []
+unfolding put
+count_one-first = refl
+
+count_one-again : count_one nat_eq ((5, 1) ∷ (6, 3) ∷ []) 6 ≡ (5, 1) ∷ (6, 4) ∷ []
+unfolding put
+count_one-again = refl
+
+counts-three : counts nat_eq (6 ∷ 5 ∷ 6 ∷ []) ≡ (6, 2) ∷ (5, 1) ∷ []
+unfolding counts put
+counts-three = refl
+
+counts-none : counts nat_eq [] ≡ []
+unfolding counts
+counts-none = refl
+
+-- in room for two, and for one
+count_or_refuse-full : count_or_refuse nat_eq 1 (Some ((6, 1) ∷ [])) 5 ≡ None
+unfolding count_or_refuse
+count_or_refuse-full = refl
+
+counts_or_refuse-fits : counts_or_refuse nat_eq 2 (6 ∷ 5 ∷ 6 ∷ []) ≡ Some ((6, 2) ∷ (5, 1) ∷ [])
+unfolding count_or_refuse put
+counts_or_refuse-fits = refl
+
+counts_or_refuse-refuses : counts_or_refuse nat_eq 1 (6 ∷ 5 ∷ 6 ∷ []) ≡ None
+unfolding count_or_refuse put
+counts_or_refuse-refuses = refl
+
 -- for callers' clauses: a map into which a loop merges values; `step` makes the new value of the one that is stored, if any,
 -- and of the item's
 module _ {K V W : Type 0} (eq : K → K → Bool) (step : Option V → W → V) where
@@ -119,3 +247,12 @@ module _ {K V W : Type 0} (eq : K → K → Bool) (step : Option V → W → V) 
   -- of the item's; a stored key keeps its index, and a new one goes last
   unfoldable pub merged : List (K × V) → List (K × W) → List (K × V)
   merged pairs items = fold merge_pair pairs items
+
+-- sums by key, of a stored key and of a new one
+merged-sums : merged nat_eq (λ old n. unwrap_or old 0 + n) ((1, 10) ∷ (2, 20) ∷ []) ((3, 5) ∷ (1, 4) ∷ (3, 6) ∷ []) ≡ (1, 14) ∷ (2, 20) ∷ (3, 11) ∷ []
+unfolding merged put
+merged-sums = refl
+
+merged-none : merged {W = ℕ} nat_eq (λ old n. unwrap_or old 0 + n) ((1, 10) ∷ []) [] ≡ (1, 10) ∷ []
+unfolding merged
+merged-none = refl

@@ -1,63 +1,32 @@
 -- What a closure that gets a `&mut` to a value may be called on, and what its calls answered and made of a map's pairs.
-use Rattle.std.specs.Prelude.{◌≡◌, ℕ, Bool, List, [], ◌∷◌, ◌++◌, Some, MatchOption, slice_get, slice_set}
-use Rattle.std.specs.Borrow.{Bor, MutBor}
-use Rattle.std.specs.Fn.{Mut, Called, Takes}
+use Rattle.std.specs.Prelude.{◌≡◌, ℕ, Bool, List, MatchOption, ◌+◌, true, false, [], ◌∷◌, nat_eq, refl}
+use Rattle.std.specs.Borrow.{MutBor, Bor}
+use Rattle.std.specs.Fn.{Mut}
 use Rattle.std.specs.List.{FoldsTo, enumerate_from, fold, items_where_true}
 use Rattle.std.specs.Option.{ForSome, option_map_or}
+use Rattle.std.specs.Str.{bytes_eq}
+use Rattle.std.proofs.Common.{ap, true≢false}
+use Rattle.micromap_core.specs.Examples.{mut_ref_to, ref_to}
 use Rattle.micromap_core.specs.Pairs.{at, put}
-
-module _ {F A V R : Type 0} (g : Mut F (A × (MutBor V × Unit {0})) (R × (MutBor V × Unit {0}))) where
-  -- a call of f at a and a `&mut` to v may answer r, and leave w there and f as f'
-  pub record CalledOnValue (f : F) (a : A) (v : V) (r : R) (w : V) (f' : F) : Type 0 where
-    pub value : MutBor V
-    pub shows : value.now ≡ v
-    pub left : MutBor V
-    pub called : Called g f (a, (value, tt)) (r, (left, tt)) f'
-    pub leaves : left.now ≡ w
-
-  -- f may be called at a and a `&mut` to v
-  abbrev pub AcceptsValue : F → A → V → Type 0
-  AcceptsValue f a v = (value : MutBor V) → value.now ≡ v → Takes g f (a, (value, tt))
+pub use Rattle.micromap_walk.specs.Closures.{AcceptsPair, AcceptsValue, AtEachTurn, CalledOnPair, CalledOnValue}
+pub use Rattle.micromap_walk.specs.Closures.{MayUpdateAll, UpdateAllTurn, UpdatesAll, VisitsAt}
 
 -- `part` has some of the elements of `whole`, in the order that they have there
 abbrev pub IsSublist : {X : Type 0} → List X → List X → Type 0
 IsSublist part whole = (picks : List Bool) × (part ≡ items_where_true picks whole)
 
--- Q holds of each item in turn, and of what R has taken p to by then
-pub record AtEachTurn {P A : Type 0} (R : P → A → P → Type 0) (p : P) (xs : List A) (Q : P → A → Type 0) : Type 0 where
-  pub each : (before after : List A) (x : A) (q : P) → xs ≡ before ++ x ∷ after → FoldsTo R p before q → Q q x
+-- the first and the third of three, none, and not an item that the list lacks
+IsSublist-two : IsSublist {X = ℕ} (5 ∷ 7 ∷ []) (5 ∷ 6 ∷ 7 ∷ [])
+IsSublist-two = (true ∷ false ∷ true ∷ [], refl)
 
-module _ {F K V R : Type 0} (g : Mut F (Bor K × (MutBor V × Unit {0})) (R × (MutBor V × Unit {0}))) where
-  -- a call of f at a `&` to k and a `&mut` to v may answer r, and leave w there and f as f'
-  pub record CalledOnPair (f : F) (k : K) (v : V) (r : R) (w : V) (f' : F) : Type 0 where
-    pub key : Bor K
-    pub shows : key.now ≡ k
-    pub called : CalledOnValue g f key v r w f'
+IsSublist-none : IsSublist {X = ℕ} [] (5 ∷ 6 ∷ 7 ∷ [])
+IsSublist-none = ([], refl)
 
-  -- f may be called at a `&` to k and a `&mut` to v
-  abbrev pub AcceptsPair : F → K → V → Type 0
-  AcceptsPair f k v = (key : Bor K) → key.now ≡ k → AcceptsValue g f key v
-
-  -- a call at the pair at the index answered r, and new is old with the value that the call left there
-  pub record VisitsAt (f : F) (old : List (K × V)) (index : ℕ) (r : R) (f' : F) (new : List (K × V)) : Type 0 where
-    pub pair : K × V
-    pub here : slice_get old index ≡ Some pair
-    pub value : V
-    pub called : CalledOnPair f pair.0 pair.1 r value f'
-    pub pairs : new ≡ slice_set old index (pair.0, value)
-
-  -- one turn of `update_all` makes t of the closure and the pairs done: what the call leaves for p comes after them
-  abbrev pub UpdateAllTurn : F × List (K × V) → K × V → F × List (K × V) → Type 0
-  UpdateAllTurn s p t = (r : R) × (w : V) × CalledOnPair s.0 p.0 p.1 r w t.0 × (t.1 ≡ s.1 ++ (p.0, w) ∷ [])
-
-  -- f may be called at each pair in turn
-  abbrev pub MayUpdateAll : F → List (K × V) → Type 0
-  MayUpdateAll f pairs = AtEachTurn UpdateAllTurn (f, []) pairs (λ s p. AcceptsPair s.0 p.0 p.1)
-
-  -- f was called at each pair in turn, and `new` has the values that the calls left
-  pub record UpdatesAll (f : F) (pairs new : List (K × V)) : Type 0 where
-    pub last : F
-    pub turns : FoldsTo UpdateAllTurn (f, []) pairs (last, new)
+IsSublist-other : ¬ IsSublist {X = ℕ} (6 ∷ []) (5 ∷ [])
+IsSublist-other ([], e) = true≢false (ap (bytes_eq (6 ∷ [])) e)
+IsSublist-other (true ∷ picks, e) = true≢false (ap (bytes_eq (6 ∷ [])) e)
+IsSublist-other (false ∷ [], e) = true≢false (ap (bytes_eq (6 ∷ [])) e)
+IsSublist-other (false ∷ pick ∷ picks, e) = true≢false (ap (bytes_eq (6 ∷ [])) e)
 
 module _ {F K V R : Type 0} (eq : K → K → Bool) (g : Mut F (ℕ × (MutBor V × Unit {0})) (R × (MutBor V × Unit {0}))) where
   -- one turn of `update_disjoint`, at a position and its key: if that is stored, its value becomes what the call leaves
@@ -81,3 +50,67 @@ module _ {K V : Type 0} (eq : K → K → Bool) (h : ℕ → V → V) where
   -- for callers' clauses: the pairs once each of the keys has that, in their order
   abbrev pub updated_disjoint : List (K × V) → List K → List (K × V)
   updated_disjoint pairs keys = fold written_by pairs (enumerate_from 0 keys)
+
+-- a closure that is the number of its calls: each call adds that number to the value, and answers the key with it
+abbrev adds : Mut ℕ (Bor ℕ × (MutBor ℕ × Unit {0})) ((ℕ × ℕ) × (MutBor ℕ × Unit {0}))
+adds =
+    record {
+      pre = λ f a. Unit {0};
+      post = λ f a r. Unit {0};
+      steps = λ f a r f'. (r.0 ≡ (a.0.now, f)) × (r.1.0.now ≡ a.1.0.now + f) × (f' ≡ f + 1);
+    }
+
+-- the second call adds 1 and goes on to the third
+CalledOnPair-second : CalledOnPair adds 1 5 50 (5, 1) 51 2
+CalledOnPair-second =
+    record {
+      key = ref_to 5;
+      shows = refl;
+      called = record { value = mut_ref_to 50; shows = refl; left = mut_ref_to 51; called = record { met = (refl, refl, refl) }; leaves = refl };
+    }
+
+AcceptsPair-any : AcceptsPair adds 1 5 50
+AcceptsPair-any = λ key shows value shown. tt
+
+-- at two pairs in turn, and at none
+UpdatesAll-two : UpdatesAll adds 1 ((1, 10) ∷ (2, 20) ∷ []) ((1, 11) ∷ (2, 22) ∷ [])
+UpdatesAll-two = record { last = 3; turns = ((2, (1, 11) ∷ []), ((1, 1), 11, first, refl), ((3, (1, 11) ∷ (2, 22) ∷ []), ((2, 2), 22, second, refl), refl)) }
+  where
+    first : CalledOnPair adds 1 1 10 (1, 1) 11 2
+    first = record { key = ref_to 1; shows = refl; called = record { value = mut_ref_to 10; shows = refl; left = mut_ref_to 11; called = record { met = (refl, refl, refl) }; leaves = refl } }
+
+    second : CalledOnPair adds 2 2 20 (2, 2) 22 3
+    second = record { key = ref_to 2; shows = refl; called = record { value = mut_ref_to 20; shows = refl; left = mut_ref_to 22; called = record { met = (refl, refl, refl) }; leaves = refl } }
+
+UpdatesAll-none : UpdatesAll adds 1 [] []
+UpdatesAll-none = record { last = 1; turns = refl }
+
+MayUpdateAll-any : MayUpdateAll adds 1 ((1, 10) ∷ (2, 20) ∷ [])
+MayUpdateAll-any = record { each = λ before after x q at turns key shows value shown. tt }
+
+-- a closure that adds the position to the value, and answers it
+abbrev adds_position : Mut ℕ (ℕ × (MutBor ℕ × Unit {0})) (ℕ × (MutBor ℕ × Unit {0}))
+adds_position = record { pre = λ f a. Unit {0}; post = λ f a r. Unit {0}; steps = λ f a r f'. (r.0 ≡ a.0) × (r.1.0.now ≡ a.1.0.now + a.0) × (f' ≡ f + 1) }
+
+-- the keys 3, 9 and 1 in turn; 9 isn't stored, so there is no call at the position 1
+UpdatesDisjoint-two : UpdatesDisjoint nat_eq adds_position 0 ((1, 10) ∷ (3, 30) ∷ []) (3 ∷ 9 ∷ 1 ∷ []) ((1, 12) ∷ (3, 30) ∷ [])
+unfolding put
+UpdatesDisjoint-two =
+    record {
+      last = 2;
+      turns = ((1, (1, 10) ∷ (3, 30) ∷ []), (0, 30, first, refl), ((1, (1, 10) ∷ (3, 30) ∷ []), refl, ((2, (1, 12) ∷ (3, 30) ∷ []), (2, 12, second, refl), refl)));
+    }
+  where
+    first : CalledOnValue adds_position 0 0 30 0 30 1
+    first = record { value = mut_ref_to 30; shows = refl; left = mut_ref_to 30; called = record { met = (refl, refl, refl) }; leaves = refl }
+
+    second : CalledOnValue adds_position 1 2 10 2 12 2
+    second = record { value = mut_ref_to 10; shows = refl; left = mut_ref_to 12; called = record { met = (refl, refl, refl) }; leaves = refl }
+
+-- the same by a function of the position and the value
+updated_disjoint-three : updated_disjoint nat_eq (λ position v. v + position) ((1, 10) ∷ (2, 20) ∷ (3, 30) ∷ []) (3 ∷ 9 ∷ 1 ∷ []) ≡ (1, 12) ∷ (2, 20) ∷ (3, 30) ∷ []
+unfolding put
+updated_disjoint-three = refl
+
+updated_disjoint-none : updated_disjoint nat_eq (λ position v. v + position) ((1, 10) ∷ []) [] ≡ (1, 10) ∷ []
+updated_disjoint-none = refl

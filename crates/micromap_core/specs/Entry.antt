@@ -1,9 +1,11 @@
 -- What an entry has, and what its calls leave. The words serve its halves too, as `entry_value (Occupied o)`.
 pub use Rattle.micromap_core.specs.declared.map.entry.EntryIn.TheVariants.{Occupied, Vacant}
-use Rattle.std.specs.Prelude.{◌≡◌, ℕ, ◌<◌, Bool, true, false, ◌||◌, List, [], ◌∷◌, ◌++◌, length, Option, Some, None, slice_get}
+use Rattle.std.specs.Prelude.{◌≡◌, ℕ, ◌+◌, ◌<◌, Bool, true, false, ◌||◌, List, [], ◌∷◌, ◌++◌, length, nat_eq, Option, Some, None, is_some, refl, slice_get}
 use Rattle.std.specs.Option.{option_map, option_map_or, IsSomeAnd}
 use Rattle.std.specs.Fn.{FnOnceReturnsAt, Once}
 use Rattle.std.specs.Borrow.{Bor, MutBor, RattleType, Fml, follows}
+use Rattle.std.proofs.Common.{ap, lit<, true≢false}
+use Rattle.micromap_core.specs.Examples.{half_eq, mut_ref_to, ref_to}
 use Rattle.micromap_core.specs.Pairs.{at, pair, index_of, has, has_room, put, take_out, with_value_at, without_at}
 use Rattle.micromap_core.specs.declared.map.entry.EntryIn.{EntryIn}
 use Rattle.micromap_core.specs.declared.map.entry.OccupiedIn.{OccupiedIn}
@@ -50,6 +52,57 @@ module _ {K V : Type 0} where
   abbrev pub entry_has_room : ℕ → EntryIn K (List (K × V)) → Bool
   entry_has_room N e = is_occupied e || has_room N (entry_pairs e)
 
+-- the entries of the keys 2 and 3 in a map with the keys 1 and 2
+abbrev of_stored : EntryIn ℕ (List (ℕ × ℕ))
+of_stored = Occupied (record { map = mut_ref_to ((1, 10) ∷ (2, 20) ∷ []); index = 1 })
+
+abbrev of_new : EntryIn ℕ (List (ℕ × ℕ))
+of_new = Vacant (record { map = mut_ref_to ((1, 10) ∷ (2, 20) ∷ []); key = 3 })
+
+entry_pairs-new : entry_pairs of_new ≡ (1, 10) ∷ (2, 20) ∷ []
+entry_pairs-new = refl
+
+is_occupied-stored : is_occupied of_stored ≡ true
+is_occupied-stored = refl
+
+is_occupied-new : is_occupied of_new ≡ false
+is_occupied-new = refl
+
+entry_key-stored : entry_key of_stored ≡ Some 2
+entry_key-stored = refl
+
+entry_key-new : entry_key of_new ≡ Some 3
+entry_key-new = refl
+
+entry_value-stored : entry_value of_stored ≡ Some 20
+entry_value-stored = refl
+
+entry_value-new : entry_value of_new ≡ None
+entry_value-new = refl
+
+entry_put-stored : entry_put of_stored 21 ≡ (1, 10) ∷ (2, 21) ∷ []
+unfolding entry_put
+entry_put-stored = refl
+
+entry_put-new : entry_put of_new 30 ≡ (1, 10) ∷ (2, 20) ∷ (3, 30) ∷ []
+unfolding entry_put
+entry_put-new = refl
+
+entry_taken-stored : entry_taken of_stored ≡ (1, 10) ∷ []
+unfolding without_at
+entry_taken-stored = refl
+
+entry_taken-new : entry_taken of_new ≡ (1, 10) ∷ (2, 20) ∷ []
+entry_taken-new = refl
+
+-- at capacity 2 a stored key, and not a new one
+entry_has_room-full_stored : entry_has_room 2 of_stored ≡ true
+entry_has_room-full_stored = refl
+
+entry_has_room-full_new : entry_has_room 2 of_new ≡ false
+entry_has_room-full_new = refl
+
+module _ {K V : Type 0} where
   -- an occupied entry points at a pair, and the key of a vacant one is new
   abbrev pub IsSound : (K → K → Bool) → EntryIn K (List (K × V)) → Type 0
   IsSound eq (Occupied o) = o.index < length o.map.now
@@ -92,9 +145,55 @@ module _ {K V : Type 0} where
   abbrev pub with_entry_value : OccupiedIn (List (K × V)) → V → OccupiedIn (List (K × V))
   with_entry_value o v = record o { map = record o.map { now = entry_put (Occupied o) v } }
 
+-- of both entries, and not of a new key that is equal to a stored one
+IsSound-stored : IsSound nat_eq of_stored
+IsSound-stored = lit< tt
+
+IsSound-new : IsSound nat_eq of_new
+IsSound-new = refl
+
+IsSound-equal : ¬ IsSound half_eq of_new
+IsSound-equal sound = true≢false (ap is_some sound)
+
+-- of a stored key, of a new one, and not of another key
+IsEntryOf-stored : IsEntryOf nat_eq (mut_ref_to ((1, 10) ∷ (2, 20) ∷ [])) 2 of_stored
+unfolding entry_put put take_out without_at
+IsEntryOf-stored = record { same_map = refl; pairs = refl; occupied = refl; key = refl; value = refl; puts = λ v. refl; taken = refl; sound = lit< tt }
+
+IsEntryOf-new : IsEntryOf nat_eq (mut_ref_to ((1, 10) ∷ (2, 20) ∷ [])) 3 of_new
+unfolding entry_put put take_out
+IsEntryOf-new = record { same_map = refl; pairs = refl; occupied = refl; key = refl; value = refl; puts = λ v. refl; taken = refl; sound = refl }
+
+IsEntryOf-other_key : ¬ IsEntryOf nat_eq (mut_ref_to ((1, 10) ∷ (2, 20) ∷ [])) 3 of_stored
+IsEntryOf-other_key entry = true≢false entry.occupied
+
+-- of the value 21 at the key 2, and of 30 at the new key 3
+IsWritten-stored : IsWritten nat_eq of_stored 21 (Occupied (record { map = mut_ref_to ((1, 10) ∷ (2, 21) ∷ []); index = 1 }))
+unfolding entry_put without_at
+IsWritten-stored = record { same_map = refl; pairs = refl; occupied = refl; key = refl; value = refl; puts = λ v. refl; taken = refl; sound = lit< tt }
+
+IsWritten-new : IsWritten nat_eq of_new 30 (Occupied (record { map = mut_ref_to ((1, 10) ∷ (2, 20) ∷ (3, 30) ∷ []); index = 2 }))
+unfolding entry_put without_at
+IsWritten-new = record { same_map = refl; pairs = refl; occupied = refl; key = refl; value = refl; puts = λ v. refl; taken = refl; sound = lit< tt }
+
+-- by one more: of a stored key, and of a new one, which stays without a value
+IsModified-stored : IsModified nat_eq (λ old new. new ≡ option_map (λ v. v + 1) old) of_stored (Occupied (record { map = mut_ref_to ((1, 10) ∷ (2, 21) ∷ []); index = 1 }))
+unfolding entry_put without_at
+IsModified-stored = record { same_map = refl; pairs = refl; occupied = refl; key = refl; value = refl; puts = λ v. refl; taken = refl; sound = lit< tt }
+
+IsModified-new : IsModified nat_eq (λ old new. new ≡ option_map (λ v. v + 1) old) of_new of_new
+IsModified-new = record { same_map = refl; pairs = refl; occupied = refl; key = refl; value = refl; puts = λ v. refl; taken = refl; sound = refl }
+
 -- a call of f at a reference to the key may answer r
 abbrev pub AnswersOfKey : {F K V : Type 0} → Once F (Bor K × Unit {0}) V → F → Option K → V → Type 0
 AnswersOfKey g f key r = IsSomeAnd key (λ k. FnOnceReturnsAt g f k r)
+
+-- of a function that doubles the key, at a stored key and at none
+AnswersOfKey-doubled : AnswersOfKey {F = Unit {0}} {K = ℕ} {V = ℕ} (record { pre = λ f a. Unit {0}; post = λ f a r. r ≡ a.0.now + a.0.now }) tt (Some 3) 6
+AnswersOfKey-doubled = (ref_to 3, refl, refl)
+
+AnswersOfKey-none : ¬ AnswersOfKey {F = Unit {0}} {K = ℕ} {V = ℕ} (record { pre = λ f a. Unit {0}; post = λ f a r. r ≡ a.0.now + a.0.now }) tt None 6
+AnswersOfKey-none answers = answers
 
 module _ (K V N : RattleType) (eq : K.Denot → K.Denot → Bool) where
   -- once the borrow r ends, the map has the last value written through r at the entry's key

@@ -1,19 +1,9 @@
--- A map after a write through a `&mut` to a value. For inner calls alone, the same of a column and of two columns.
-use Rattle.std.specs.Prelude.{ℕ, Bool, List, Option, slice_set}
+-- A map after a write through a `&mut` to a value.
+use Rattle.std.specs.Prelude.{ℕ, Bool, List, Option}
 use Rattle.std.specs.Borrow.{Lends, LendsIf, Fml, RattleType, MutBor}
 use Rattle.micromap_core.specs.Pairs.{put, with_value_at}
 use Rattle.std.specs.Map.{set_value}
 use Rattle.micromap_core.specs.contracts.map.Map.{the_row}
-use Rattle.micromap_core.specs.contracts.slots.Slots as column
-use Rattle.micromap_core.specs.contracts.slots.columns.Columns as columns
-
--- once the borrow r ends, the item at the index of a column is the last one written through r
-abbrev pub lends_item_at : (X N : RattleType) → MutBor (List X.Denot) → ℕ → MutBor X.Denot → Fml
-lends_item_at X N slots index r = Lends (column.the_row X N) X slots r (slice_set slots.now index)
-
--- once the borrow r ends, the pair at the index of two columns has the last value written through r
-abbrev pub lends_value_in : (K V N : RattleType) → MutBor (List (K.Denot × V.Denot)) → ℕ → MutBor V.Denot → Fml
-lends_value_in K V N pairs index r = Lends (columns.the_row K V N) V pairs r (with_value_at pairs.now index)
 
 module _ (K V N : RattleType) (eq : K.Denot → K.Denot → Bool) (map : MutBor (List (K.Denot × V.Denot))) where
   -- once the borrow r ends, the pair at the index has the last value written through r

@@ -3,7 +3,9 @@ pub mod Calls
 pub mod Clones
 pub mod Closures
 pub mod Entry
+pub mod EqualClones
 pub mod Equalities
+pub mod Examples
 pub mod Fair
 pub mod Found
 pub mod Lends

@@ -12,8 +12,8 @@ use std::alloc::AllocError;
 
 /// A key whose clone is known to equal it, which `Clone` alone doesn't say.
 ///
-/// Each `Copy` key is one, by its copy, and so are a `TextBuf` and a set of such items. A map or a set of such keys has
-/// the trait `Clone`.
+/// Each `Copy` key is one, by its copy, and so are a `TextBuf`, a set of such items, and a map of such keys and values. A
+/// map or a set of such keys has the trait `Clone`. A type of std that isn't `Copy`, as `String`, can't be one.
 pub trait EqualClone: Eq + Drop {
     /// Whether the second value is a clone of the first.
     ghost is_equal_clone: { Self → Self → Type 0 };

@@ -6,7 +6,6 @@ mod insert_error;
 pub mod map;
 mod overfull;
 mod probe;
-mod slots;
 mod steps;
 pub mod stream;
 mod text_buf;

@@ -11,17 +11,16 @@ mod counted;
 mod entry;
 mod indexed;
 mod insert;
+mod iter;
 mod lookup;
 mod print;
 mod probed;
 mod remove;
 mod stream;
 mod texts;
-mod walk;
 
-use crate::slots::Columns;
 pub use entry::{Entry, OccupiedEntry, VacantEntry};
-use micromap_walk::hint;
+use micromap_walk::Columns;
 pub use micromap_walk::{Drain, IntoIter, IntoKeys, IntoValues, Iter, Keys, Values};
 use std::marker::Model;
 
@@ -77,7 +76,7 @@ impl<K: Eq, V, const N: usize> Map<K, V, N> {
         ensures answer { result ≡ [] }
         ensures content { IsContent K.eq N result }
     {
-        hint::equal(capacity, N);
+        prove!(capacity == N);
         Map::new()
     }
 

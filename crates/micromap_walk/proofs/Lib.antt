@@ -1,4 +1,2 @@
-pub mod FilledLemmas
-pub mod Runs
-pub mod ZipLemmas
+pub mod Laws
 pub mod Opened

@@ -1,4 +1,5 @@
--- The slots in which a map keeps its keys and its values. None of them is empty.
+-- The slots in which a map keeps its keys and its values. None of a map is empty. Those that an iterator by value has gone past
+-- are.
 use Rattle.std.specs.Prelude.{◌≡◌, ◌≤◌, ℕ, List, drop, length, map, Option, Some, filter_map}
 
 module _ {X : Type 0} where

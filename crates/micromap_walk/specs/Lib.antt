@@ -1,2 +1,3 @@
+pub mod Closures
 pub mod Filled
 pub mod Lends

@@ -121,7 +121,7 @@ impl<'a, K, V> Iter<'a, K, V> {
     /// Creates an iterator over the pairs in `keys` and `values`. No slot may be empty, and the two slices must have
     /// the same length.
     #[inline]
-    pub fn over(keys: &'a [Option<K>], values: &'a [Option<V>]) -> Self
+    pub(crate) fn over(keys: &'a [Option<K>], values: &'a [Option<V>]) -> Self
         requires keys { AreFilled keys.now }
         requires values { AreFilled values.now }
         requires equal { length keys.now ≡ length values.now }
@@ -221,7 +221,7 @@ impl<'a, K, V> Model for Keys<'a, K, V> {
 impl<'a, K, V> Keys<'a, K, V> {
     /// Creates an iterator over the keys in `keys`. No slot may be empty.
     #[inline]
-    pub fn over(keys: &'a [Option<K>]) -> Self
+    pub(crate) fn over(keys: &'a [Option<K>]) -> Self
         requires { AreFilled keys.now }
         ensures { result ≡ items_of keys.now }
     {
@@ -305,7 +305,7 @@ impl<'a, K, V> Model for Values<'a, K, V> {
 impl<'a, K, V> Values<'a, K, V> {
     /// Creates an iterator over the values in `values`. No slot may be empty.
     #[inline]
-    pub fn over(values: &'a [Option<V>]) -> Self
+    pub(crate) fn over(values: &'a [Option<V>]) -> Self
         requires { AreFilled values.now }
         ensures { result ≡ items_of values.now }
     {

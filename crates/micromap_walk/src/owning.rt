@@ -45,7 +45,7 @@ impl<K, V, const N: usize> IntoIter<K, V, N> {
     /// Creates an iterator over the pairs in `keys` and `values`. No slot may be empty, and the two columns must have
     /// the same length.
     #[inline]
-    pub fn over(keys: ArrayVec<Option<K>, N>, values: ArrayVec<Option<V>, N>) -> Self
+    pub(crate) fn over(keys: ArrayVec<Option<K>, N>, values: ArrayVec<Option<V>, N>) -> Self
         requires keys { AreFilled keys.items }
         requires values { AreFilled values.items }
         requires equal { length keys.items ≡ length values.items }
@@ -145,18 +145,12 @@ impl<K, V, const N: usize> Model for IntoKeys<K, V, N> {
 }
 
 impl<K, V, const N: usize> IntoKeys<K, V, N> {
-    /// Creates an iterator over the keys of the pairs in `keys` and `values`. No slot may be empty, and the two columns
-    /// must have the same length.
+    /// Creates an iterator over the keys of the pairs that `pairs` yields.
     #[inline]
-    pub fn over(keys: ArrayVec<Option<K>, N>, values: ArrayVec<Option<V>, N>) -> Self
-        requires keys { AreFilled keys.items }
-        requires values { AreFilled values.items }
-        requires equal { length keys.items ≡ length values.items }
-        ensures { result ≡ keys_of (zip (items_of keys.items) (items_of values.items)) }
+    pub(crate) fn over(pairs: IntoIter<K, V, N>) -> Self
+        ensures { result ≡ keys_of pairs }
     {
-        IntoKeys {
-            pairs: IntoIter::over(keys, values),
-        }
+        IntoKeys { pairs }
     }
 }
 
@@ -196,7 +190,7 @@ impl<K, V, const N: usize> Default for IntoKeys<K, V, N> {
     ghost is_default = { λ left. left ≡ [] };
 
     fn default() -> Self {
-        IntoKeys::over(ArrayVec::new(), ArrayVec::new())
+        IntoKeys::over(IntoIter::default())
     }
 }
 
@@ -216,18 +210,12 @@ impl<K, V, const N: usize> Model for IntoValues<K, V, N> {
 }
 
 impl<K, V, const N: usize> IntoValues<K, V, N> {
-    /// Creates an iterator over the values of the pairs in `keys` and `values`. No slot may be empty, and the two
-    /// columns must have the same length.
+    /// Creates an iterator over the values of the pairs that `pairs` yields.
     #[inline]
-    pub fn over(keys: ArrayVec<Option<K>, N>, values: ArrayVec<Option<V>, N>) -> Self
-        requires keys { AreFilled keys.items }
-        requires values { AreFilled values.items }
-        requires equal { length keys.items ≡ length values.items }
-        ensures { result ≡ values_of (zip (items_of keys.items) (items_of values.items)) }
+    pub(crate) fn over(pairs: IntoIter<K, V, N>) -> Self
+        ensures { result ≡ values_of pairs }
     {
-        IntoValues {
-            pairs: IntoIter::over(keys, values),
-        }
+        IntoValues { pairs }
     }
 }
 
@@ -267,6 +255,6 @@ impl<K, V, const N: usize> Default for IntoValues<K, V, N> {
     ghost is_default = { λ left. left ≡ [] };
 
     fn default() -> Self {
-        IntoValues::over(ArrayVec::new(), ArrayVec::new())
+        IntoValues::over(IntoIter::default())
     }
 }

@@ -7,7 +7,7 @@ use crate::hint::never;
 
 /// Returns a reference to the item in a slot. The slot must be filled.
 #[inline]
-pub fn item_of<X>(slot: &Option<X>) -> &X
+pub(crate) fn item_of<X>(slot: &Option<X>) -> &X
     requires { IsSome slot.now }
     ensures { slot.now ≡ Some result.now }
 {
@@ -19,7 +19,7 @@ pub fn item_of<X>(slot: &Option<X>) -> &X
 
 /// Returns a mutable reference to the item in a slot. The slot must be filled.
 #[inline]
-pub fn item_of_mut<X>(slot: &mut Option<X>) -> &mut X
+pub(crate) fn item_of_mut<X>(slot: &mut Option<X>) -> &mut X
     requires { IsSome slot.old }
     ensures* writes_back { sem 𝓛 (lends_item X.row slot.entry result) }
     ensures answer { slot.old ≡ Some result.now }
@@ -32,7 +32,7 @@ pub fn item_of_mut<X>(slot: &mut Option<X>) -> &mut X
 
 /// Returns the item of a slot by value. The slot must be filled.
 #[inline]
-pub fn into_item<X>(slot: Option<X>) -> X
+pub(crate) fn into_item<X>(slot: Option<X>) -> X
     requires { IsSome slot }
     ensures { slot ≡ Some result }
 {

@@ -4,7 +4,7 @@
 -- or there is none, exactly if they have too many distinct keys. The ruleset `caller` of `Rules` has those that a search
 -- needs.
 use Rattle.std.proofs.Common.{◌≡◌, ℕ, nat_eq, Bool, true, false, List, [], ◌∷◌, Some, None, is_some}
-use Rattle.std.proofs.Common.{refl, ap, sym, ◌∙◌, arith, option_map, if◌then◌else◌, map, map-id, nat_le, not}
+use Rattle.std.proofs.Common.{refl, ap, sym, ◌∙◌, arith, option_map, if◌then◌else◌, map, nat_le, not}
 use Rattle.std.proofs.Common.{◌+◌, ◌<◌, ◌≤◌, inl, inr, filter, fold, get_or, length, le-leb}
 use Rattle.std.specs.{Cmp.IsEquivalence, Set.is_member, Set.distinct_count}
 use Rattle.std.specs.List.{Contains, count_by, find, list_all, list_any, position, position_or_len, IsDistinct}
@@ -15,13 +15,14 @@ use Rattle.std.proofs.lemmas.{Map.Entries.length-keys_of, Map.Entries.lookup_fro
 use Rattle.std.proofs.lemmas.Map.Made.{distinct_count-from_IsDistinct, IsDistinct-from_count, IsDistinct-keys_filter}
 use Rattle.micromap_core.specs.Build.{build, build_or_refuse, count_or_refuse, counts, counts_or_refuse, put_or_refuse}
 use Rattle.micromap_core.specs.{Build.put_fitting, Build.put_whole, Equalities.Lawful, Pairs.at, Pairs.has, Pairs.IsUnique}
-use Rattle.micromap_core.proofs.KeyedLemmas.{counts_keyed, pairs_keyed, whole_counted}
-use Rattle.micromap_core.proofs.{DistinctLemmas.IsDistinct-filter, MapLemmas.lookup-entry}
+use Rattle.micromap_core.proofs.Laws.KeyedLemmas.{counts_keyed, pairs_keyed, whole_counted}
+use Rattle.micromap_core.proofs.Laws.PuttingLemmas.{none_left}
+use Rattle.micromap_core.proofs.{Laws.SublistLaws.IsDistinct-filter, Laws.MapLemmas.lookup-entry}
 use Rattle.micromap_core.proofs.Laws.Equalities.{equalities, of_lawful, Trigger}
 use Rattle.micromap_core.proofs.{Laws.LoopLaws.build_unique, Laws.LoopLaws.unique_map, Laws.MapLaws.at_alike, Laws.MapLaws.length_build}
 use Rattle.micromap.specs.Extend.{distinct, distinct_or_refuse, put_item_or_refuse}
 use Rattle.micromap.specs.Items.{item_fits, put_item, put_item_if_fits}
-use Rattle.micromap.proofs.{AddedItems.added_all, ExtendLemmas.items_keyed}
+use Rattle.micromap.proofs.{Laws.AddedItems.added_all, Laws.ExtendLemmas.items_keyed, Laws.ItemLemmas.is_some-find}
 
 module _ {K V : Type 0} where
   -- a key has a value exactly if it has a pair, and it is the pair's
@@ -35,12 +36,8 @@ module _ {K V : Type 0} where
 
 -- a search finds something exactly if something passes its test, and what it finds passes
 module _ {X : Type 0} (test : X → Bool) where
-  any_found : (items : List X) → is_some (find test items) ≡ list_any test items
-  any_found [] = refl
-  any_found (x ∷ items) = grind (arith, any_found items)
-
   pub is_some_find : (items : List X) → Trigger (find test items) (is_some (find test items) ≡ list_any test items)
-  is_some_find items = (refl, any_found items)
+  is_some_find items = (refl, is_some-find test items)
 
   passes : (items : List X) (x : X) → find test items ≡ Some x → test x ≡ true
   passes [] x found = grind (arith, found)
@@ -56,14 +53,13 @@ module _ {K V : Type 0} (test : K × V → Bool) where
   fails key (e ∷ pairs) p none found = grind (arith, none, found, fails key pairs p)
 
   -- is what its key finds
-  found_at : (eq : K → K → Bool) (pairs : List (K × V)) (p : K × V) → Lawful eq → IsUnique eq pairs
-      → find test pairs ≡ Some p → at eq pairs p.0 ≡ Some p.1
-  found_at eq pairs p laws unique found = lookup_from_place (of_lawful eq laws) pairs (position_or_len test pairs) p.0 p.1 unique
-      (sym (find_at test pairs) ∙ found)
-
   pub at_find : (eq : K → K → Bool) (pairs : List (K × V)) → Lawful eq → IsUnique eq pairs → Trigger (find test pairs)
       ((p : K × V) → find test pairs ≡ Some p → at eq pairs p.0 ≡ Some p.1)
-  at_find eq pairs laws unique = (refl, λ p found. found_at eq pairs p laws unique found)
+  at_find eq pairs laws unique = (
+    refl,
+    λ p found. lookup_from_place (of_lawful eq laws) pairs
+        (position_or_len test pairs) p.0 p.1 unique (sym (find_at test pairs) ∙ found),
+  )
 
   -- where there is none, no pair that is found passes
   pub none_passes : (pairs : List (K × V)) → Trigger (find test pairs)
@@ -154,7 +150,6 @@ pub counts_or_refuse_is : {K : Type 0} (eq : K → K → Bool) (N : ℕ) (items 
     ≡ (if nat_le (distinct_count eq items) N then Some (counts eq items) else None)
 unfolding count_or_refuse counts
 counts_or_refuse_is eq N items laws = whole_counted (of_lawful eq laws) (counts_keyed eq N) items
-    ∙ ap (λ n. if nat_le n N then Some (counts eq items) else None) (ap (distinct_count eq) (map-id items))
 
 module _ {T : Type 0} (eq : T → T → Bool) (N : ℕ) (items : List T) where
   pub distinct_or_refuse_is : Lawful eq → distinct_or_refuse eq N items
@@ -164,16 +159,12 @@ module _ {T : Type 0} (eq : T → T → Bool) (N : ℕ) (items : List T) where
 
 -- items that are all put if each has to fit are all put where those that don't fit are left out
 module _ {C X : Type 0} (admits : C → X → Bool) (add : C → X → C) where
-  none_left : (items : List X) → fold (put_whole admits add) None items ≡ None
-  none_left [] = refl
-  none_left (x ∷ items) = none_left items
-
   all_put : (content whole : C) (items : List X) → fold (put_whole admits add) (Some content) items ≡ Some whole
       → fold (put_fitting admits add) content items ≡ whole
   all_put content whole [] put = cc
   all_put content whole (x ∷ items) put = elim (cases_Bool (admits content x)) [
     | inl fits ↦ rw fits (all_put (add content x) whole items (rw fits at put))
-    | inr misfit ↦ (let none : fold (put_whole admits add) None items ≡ Some whole = rw misfit at put in cc (none_left items))
+    | inr misfit ↦ (let none : fold (put_whole admits add) None items ≡ Some whole = rw misfit at put in cc (none_left admits add items))
   ]
 
 few_enough : {K : Type 0} (eq : K → K → Bool) (N : ℕ) (keys : List K) → IsEquivalence eq

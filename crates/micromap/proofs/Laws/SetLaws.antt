@@ -18,11 +18,13 @@ use Rattle.micromap_core.proofs.Laws.MapLaws.{unique_put_key, unique_take_out, t
 use Rattle.micromap_core.proofs.Laws.ProbedLaws.{keys_remove_entry, lookup_remove_entry}
 use Rattle.micromap.specs.{SetStream.entries_of, Extend.put_all_items}
 use Rattle.micromap.specs.Items.{put_item, replace_item, find_item, item_fits, take_item}
-use Rattle.micromap.specs.Operations.{difference, intersection, symmetric_difference, union}
-use Rattle.micromap.proofs.SetStreamLemmas.{keys_of-entries}
-use Rattle.micromap.proofs.ItemLemmas.{keys_put_item, replace_item-keys, find-keys, take-keys, take_item-keys}
-use Rattle.micromap.proofs.OperationLaws.{is_member-difference, is_member-intersection, is_member-symmetric_difference, is_member-union}
-use Rattle.micromap.proofs.OperationLaws.{within_is_member}
+use Rattle.micromap.specs.Operations.{difference, intersection, symmetric_difference, union, Commutes}
+use Rattle.micromap.proofs.Laws.SetStreamLemmas.{keys_of-entries}
+use Rattle.micromap.proofs.Laws.ItemLemmas.{replace_item-keys, find-keys, take-keys, take_item-keys}
+use Rattle.micromap.proofs.Laws.OperationLemmas.{is_member-difference, is_member-intersection, is_member-symmetric_difference}
+use Rattle.micromap.proofs.Laws.OperationLemmas.{is_member-union, intersection_turned, length-union, symmetric_difference_turned}
+use Rattle.micromap.proofs.Laws.OperationLemmas.{union_turned, within_is_member}
+pub use Rattle.micromap.proofs.Laws.ItemLemmas.{keys_put_item}
 
 length-entries : {T : Type 0} (items : List T) → length (entries_of items) ≡ length items
 length-entries items = sym (length-keys_of (entries_of items)) ∙ ap length (keys_of-entries items)
@@ -310,6 +312,20 @@ module _ {T : Type 0} (eq : T → T → Bool) (xs ys : List T) where
       ≡ (is_member eq xs y && is_member eq ys y))
   each_intersection laws = (refl, is_member-intersection (of_lawful eq laws) xs ys)
 
+  -- turned round, an operation has equal members
+  pub turned_union : Lawful eq → Commutes eq (union eq) xs ys
+  turned_union laws = union_turned (of_lawful eq laws) xs ys
+
+  pub turned_intersection : Lawful eq → Commutes eq (intersection eq) xs ys
+  turned_intersection laws = intersection_turned (of_lawful eq laws) xs ys
+
+  pub turned_symmetric_difference : Lawful eq → Commutes eq (symmetric_difference eq) xs ys
+  turned_symmetric_difference laws = symmetric_difference_turned (of_lawful eq laws) xs ys
+
+  -- union and intersection together have as many members as both lists
+  pub length_union : Trigger (union eq xs ys) (length (union eq xs ys) + length (intersection eq xs ys) ≡ length xs + length ys)
+  length_union = (refl, length-union eq xs ys)
+
 pub ruleset set_laws = (
   put_item_new,
   not_item_fits,
@@ -344,6 +360,7 @@ pub ruleset set_laws = (
   each_symmetric_difference,
   each_difference,
   each_intersection,
+  length_union,
   is_member_walked,
   equalities,
 )

@@ -9,15 +9,17 @@ use Rattle.std.proofs.lemmas.List.{length-append, map-id, take_all}
 use Rattle.std.proofs.lemmas.{List.Sums.fold_more, Bool.cases_Bool, Bool.false≢true, Map.Entries.length-keys_of, Map.Made.is_some-lookup}
 use Rattle.std.proofs.lemmas.Map.Keys.{IsDistinct-head, IsDistinct-tail}
 use Rattle.micromap_core.specs.{Build.merge_pair, Build.merged, Equalities.Lawful, Pairs.at, Pairs.has}
-use Rattle.micromap_core.proofs.{DistinctLemmas.IsDistinct-nil, Lists.all_read, Lists.taken_read, Laws.LoopLaws.each_left}
-use Rattle.micromap_core.proofs.KeyedLemmas.{fold_beyond, length-built, length-fold, member-fold}
-use Rattle.micromap_core.proofs.DistinctLemmas.{IsDistinct-filter, missing_in_shorter, new_behind}
+use Rattle.micromap_core.proofs.{Laws.DistinctLemmas.IsDistinct-nil, Laws.Lists.all_read, Laws.Lists.taken_read, Laws.LoopLaws.each_left}
+use Rattle.micromap_core.proofs.Laws.KeyedLemmas.{fold_beyond, length-built, length-fold, member-fold}
+use Rattle.micromap_core.proofs.Laws.SublistLaws.{IsDistinct-filter}
+use Rattle.micromap_core.proofs.Laws.DistinctLemmas.{missing_in_shorter, new_behind}
 use Rattle.micromap_core.proofs.Laws.Equalities.{equalities, of_lawful, Trigger}
 use Rattle.micromap.specs.{Extend.put_all_items, Extend.distinct, Items.item_fits, Items.put_item, Items.take_item}
 use Rattle.micromap.specs.Operations.{difference, union}
-use Rattle.micromap.proofs.{ExtendLemmas.items_keyed, ItemLemmas.keys_put_item, ItemLemmas.keys_put_all_items}
+use Rattle.micromap.proofs.{Laws.ExtendLemmas.items_keyed, Laws.ItemLemmas.keys_put_item}
 use Rattle.micromap.proofs.Laws.SetLaws.{is_member_put_item, items_take_item, length_put_item, not_item_fits}
 use Rattle.micromap.proofs.Laws.SetLaws.{all_put_item, put_item_back, put_item_new, unique_put_item}
+pub use Rattle.micromap.proofs.Laws.ItemLemmas.{keys_put_all_items}
 
 module _ {T : Type 0} (eq : T → T → Bool) where
   -- items that are done and items that are left: a new one goes between them

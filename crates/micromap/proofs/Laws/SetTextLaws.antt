@@ -2,11 +2,12 @@
 -- The laws hold for `String` and for `&str`. `stored_item` is of `TextBuf`. The ruleset `caller` of `Rules` has those that a
 -- search needs.
 use Rattle.std.proofs.Common.{◌≡◌, ℕ, Bool, List, [], ◌∷◌, length, refl, ap, sym, ◌∙◌, arith, bytes_eq, option_map}
-use Rattle.std.proofs.Common.{Some, None, if◌then◌else◌}
-use Rattle.std.specs.{List.IsDistinct, List.find, List.list_any, Ordering.on, Set.is_member, Set.remove_key}
-use Rattle.std.proofs.lemmas.{List.length-map, List.map-append, Map.Made.find_same, Slice.Eq.bytes_eq-Decides}
+use Rattle.std.proofs.Common.{drop, filter, slice_get, take, Some, None, if◌then◌else◌}
+use Rattle.std.specs.{List.AllZip, List.IsDistinct, List.find, List.list_any, Ordering.on, Set.is_member, Set.remove_key}
+use Rattle.std.proofs.lemmas.{List.drop-map, List.length-map, List.map-append, Map.Made.find_same, Option.slice_get-map, Slice.Eq.bytes_eq-Decides}
 use Rattle.micromap_core.specs.{Same.have_equal_items, Texts.items_by}
-use Rattle.micromap_core.proofs.{Views.any-map, Views.distinct-map, Views.equal_items-map, Views.find-map, Views.remove_key-map}
+use Rattle.micromap_core.proofs.Laws.Views.{any-map, cloned-map, filter-map, take-map, distinct-map, equal_items-map, find-map}
+use Rattle.micromap_core.proofs.Laws.Views.{remove_key-map}
 use Rattle.micromap_core.proofs.{Laws.Equalities.equalities, Laws.Equalities.Trigger, Laws.TextLaws.compares_by, Laws.TextLaws.ComparesBy}
 use Rattle.micromap.specs.{Extend.put_all_items, Items.put_item, Items.find_item, Items.take_item}
 use Rattle.micromap.proofs.Laws.SetLaws.{length_put_item, put_item_back}
@@ -24,6 +25,35 @@ module _ {T : Type 0} (bytes_of : T → List ℕ) where
     pub unique_item_texts : IsDistinct (on bytes_of bytes_eq) items → IsDistinct bytes_eq (items_by bytes_of items)
     unfolding items_by
     unique_item_texts distinct = distinct-map bytes_of bytes_eq items distinct
+
+    -- the first or the last item, and the others
+    pub item_texts_slice_get : (i : ℕ) → slice_get (items_by bytes_of items) i ≡ option_map bytes_of (slice_get items i)
+    unfolding items_by
+    item_texts_slice_get i = slice_get-map bytes_of items i
+
+    pub item_texts_drop : (n : ℕ) → items_by bytes_of (drop n items) ≡ drop n (items_by bytes_of items)
+    unfolding items_by
+    item_texts_drop n = sym (drop-map bytes_of n items)
+
+    -- by the number itself, which a search doesn't find in the law of each number
+    pub item_texts_drop_first : items_by bytes_of (drop 1 items) ≡ drop 1 (items_by bytes_of items)
+    item_texts_drop_first = item_texts_drop 1
+
+    pub item_texts_take : (n : ℕ) → items_by bytes_of (take n items) ≡ take n (items_by bytes_of items)
+    unfolding items_by
+    item_texts_take n = sym (take-map bytes_of n items)
+
+    -- the items that pass a test of their texts
+    pub item_texts_filter : (test : List ℕ → Bool) → filter test (items_by bytes_of items)
+        ≡ items_by bytes_of (filter (λ x. test (bytes_of x)) items)
+    unfolding items_by
+    item_texts_filter test = filter-map bytes_of test items
+
+    -- a clone of the set
+    pub item_texts_cloned : (copy : List T) (C : T → T → Type 0) → AllZip C items copy
+        → ((x y : T) → C x y → bytes_of y ≡ bytes_of x) → items_by bytes_of copy ≡ items_by bytes_of items
+    unfolding items_by
+    item_texts_cloned copy C clones each = cloned-map bytes_of C each items copy clones
 
     module _ (bs : List ℕ) where
       pub is_member_item_texts : is_member bytes_eq (items_by bytes_of items) bs ≡ list_any (λ x. bytes_eq bs (bytes_of x)) items
@@ -80,6 +110,12 @@ pub ruleset set_text_laws = (
   is_member_item_texts,
   unique_item_texts,
   length_item_texts,
+  item_texts_slice_get,
+  item_texts_drop,
+  item_texts_drop_first,
+  item_texts_take,
+  item_texts_filter,
+  item_texts_cloned,
   item_texts_put_item,
   item_texts_remove_key,
   find_item_item_texts,

@@ -1,10 +1,10 @@
 //! Building a set from an array or an iterator, and extending it. Of equal items the first is stored. Items are in the
 //! order in which they first came.
-ghost use Rattle.std.specs.Prelude.{◌≡◌, ◌↔◌, ◌<◌, ◌≤◌, List, [], fold, length, Option, Some, IfSome, IfOk, OnOk, IfErr, OnErr, IsErr, IsTrue, ⊤};
+ghost use Rattle.std.specs.Prelude.{◌≡◌, ◌↔◌, ◌<◌, ◌≤◌, [], fold, length, Some, IfSome, IfOk, OnOk, IfErr, OnErr, IsErr, IsNone, IsTrue};
 ghost use Rattle.std.specs.Bool.{then_some};
-ghost use Rattle.std.specs.Iterator.{Drains, IsFinite, UpTo};
+ghost use Rattle.std.specs.Iterator.{IsFinite, UpTo};
 ghost use Rattle.std.specs.Set.{distinct_count};
-ghost use Rattle.micromap.specs.Build.{most_items, AllItems, ItemsUpTo};
+ghost use Rattle.micromap.specs.Build.{most_items, AllItems, ItemsUpTo, TakesAll};
 ghost use Rattle.micromap.specs.Extend.{all_items_fit, distinct, put_all_items, put_item_or_refuse, ItemMisfitIn, PutsAllItems, PutsItemsBefore};
 ghost use Rattle.micromap.specs.Items.{AreItems, IsItems, put_item_if_fits};
 
@@ -76,12 +76,12 @@ impl<T: Eq + Drop, const N: usize> Set<T, N> {
     // Inserts those of the items that fit, and returns whether all did.
     #[inline]
     #[tactic(auto, unfolding(crate::specs::Extend::put_item_or_refuse))]
-    fn put_fitting<I: Iterator<Item = T>>(&mut self, items: I) -> bool
+    fn extend_fitting<I: Iterator<Item = T>>(&mut self, items: I) -> bool
         requires can { I.can_next items }
         requires ends { IsFinite (I.remaining items) }
-        ensures built { (xs : List T) × (⊤ → Drains I.next_gives items xs)
-            × (then_some result self.new ≡ fold (put_item_or_refuse T.eq N) (Some self.old) xs)
-            × (self.new ≡ fold (put_item_if_fits T.eq N) self.old xs) }
+        ensures built { TakesAll I.next_gives items (λ xs.
+            (then_some result self.new ≡ fold (put_item_or_refuse T.eq N) (Some self.old) xs)
+            × (self.new ≡ fold (put_item_if_fits T.eq N) self.old xs)) }
         ensures content { AreItems T.eq N self.old self.new }
     {
         // What is true of the set, for the contract: `len` ensures it.
@@ -105,12 +105,12 @@ impl<T: Eq + Drop, const N: usize> Set<T, N> {
     pub fn from_all<I: Iterator<Item = T>>(items: I) -> Option<Self>
         requires can { I.can_next items }
         requires ends { IsFinite (I.remaining items) }
-        ensures built { (xs : List T) × (⊤ → Drains I.next_gives items xs)
-            × (result ≡ fold (put_item_or_refuse T.eq N) (Some []) xs) }
+        ensures built { TakesAll I.next_gives items (λ xs. result ≡ fold (put_item_or_refuse T.eq N) (Some []) xs) }
+        ensures many { AllItems I.next_gives items (λ taken. IsNone result ↔ (N < distinct_count T.eq taken)) }
         ensures content { IfSome result (IsItems T.eq N) }
     {
         let mut whole = Set::new();
-        if whole.put_fitting(items) {
+        if whole.extend_fitting(items) {
             Some(whole)
         } else {
             None
@@ -122,12 +122,11 @@ impl<T: Eq + Drop, const N: usize> Set<T, N> {
     pub fn from_fitting<I: Iterator<Item = T>>(items: I) -> Self
         requires can { I.can_next items }
         requires ends { IsFinite (I.remaining items) }
-        ensures built { (xs : List T) × (⊤ → Drains I.next_gives items xs)
-            × (result ≡ fold (put_item_if_fits T.eq N) [] xs) }
+        ensures built { TakesAll I.next_gives items (λ xs. result ≡ fold (put_item_if_fits T.eq N) [] xs) }
         ensures content { IsItems T.eq N result }
     {
         let mut fitting = Set::new();
-        fitting.put_fitting(items);
+        fitting.extend_fitting(items);
         fitting
     }
 }

@@ -1,5 +1,5 @@
 //! Comparing two sets, whose capacities may differ.
-ghost use Rattle.std.specs.Prelude.{◌↔◌, IsTrue};
+ghost use Rattle.std.specs.Prelude.{◌≡◌, ◌↔◌, IsTrue};
 ghost use Rattle.std.specs.Cmp.{partial_equiv_from_equiv};
 ghost use Rattle.micromap.specs.Operations.{HaveEquals};
 ghost use Rattle.micromap.specs.Same.{have_equal_items, HaveEqualItems};
@@ -10,7 +10,7 @@ use super::operations::Wanted;
 
 impl<T: Eq, const N: usize> Set<T, N> {
     /// Returns `true` if each item of either set has an equal one in the other. Neither order nor capacity matters. `==`
-    /// is `eq_with` within one type. After `==` the law `same_members` says what the clause `members` says here.
+    /// is `eq_with` within one type.
     ///
     /// Compares no item if the lengths differ. Else it costs what `is_subset` costs.
     ///
@@ -34,7 +34,11 @@ impl<T: Eq, const N: usize> PartialEq for Set<T, N> {
 
     ghost laws = { partial_equiv_from_equiv (have_equal_items_equiv T.Eq.laws) };
 
-    fn eq(&self, other: &Set<T, N>) -> bool {
+    /// Says what `eq_with` says.
+    fn eq(&self, other: &Set<T, N>) -> bool
+        ensures answer { result ≡ have_equal_items T.eq self.now other.now }
+        ensures members { IsTrue result ↔ HaveEquals T.eq self.now other.now }
+    {
         self.eq_with(other)
     }
 }

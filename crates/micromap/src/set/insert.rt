@@ -4,7 +4,7 @@ ghost use Rattle.std.specs.Set.{is_member};
 ghost use Rattle.micromap_core.specs.declared.insert_error.InsertError.TheVariants.{Occupied, Full};
 ghost use Rattle.micromap.specs.Items.{AreItems, put_item, put_item_if_fits, replace_item, find_item, item_fits};
 
-use super::{Set, item_of};
+use super::{Set, item_of_entry};
 use crate::InsertError;
 
 impl<T: Eq + Drop, const N: usize> Set<T, N> {
@@ -57,7 +57,7 @@ impl<T: Eq + Drop, const N: usize> Set<T, N> {
         ensures items { self.new ≡ replace_item T.eq self.old item }
         ensures content { AreItems T.eq N self.old self.new }
     {
-        item_of(self.map.insert_key_value(item, ()))
+        item_of_entry(self.map.insert_key_value(item, ()))
     }
 
     /// Inserts the item if it fits. Returns `Some(item)` if an equal one is stored, else `None`, inserted or refused.

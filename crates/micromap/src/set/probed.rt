@@ -6,7 +6,7 @@ ghost use Rattle.std.specs.Option.{option_copied};
 ghost use Rattle.std.specs.Set.{remove_key};
 ghost use Rattle.micromap.specs.Items.{AreItems, item_fits_by};
 
-use super::{Set, item_of};
+use super::{Set, item_of_entry};
 use crate::Probe;
 
 impl<T: Eq, const N: usize> Set<T, N> {
@@ -51,7 +51,7 @@ impl<T: Eq + Drop, const N: usize> Set<T, N> {
         ensures items { self.new ≡ remove_key (P.matches probe.now) self.old }
         ensures content { AreItems T.eq N self.old self.new }
     {
-        item_of(self.map.remove_entry_by(probe))
+        item_of_entry(self.map.remove_entry_by(probe))
     }
 
     /// Removes the item that matches, as `take` does, and returns `true` if there was one.

@@ -3,7 +3,7 @@ ghost use Rattle.std.specs.Prelude.{◌≡◌, ◌-◌, drop, length, slice_get,
 ghost use Rattle.std.specs.Set.{is_member};
 ghost use Rattle.micromap.specs.Items.{AreItems, find_item, take_item};
 
-use super::{Set, item_of};
+use super::{Set, item_of_entry};
 
 impl<T: Eq + Drop, const N: usize> Set<T, N> {
     /// Removes the item that equals `item`, and returns it, or `None` if there is none.
@@ -22,7 +22,7 @@ impl<T: Eq + Drop, const N: usize> Set<T, N> {
         ensures items { self.new ≡ take_item T.eq self.old item.now }
         ensures content { AreItems T.eq N self.old self.new }
     {
-        item_of(self.map.remove_entry(item))
+        item_of_entry(self.map.remove_entry(item))
     }
 
     /// Removes the item that equals `item`, as `take` does, and returns `true` if there was one.
@@ -48,7 +48,7 @@ impl<T: Eq + Drop, const N: usize> Set<T, N> {
         ensures items { self.new ≡ drop 1 self.old }
         ensures content { AreItems T.eq N self.old self.new }
     {
-        item_of(self.map.pop_first())
+        item_of_entry(self.map.pop_first())
     }
 
     /// Removes the last item, and returns it, or `None` if the set is empty. The others stay where they are.
@@ -58,6 +58,6 @@ impl<T: Eq + Drop, const N: usize> Set<T, N> {
         ensures items { self.new ≡ take (length self.old - 1) self.old }
         ensures content { AreItems T.eq N self.old self.new }
     {
-        item_of(self.map.pop_last())
+        item_of_entry(self.map.pop_last())
     }
 }

@@ -10,10 +10,10 @@ use Rattle.micromap_core.specs.{Calls.run, Calls.Call, Equalities.Lawful, Fair.A
 use Rattle.micromap_core.specs.Pairs.{fits, has, has_room, put, put_key, take_out, IsUnique}
 use Rattle.micromap_core.specs.Same.{has_value, have_equal_items, is_same, HaveEqualItems, Same}
 use Rattle.micromap_core.specs.SameLaws.{have_equal_items_equiv, is_same_equiv}
-use Rattle.micromap_core.proofs.DistinctLemmas.{length-filter_members, members_turned, missing_in_shorter}
-use Rattle.micromap_core.proofs.FairLemmas.{put_key_same, put_same, run_same, take_out_same}
+use Rattle.micromap_core.proofs.Laws.DistinctLemmas.{length-filter_members, members_turned, missing_in_shorter}
+use Rattle.micromap_core.proofs.Laws.FairLemmas.{put_key_same, put_same, run_same, take_out_same}
 use Rattle.micromap_core.proofs.Laws.Equalities.{equalities, lawful, of_lawful, Trigger}
-use Rattle.micromap_core.proofs.SameLemmas.{comparable, long_from_same, same_by_filters, same_if_long, Comparable}
+use Rattle.micromap_core.proofs.Laws.SameLemmas.{comparable, long_from_same, same_by_filters, same_if_long, Comparable}
 
 -- where not all items pass a test, one fails it
 some_fails : {T : Type 0} {eq : T → T → Bool} (laws : IsEquivalence eq) (test : T → Bool) (xs : List T) → list_all test xs ≡ false

@@ -10,10 +10,11 @@ use Rattle.std.proofs.lemmas.List.Sums.{count_by-le-length, fold_more, fold_push
 use Rattle.micromap_core.specs.Build.{count_one, counts, merge_pair, merged, put_all}
 use Rattle.micromap_core.specs.Equalities.{Lawful}
 use Rattle.micromap_core.specs.Pairs.{at, fits, has, put, IsUnique}
-use Rattle.micromap_core.proofs.KeyedLemmas.{counts_keyed, distinct-fold, fold_beyond, length-built, length-fold, member-fold, puts_keyed}
-use Rattle.micromap_core.proofs.KeyedLemmas.{IsKeyed}
+use Rattle.micromap_core.proofs.Laws.KeyedLemmas.{counts_keyed, distinct-fold, fold_beyond, length-built, length-fold, member-fold}
+use Rattle.micromap_core.proofs.Laws.KeyedLemmas.{puts_keyed, IsKeyed}
 use Rattle.micromap_core.proofs.Laws.Equalities.{of_lawful, Trigger}
-use Rattle.micromap_core.proofs.{Laws.MapLaws.at_alike, Laws.MapLaws.at_put, Laws.MapLaws.unique_empty, Lists.all_read, Lists.taken_read}
+use Rattle.micromap_core.proofs.{Laws.MapLaws.at_alike, Laws.MapLaws.at_put, Laws.MapLaws.unique_empty, Laws.Lists.all_read}
+use Rattle.micromap_core.proofs.Laws.Lists.{taken_read}
 
 module _ {K V W : Type 0} (eq : K → K → Bool) (step : Option V → W → V) where
   -- no item, the first item, and one more
@@ -205,8 +206,7 @@ module _ {K : Type 0} (eq : K → K → Bool) where
 
   pub length_counts : (items : List K) → Lawful eq → length (counts eq items) ≡ distinct_count eq items
   unfolding counts
-  length_counts items laws = sym (length-keys_of (counts eq items))
-      ∙ length-built (of_lawful eq laws) (counts_keyed eq 0) items ∙ ap (distinct_count eq) (map-id items)
+  length_counts items laws = sym (length-keys_of (counts eq items)) ∙ length-built (of_lawful eq laws) (counts_keyed eq 0) items
 
   counts_take : (items : List K) (i : ℕ) (d : K) → i < length items
       → counts eq (take (i + 1) items) ≡ count_one eq (counts eq (take i items)) (get_or items i d)

@@ -16,7 +16,8 @@ use Rattle.std.proofs.lemmas.{Option.slice_get-get_or, Simd.map-map}
 use Rattle.micromap_core.specs.{Build.build, Build.put_all, Equalities.Lawful, Same.has_value}
 use Rattle.micromap_core.specs.Closures.{updated_disjoint, CalledOnPair, CalledOnValue, UpdateAllTurn, UpdateDisjointTurn}
 use Rattle.micromap_core.specs.Pairs.{at, fits, has, put, take_out, IsUnique}
-use Rattle.micromap_core.proofs.{ClosureLemmas.seen, ClosureLemmas.updated_at_keys, DistinctLemmas.new_behind, KeyedLemmas.built_in_turn}
+use Rattle.micromap_core.proofs.{Laws.ClosureLemmas.seen, Laws.ClosureLemmas.updated_at_keys, Laws.DistinctLemmas.new_behind}
+use Rattle.micromap_core.proofs.Laws.KeyedLemmas.{built_in_turn}
 use Rattle.micromap_core.proofs.Laws.Equalities.{equalities, of_lawful, Trigger}
 use Rattle.micromap_core.proofs.Laws.MapLaws.{length_put, not_fits, put_new}
 

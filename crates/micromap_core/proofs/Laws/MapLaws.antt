@@ -13,16 +13,17 @@ use Rattle.std.proofs.lemmas.Map.Entries.{length-keys_of, none_past_head, option
 use Rattle.std.proofs.lemmas.Map.Steps.{set_value_same}
 use Rattle.micromap_core.specs.{Build.build, Build.put_all, Build.put_pair, Equalities.Lawful, Equalities.Probes}
 use Rattle.micromap_core.specs.Pairs.{at, fits, has, pair, put, put_key, take_out, IsUnique}
-use Rattle.micromap_core.proofs.DistinctLemmas.{IsDistinct-filter, IsDistinct-nil}
-use Rattle.micromap_core.proofs.KeyedLemmas.{distinct-built, length-built, pairs_keyed}
+use Rattle.micromap_core.proofs.Laws.SublistLaws.{IsDistinct-filter}
+use Rattle.micromap_core.proofs.Laws.DistinctLemmas.{IsDistinct-nil}
+use Rattle.micromap_core.proofs.Laws.KeyedLemmas.{distinct-built, length-built, pairs_keyed}
 use Rattle.micromap_core.proofs.Laws.Equalities.{equalities, of_lawful, of_probes, probes_key, same_test, Trigger}
 use Rattle.micromap_core.proofs.Laws.ProbedLaws.{keys_remove_entry, lookup_remove_bytes, lookup_remove_entry, lookup_remove_str}
 use Rattle.micromap_core.proofs.Laws.ProbedLaws.{lookup_remove_text, remove_entry_missing, remove_entry_push, set_value_missing}
 use Rattle.micromap_core.proofs.Laws.ProbedLaws.{unique_remove_entry, unique_set_value}
-use Rattle.micromap_core.proofs.MapLemmas.{by_test, entry_new, entry_push, entry_set, entry_set_key, keys_of-put_new, keys_of-put_stored}
-use Rattle.micromap_core.proofs.MapLemmas.{keys_removed, length-remove_entry, length-set_key, lookup-append, lookup-entry, lookup-reverse}
-use Rattle.micromap_core.proofs.MapLemmas.{lookup-set, no_value, none_apart, push-put, push-put_key, set_put, slice_set-put_key}
-use Rattle.micromap_core.proofs.MapLemmas.{IsUnique-push, IsUnique-set, IsUnique-set_key}
+use Rattle.micromap_core.proofs.Laws.MapLemmas.{by_test, entry_new, entry_push, entry_set, entry_set_key, keys_of-put_new}
+use Rattle.micromap_core.proofs.Laws.MapLemmas.{keys_of-put_stored, keys_removed, length-remove_entry, length-set_key, lookup-append}
+use Rattle.micromap_core.proofs.Laws.MapLemmas.{lookup-entry, lookup-reverse, lookup-set, no_value, none_apart, push-put, push-put_key}
+use Rattle.micromap_core.proofs.Laws.MapLemmas.{set_put, slice_set-put_key, IsUnique-push, IsUnique-set, IsUnique-set_key}
 
 -- by a test: the pair that is found, and its value
 module _ {K V : Type 0} (eq : K → K → Bool) (test : K → Bool) where

@@ -8,7 +8,8 @@ use Rattle.std.proofs.lemmas.Map.{keys-set_value}
 use Rattle.micromap_core.specs.{Equalities.Lawful, Equalities.Probes, Pairs.without_at, Pairs.IsUnique, Probe.is_str, Probe.is_text}
 use Rattle.micromap_core.specs.Texts.{str_eq}
 use Rattle.micromap_core.proofs.Laws.Equalities.{of_lawful, of_probes, probes_bytes, probes_str, probes_text}
-use Rattle.micromap_core.proofs.MapLemmas.{by_test, keys_removed, lookup-removed, no_value, IsUnique-remove}
+use Rattle.micromap_core.proofs.Laws.MapLemmas.{by_test, keys_removed, lookup-removed, no_value, IsUnique-remove}
+pub use Rattle.micromap_core.proofs.Laws.MapLemmas.{length-remove_entry, lookup-set}
 
 module _ {K V : Type 0} (test : K → Bool) (pairs : List (K × V)) where
   pub set_value_missing : (v : V) → lookup test pairs ≡ None → set_value test pairs v ≡ pairs

@@ -3,17 +3,17 @@
 -- value: `key_texts` and `key_strs` show values as they are, `texts` and `strs` by their bytes. `ComparesBy bytes_of eq` says that
 -- `eq x y ≡ bytes_eq (bytes_of x) (bytes_of y)` for all `x` and `y`. `stored_text` is of `TextBuf`. The ruleset `caller` of `Rules` has
 -- those that a search needs.
-use Rattle.std.proofs.Common.{◌≡◌, ℕ, [], ◌∷◌, ◌++◌, ◌∙◌, ap, arith, bytes_eq, codes, is_some, length, refl, string_bytes, string_eq, subst}
-use Rattle.std.proofs.Common.{sym, true, Bool, Bor, List, None, Option, Some, String}
+use Rattle.std.proofs.Common.{◌≡◌, ℕ, [], ◌∷◌, ◌++◌, ◌∙◌, ap, arith, bytes_eq, codes, drop, filter, is_some, length, refl, slice_get, string_bytes, string_eq, subst}
+use Rattle.std.proofs.Common.{sym, take, true, Bool, Bor, List, None, Option, Some, String}
 use Rattle.std.specs.Fmt.{◌++?◌, comma_space, debug_items}
-use Rattle.std.specs.{List.IsDistinct, Option.option_map, Ordering.on}
+use Rattle.std.specs.{List.AllZip, List.IsDistinct, Option.option_map, Ordering.on}
 use Rattle.std.specs.Map.{keys_of, lookup, lookup_entry, remove_entry, set_value}
-use Rattle.std.proofs.lemmas.{Bool.false≢true, List.length-map, List.map-append, Simd.map-map, Slice.Eq.bytes_eq-Decides}
-use Rattle.micromap_core.specs.{Build.put_all, Print.map_text, Print.pair_text, Print.set_text, Probe.is_str, Probe.is_text, Same.is_same}
+use Rattle.std.proofs.lemmas.{Bool.false≢true, List.drop-map, List.length-map, List.map-append, Option.slice_get-map, Simd.map-map, Slice.Eq.bytes_eq-Decides}
+use Rattle.micromap_core.specs.{Build.put_all, Clones.IsPairClone, Print.map_text, Print.pair_text, Print.set_text, Probe.is_str, Probe.is_text, Same.is_same}
 use Rattle.micromap_core.specs.Pairs.{at, has, pair, put, take_out, IsUnique}
 use Rattle.micromap_core.specs.Texts.{items_by, texts_by}
-use Rattle.micromap_core.proofs.{Laws.Equalities.Trigger, Laws.MapLaws.pair_key, Laws.MapLaws.stored_key, MapLemmas.lookup-entry}
-use Rattle.micromap_core.proofs.Views.{distinct-map, equal_items-map, printed-map}
+use Rattle.micromap_core.proofs.{Laws.Equalities.Trigger, Laws.MapLaws.pair_key, Laws.MapLaws.stored_key, Laws.MapLemmas.lookup-entry}
+use Rattle.micromap_core.proofs.Laws.Views.{cloned-map, distinct-map, equal_items-map, filter-map, printed-map, take-map}
 
 both_known : (a b : Option (List ℕ)) → is_some a ≡ true → is_some b ≡ true → is_some (a ++? b) ≡ true
 both_known None b known also = absurd (false≢true known)
@@ -126,6 +126,38 @@ module _ {K V W : Type 0} (bytes_of : K → List ℕ) (value_of : V → W) where
     unfolding texts_by
     length_texts = length-map pairs _
 
+    -- the first or the last pair, and the others
+    pub texts_slice_get : (i : ℕ) → slice_get (texts_by bytes_of value_of pairs) i
+        ≡ option_map (λ (p : K × V). (bytes_of p.0, value_of p.1)) (slice_get pairs i)
+    unfolding texts_by
+    texts_slice_get i = slice_get-map _ pairs i
+
+    pub texts_drop : (n : ℕ) → texts_by bytes_of value_of (drop n pairs) ≡ drop n (texts_by bytes_of value_of pairs)
+    unfolding texts_by
+    texts_drop n = sym (drop-map _ n pairs)
+
+    -- by the number itself, which a search doesn't find in the law of each number
+    pub texts_drop_first : texts_by bytes_of value_of (drop 1 pairs) ≡ drop 1 (texts_by bytes_of value_of pairs)
+    texts_drop_first = texts_drop 1
+
+    pub texts_take : (n : ℕ) → texts_by bytes_of value_of (take n pairs) ≡ take n (texts_by bytes_of value_of pairs)
+    unfolding texts_by
+    texts_take n = sym (take-map _ n pairs)
+
+    -- the pairs that pass a test of their texts
+    pub texts_filter : (test : List ℕ × W → Bool) → filter test (texts_by bytes_of value_of pairs)
+        ≡ texts_by bytes_of value_of (filter (λ p. test (bytes_of p.0, value_of p.1)) pairs)
+    unfolding texts_by
+    texts_filter test = filter-map _ test pairs
+
+    -- a clone of the map
+    pub texts_cloned : (copy : List (K × V)) (C : K → K → Type 0) (D : V → V → Type 0) → AllZip (IsPairClone C D) pairs copy
+        → ((x y : K) → C x y → bytes_of y ≡ bytes_of x) → ((v w : V) → D v w → value_of w ≡ value_of v)
+        → texts_by bytes_of value_of copy ≡ texts_by bytes_of value_of pairs
+    unfolding texts_by
+    texts_cloned copy C D clones keys values = cloned-map _ (IsPairClone C D)
+        (λ p q clone i. (keys p.0 q.0 clone.0 i, values p.1 q.1 clone.1 i)) pairs copy clones
+
   -- the pairs once these are put
   pub texts_put_all : (eq : K → K → Bool) (pairs items : List (K × V)) → ComparesBy bytes_of eq
       → texts_by bytes_of value_of (put_all eq pairs items) ≡ put_all bytes_eq (texts_by bytes_of value_of pairs)
@@ -218,6 +250,12 @@ pub ruleset text_laws = (
   at_made_by,
   unique_texts,
   length_texts,
+  texts_slice_get,
+  texts_drop,
+  texts_drop_first,
+  texts_take,
+  texts_filter,
+  texts_cloned,
   same_texts,
   text_of_texts,
 )

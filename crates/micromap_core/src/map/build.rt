@@ -1,17 +1,17 @@
 //! Building a map from an array or an iterator, and extending it. Keys are in the order in which they first came. Each
 //! key has the value of its last item.
-ghost use Rattle.std.specs.Prelude.{◌≡◌, ◌↔◌, ◌<◌, ◌≤◌, List, [], fold, length, Option, Some, IsTrue, IfSome, IfOk, OnOk, IfErr, OnErr, IsErr, ⊤};
+ghost use Rattle.std.specs.Prelude.{◌≡◌, ◌↔◌, ◌<◌, ◌≤◌, [], fold, length, Some, IsTrue, IfSome, IfOk, OnOk, IfErr, OnErr, IsErr, IsNone};
 ghost use Rattle.std.specs.Bool.{then_some};
-ghost use Rattle.std.specs.Iterator.{Drains, IsFinite, UpTo};
+ghost use Rattle.std.specs.Iterator.{IsFinite, UpTo};
 ghost use Rattle.std.specs.Map.{keys_of};
 ghost use Rattle.std.specs.Option.{unwrap_or};
 ghost use Rattle.std.specs.Set.{distinct_count};
-ghost use Rattle.micromap_core.specs.Build.{all_fit, build, count_one, count_or_refuse, most_items, put_all, put_fitting, put_or_refuse, put_pair_if_fits, AllItems, ItemsUpTo, MisfitIn, PutsAll, PutsBefore};
+ghost use Rattle.micromap_core.specs.Build.{all_fit, build, count_one, count_or_refuse, most_items, put_all, put_fitting, put_or_refuse, put_pair_if_fits, AllItems, ItemsUpTo, MisfitIn, PutsAll, PutsBefore, TakesAll};
 ghost use Rattle.micromap_core.specs.Pairs.{at, fits, AreContents, IsContent, IsUnique};
 
 use super::Map;
 use crate::overfull::Overfull;
-use crate::slots::Columns;
+use micromap_walk::Columns;
 
 impl<K: Eq + Copy, V: Copy, const N: usize> From<[(K, V); N]> for Map<K, V, N> {
     ghost from_gives = { λ items map. (map ≡ build K.eq items) × IsTrue (all_fit K.eq N items) × IsContent K.eq N map };
@@ -140,14 +140,15 @@ impl<K: Eq + Drop, V: Drop, const N: usize> Map<K, V, N> {
     // Inserts those of the items that fit, and returns whether all did.
     #[inline]
     #[tactic(auto, unfolding(crate::specs::Build::put_or_refuse))]
-    fn put_fitting<I: Iterator<Item = (K, V)>>(&mut self, items: I) -> bool
+    fn extend_fitting<I: Iterator<Item = (K, V)>>(&mut self, items: I) -> bool
         requires can { I.can_next items }
         requires ends { IsFinite (I.remaining items) }
-        ensures built { (xs : List (K × V)) × (⊤ → Drains I.next_gives items xs)
-            × (then_some result self.new ≡ fold (put_or_refuse K.eq N) (Some self.old) xs)
-            × (self.new ≡ fold (put_pair_if_fits K.eq N) self.old xs) }
+        ensures built { TakesAll I.next_gives items (λ xs.
+            (then_some result self.new ≡ fold (put_or_refuse K.eq N) (Some self.old) xs)
+            × (self.new ≡ fold (put_pair_if_fits K.eq N) self.old xs)) }
         ensures content { AreContents K.eq N self.old self.new }
     {
+        // What is true of the map if there is no item, for the contract: `len` ensures it.
         let _known = self.len();
         let mut all_fit = true;
         for (key, value) in items {
@@ -171,12 +172,13 @@ impl<K: Eq + Drop, V: Drop, const N: usize> Map<K, V, N> {
     pub fn from_all<I: Iterator<Item = (K, V)>>(items: I) -> Option<Self>
         requires can { I.can_next items }
         requires ends { IsFinite (I.remaining items) }
-        ensures built { (xs : List (K × V)) × (⊤ → Drains I.next_gives items xs)
-            × (result ≡ fold (put_or_refuse K.eq N) (Some []) xs) }
+        ensures built { TakesAll I.next_gives items (λ xs. result ≡ fold (put_or_refuse K.eq N) (Some []) xs) }
+        ensures many { AllItems I.next_gives items (λ taken.
+            IsNone result ↔ (N < distinct_count K.eq (keys_of taken))) }
         ensures content { IfSome result (IsContent K.eq N) }
     {
         let mut whole = Map::new();
-        if whole.put_fitting(items) {
+        if whole.extend_fitting(items) {
             Some(whole)
         } else {
             None
@@ -194,12 +196,11 @@ impl<K: Eq + Drop, V: Drop, const N: usize> Map<K, V, N> {
     pub fn from_fitting<I: Iterator<Item = (K, V)>>(items: I) -> Self
         requires can { I.can_next items }
         requires ends { IsFinite (I.remaining items) }
-        ensures built { (xs : List (K × V)) × (⊤ → Drains I.next_gives items xs)
-            × (result ≡ fold (put_pair_if_fits K.eq N) [] xs) }
+        ensures built { TakesAll I.next_gives items (λ xs. result ≡ fold (put_pair_if_fits K.eq N) [] xs) }
         ensures content { IsContent K.eq N result }
     {
         let mut fitting = Map::new();
-        fitting.put_fitting(items);
+        fitting.extend_fitting(items);
         fitting
     }
 }
@@ -242,6 +243,7 @@ impl<K: Eq + Copy, V: Copy, const N: usize> Map<K, V, N> {
         ensures misfit { IfErr result (λ e. MisfitIn K.eq N self.old other.now e.at) }
         ensures content { AreContents K.eq N self.old self.new }
     {
+        // What is true of the map if `other` is empty, for the contract: `len` ensures it.
         let _known = self.len();
         let mut position = 0;
         for (key, value) in other {
@@ -270,8 +272,8 @@ impl<K: Eq + Drop, const N: usize> Map<K, usize, N> {
     pub fn counts_of<I: Iterator<Item = K>>(items: I) -> Option<Self>
         requires can { I.can_next items }
         requires ends { UpTo (I.remaining items) most_items }
-        ensures built { (xs : List K) × (⊤ → Drains I.next_gives items xs)
-            × (result ≡ fold (count_or_refuse K.eq N) (Some []) xs) }
+        ensures built { TakesAll I.next_gives items (λ xs. result ≡ fold (count_or_refuse K.eq N) (Some []) xs) }
+        ensures many { AllItems I.next_gives items (λ taken. IsNone result ↔ (N < distinct_count K.eq taken)) }
         ensures content { IfSome result (IsContent K.eq N) }
     {
         let mut counts = Map::new();

@@ -4,11 +4,11 @@ ghost use Rattle.std.specs.List.{AllZip};
 ghost use Rattle.std.specs.Result.{MatchResult};
 ghost use Rattle.std.specs.Set.{ClonesAreEqual};
 ghost use Rattle.micromap_core.specs.Clones.{AreIdentical, IsPairClone};
+ghost use Rattle.micromap_core.specs.EqualClones.{clones_have_equal_pairs};
 ghost use Rattle.micromap_core.specs.Pairs.{IsContent};
 
 use super::Map;
 use crate::equal_clone::EqualClone;
-use micromap_walk::hint;
 use std::alloc::AllocError;
 
 impl<K: Eq + Clone + Drop, V: Clone + Drop, const N: usize> Map<K, V, N> {
@@ -33,73 +33,72 @@ impl<K: Eq + Clone + Drop, V: Clone + Drop, const N: usize> Map<K, V, N> {
         ensures succeeds { All (λ p. K.is_infallible p.0 × V.is_infallible p.1) self.now → IsOk result }
     {
         let mut clone = Map::new();
-        match self.clone_into::<ByClone>(&mut clone) {
+        match self.clone_into::<ByClone, ByClone>(&mut clone) {
             Ok(()) => Ok(clone),
             Err(refused) => Err(refused),
         }
     }
 }
 
-impl<K: Eq + Drop, V: Clone + Drop, const N: usize> Map<K, V, N> {
-    // Puts the clones of all pairs into an empty map, with keys that are made by `C`. If it returned the map, a clone would
-    // be copied once more.
+impl<K: Eq + Drop, V: Drop, const N: usize> Map<K, V, N> {
+    // Puts the clones of all pairs into an empty map, with keys that are made by `C` and values by `D`. If it returned the
+    // map, a clone would be copied once more.
     #[inline]
-    fn clone_into<C: KeyClone<K>>(&self, clone: &mut Self) -> Result<(), AllocError>
-        requires equal { ClonesAreEqual K.eq C.is_key_clone }
+    fn clone_into<C: CloneBy<K>, D: CloneBy<V>>(&self, clone: &mut Self) -> Result<(), AllocError>
+        requires equal { ClonesAreEqual K.eq C.is_made }
         requires empty { clone.old ≡ [] }
-        ensures clones { IfOk result (λ _. AllZip (IsPairClone C.is_key_clone V.is_clone) self.now clone.new) }
-        ensures same { AreIdentical C.is_key_clone → AreIdentical V.is_clone
+        ensures clones { IfOk result (λ _. AllZip (IsPairClone C.is_made D.is_made) self.now clone.new) }
+        ensures same { AreIdentical C.is_made → AreIdentical D.is_made
             → IfOk result (λ _. clone.new ≡ self.now) }
         ensures content { IsContent K.eq N clone.new }
-        ensures succeeds { All (λ p. C.is_sure p.0 × V.is_infallible p.1) self.now → IsOk result }
+        ensures succeeds { All (λ p. C.is_infallible p.0 × D.is_infallible p.1) self.now → IsOk result }
     {
         let len = self.len();
         for index in 0..clone_turns::<N>(len) {
             if index < len {
                 let (key, value) = self.pair_at(index);
                 let key = C::of(key)?;
-                let value = value.clone()?;
-                hint::equal(clone.len(), index);
-                clone.pairs.push(key, value);
+                let value = D::of(value)?;
+                clone.pairs.push_at(index, key, value);
             }
         }
         Ok(())
     }
 }
 
-// A way to make the clones of keys.
-pub(crate) trait KeyClone<K> {
-    ghost is_key_clone: { K → K → Type 0 };
+// A way to make the clones of keys, or of values.
+pub(crate) trait CloneBy<T> {
+    ghost is_made: { T → T → Type 0 };
 
-    ghost is_sure: { K → Type 0 };
+    ghost is_infallible: { T → Type 0 };
 
-    fn of(key: &K) -> Result<K, AllocError>
-        ensures { MatchResult result (is_key_clone key.now) (λ _. ¬ is_sure key.now) };
+    fn of(item: &T) -> Result<T, AllocError>
+        ensures { MatchResult result (is_made item.now) (λ _. ¬ is_infallible item.now) };
 }
 
 pub(crate) struct ByClone;
 
-impl<K: Clone> KeyClone<K> for ByClone {
-    ghost is_key_clone = { K.is_clone };
+impl<T: Clone> CloneBy<T> for ByClone {
+    ghost is_made = { T.is_clone };
 
-    ghost is_sure = { K.is_infallible };
+    ghost is_infallible = { T.is_infallible };
 
     #[inline]
-    fn of(key: &K) -> Result<K, AllocError> {
-        key.clone()
+    fn of(item: &T) -> Result<T, AllocError> {
+        item.clone()
     }
 }
 
 pub(crate) struct ByEqualClone;
 
-impl<K: EqualClone> KeyClone<K> for ByEqualClone {
-    ghost is_key_clone = { K.is_equal_clone };
+impl<T: EqualClone> CloneBy<T> for ByEqualClone {
+    ghost is_made = { T.is_equal_clone };
 
-    ghost is_sure = { K.never_fails };
+    ghost is_infallible = { T.never_fails };
 
     #[inline]
-    fn of(key: &K) -> Result<K, AllocError> {
-        key.equal_clone()
+    fn of(item: &T) -> Result<T, AllocError> {
+        item.equal_clone()
     }
 }
 
@@ -130,7 +129,24 @@ impl<K: EqualClone, V: Clone, const N: usize> Clone for Map<K, V, N> {
 
     fn clone(&self) -> Result<Self, AllocError> {
         let mut clone = Map::new();
-        match self.clone_into::<ByEqualClone>(&mut clone) {
+        match self.clone_into::<ByEqualClone, ByClone>(&mut clone) {
+            Ok(()) => Ok(clone),
+            Err(refused) => Err(refused),
+        }
+    }
+}
+
+/// The clone of a map equals it if the clones of its keys and values do. So a map can be the key of another.
+impl<K: EqualClone, V: EqualClone, const N: usize> EqualClone for Map<K, V, N> {
+    ghost is_equal_clone = { AllZip (IsPairClone K.is_equal_clone V.is_equal_clone) };
+
+    ghost never_fails = { All (λ p. K.never_fails p.0 × V.never_fails p.1) };
+
+    ghost clones_are_equal = { clones_have_equal_pairs K.Eq.laws V.Eq.laws K.EqualClone.clones_are_equal V.EqualClone.clones_are_equal };
+
+    fn equal_clone(&self) -> Result<Self, AllocError> {
+        let mut clone = Map::new();
+        match self.clone_into::<ByEqualClone, ByEqualClone>(&mut clone) {
             Ok(()) => Ok(clone),
             Err(refused) => Err(refused),
         }

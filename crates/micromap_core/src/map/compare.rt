@@ -3,9 +3,9 @@ ghost use Rattle.std.specs.Prelude.{◌≡◌, ◌↔◌, IsTrue, IsFalse, IsNon
 ghost use Rattle.std.specs.Bool.{OnTrue};
 ghost use Rattle.std.specs.Cmp.{partial_equiv_from_equiv};
 ghost use Rattle.std.specs.Option.{option_copied};
-ghost use Rattle.micromap_core.specs.Fair.{Compares, SameForGood, ToldApart};
+ghost use Rattle.micromap_core.specs.Fair.{NoneTellsApart, SameForGood, ToldApart};
 ghost use Rattle.micromap_core.specs.Pairs.{IsContent};
-ghost use Rattle.micromap_core.specs.Same.{same_at, is_same, Same, TellsDifference, first_unequal, first_missing, first_difference};
+ghost use Rattle.micromap_core.specs.Same.{same_at, is_same, Same, first_unequal, first_missing, first_difference};
 ghost use Rattle.micromap_core.specs.SameLaws.{is_same_equiv};
 
 use super::Map;
@@ -35,7 +35,8 @@ impl<K: Eq, V: Eq, const N: usize> Map<K, V, N> {
         ensures told_apart { IsFalse result ↔ ToldApart K.eq V.eq N M self.now other.now }
         ensures outlasts { OnTrue result (SameForGood K.eq V.eq N M self.now other.now) }
     {
-        self.compared(other)
+        // Both have the same number of keys, and `other` has each key of this map. So `other` has no other key.
+        self.len() == other.len() && self.first_unequal(other).is_none()
     }
 
     /// Returns a reference to a stored key at which `get` on the two maps doesn't agree, or `None` if the maps are the
@@ -53,24 +54,6 @@ impl<K: Eq, V: Eq, const N: usize> Map<K, V, N> {
         ensures answer { option_copied result ≡ first_difference K.eq V.eq self.now other.now }
         ensures none { IsNone result ↔ Same K.eq V.eq self.now other.now }
         ensures differs { IfSome result (λ k. IsFalse (same_at K.eq V.eq self.now other.now k.now)) }
-    {
-        self.first_difference(other)
-    }
-
-    // Returns what `eq_with` does.
-    #[inline]
-    fn compared<const M: usize>(&self, other: &Map<K, V, M>) -> bool
-        ensures { Compares K.eq V.eq N M self.now other.now result }
-    {
-        // Both have the same number of keys, and `other` has each key of this map. So `other` has no other key.
-        let lengths = (self.len(), other.len());
-        lengths.0 == lengths.1 && self.first_unequal(other).is_none()
-    }
-
-    // Returns what `differs_at` does.
-    #[inline]
-    fn first_difference<'a, const M: usize>(&'a self, other: &'a Map<K, V, M>) -> Option<&'a K>
-        ensures { TellsDifference K.eq V.eq self.now other.now result }
     {
         // What is true of the other map, for the contract: `len` ensures it.
         let _known = other.len();
@@ -112,7 +95,14 @@ impl<K: Eq, V: Eq, const N: usize> PartialEq for Map<K, V, N> {
 
     ghost laws = { partial_equiv_from_equiv (is_same_equiv K.Eq.laws V.Eq.laws) };
 
-    fn eq(&self, other: &Map<K, V, N>) -> bool {
+    /// Says what `eq_with` says. Since the capacities are the same, the result is `true` exactly if no list whatever of keyed
+    /// calls tells the two maps apart.
+    fn eq(&self, other: &Map<K, V, N>) -> bool
+        ensures answer { result ≡ is_same K.eq V.eq self.now other.now }
+        ensures each { IsTrue result ↔ ((k : K) → IsTrue (same_at K.eq V.eq self.now other.now k)) }
+        ensures none_tells_apart { IsTrue result ↔ NoneTellsApart K.eq V.eq N self.now other.now }
+        ensures outlasts { OnTrue result (SameForGood K.eq V.eq N N self.now other.now) }
+    {
         self.eq_with(other)
     }
 }

@@ -6,7 +6,7 @@ ghost use Rattle.std.specs.Option.{option_copied};
 ghost use Rattle.micromap_core.specs.Fair.{SameForGood, ToldApart};
 ghost use Rattle.micromap_core.specs.Pairs.{at, index_of};
 ghost use Rattle.micromap_core.specs.Same.{Same, has_value};
-ghost use Rattle.micromap_core.specs.Steps.{look_up_steps, walk_steps, comparison_steps};
+ghost use Rattle.micromap_core.specs.Steps.{look_up_steps, total_steps, comparison_steps};
 
 use super::Map;
 use crate::steps::Steps;
@@ -63,15 +63,14 @@ impl<K: Eq, V: Eq, const N: usize> Map<K, V, N> {
         ensures count { steps.new ≡ steps.old + comparison_steps K.eq V.eq self.now other.now }
         ensures bounded { steps.new ≤ steps.old + length self.now * length self.now }
     {
-        let lengths = (self.len(), other.len());
-        lengths.0 == lengths.1 && self.is_within_counted(other, steps)
+        self.len() == other.len() && self.is_within_counted(other, steps)
     }
 
     // Returns `true` if `other` has an equal value at each key. Looks up each key, up to the first at which it hasn't.
     fn is_within_counted<const M: usize>(&self, other: &Map<K, V, M>, steps: &mut Steps) -> bool
         requires { steps.old + length self.now * length other.now < 2 ^ 128 }
         ensures answer { result ≡ list_all (has_value K.eq V.eq other.now) self.now }
-        ensures count { steps.new ≡ steps.old + walk_steps K.eq V.eq other.now self.now }
+        ensures count { steps.new ≡ steps.old + total_steps K.eq V.eq other.now self.now }
     {
         for (key, value) in self {
             if !other.has_value_counted(key, value, steps) {
@@ -82,7 +81,7 @@ impl<K: Eq, V: Eq, const N: usize> Map<K, V, N> {
     }
 
     // Returns `true` if there is an equal value at the key, by one look-up.
-    #[tactic(auto, using(crate::proofs::SameLemmas::found_value))]
+    #[tactic(auto, using(crate::proofs::Laws::SameLemmas::found_value))]
     fn has_value_counted(&self, key: &K, value: &V, steps: &mut Steps) -> bool
         requires { steps.old + length self.now < 2 ^ 128 }
         ensures answer { result ≡ has_value K.eq V.eq self.now (key.now, value.now) }

@@ -22,7 +22,8 @@ pub type OccupiedEntry<'a, K, V, const N: usize> = OccupiedIn<'a, Map<K, V, N>>;
 /// compares a key.
 pub type VacantEntry<'a, K, V, const N: usize> = VacantIn<'a, K, Map<K, V, N>>;
 
-/// Internal: write `Entry<'a, K, V, N>`.
+/// Internal: write `Entry<'a, K, V, N>`. It is generic over the map, since a struct over `K`, `V` and `N` that holds a
+/// `&mut Map<K, V, N>` couldn't return this reference.
 #[derive(Drop)]
 pub enum EntryIn<'a, K, M> {
     Occupied(OccupiedIn<'a, M>),

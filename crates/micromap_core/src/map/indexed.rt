@@ -31,7 +31,7 @@ impl<K: Eq, V, const N: usize> Map<K, V, N> {
             return None;
         }
         let mut index = 0;
-        for key in self.keys() {
+        for key in self.pairs.keys() {
             if probe.matches(key) {
                 return Some(index);
             }
@@ -48,7 +48,7 @@ impl<K: Eq, V, const N: usize> Map<K, V, N> {
         ensures content { IsContent K.eq N self.now }
     {
         let mut found = false;
-        for key in self.keys() {
+        for key in self.pairs.keys() {
             found |= probe.matches(key);
         }
         found
@@ -62,7 +62,7 @@ impl<K: Eq, V, const N: usize> Map<K, V, N> {
         ensures value { option_map (λ p. p.1.now) result ≡ lookup (P.matches probe.now) self.now }
         ensures content { IsContent K.eq N self.now }
     {
-        let mut keys = self.keys();
+        let mut keys = self.pairs.keys();
         while let Some(key) = keys.next() {
             if probe.matches(key) {
                 let index = self.len() - keys.len() - 1;

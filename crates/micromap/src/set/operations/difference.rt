@@ -21,7 +21,8 @@ use std::marker::Model;
 /// other set for each item passed: for a member a scan of the whole set.
 pub type Difference<'a, 'b, T, const M: usize> = DifferenceIn<'a, 'b, T, Set<T, M>>;
 
-/// Internal: write `Difference<'a, 'b, T, M>`.
+/// Internal: write `Difference<'a, 'b, T, M>`. It is generic over the whole other set, since nothing bounds the size of a
+/// `Set<T, M>` for any `M`.
 #[derive(Drop)]
 pub struct DifferenceIn<'a, 'b, T: Eq, O> {
     rest: Iter<'a, T>,
@@ -54,16 +55,6 @@ impl<'a, 'b, T: Eq, O> Clone for DifferenceIn<'a, 'b, T, O> {
     }
 }
 
-impl<'a, 'b, T: Eq, const M: usize> DifferenceIn<'a, 'b, T, Set<T, M>> {
-    // Returns what `next` does.
-    #[inline]
-    fn step(&mut self) -> Option<&'a T>
-        ensures { GivesNext deref (difference_remaining T.eq) (difference_advanced T.eq) self.old result self.new }
-    {
-        next_where(&mut self.rest, self.other, Wanted::Missing)
-    }
-}
-
 impl<'a, 'b, T: Eq, const M: usize> Iterator for DifferenceIn<'a, 'b, T, Set<T, M>> {
     type Item = &'a T;
 
@@ -71,9 +62,8 @@ impl<'a, 'b, T: Eq, const M: usize> Iterator for DifferenceIn<'a, 'b, T, Set<T, 
 
     ghost remaining = { item_count (difference_remaining T.eq) };
 
-    #[tactic(auto, using(crate::proofs::OperationSteps::progress))]
     fn next(&mut self) -> Option<&'a T> {
-        self.step()
+        next_where(&mut self.rest, self.other, Wanted::Missing)
     }
 
     fn size_hint(&self) -> (usize, Option<usize>)

@@ -5,7 +5,7 @@ ghost use Rattle.std.specs.Iterator.SizeHint.{IsWithinCount};
 ghost use Rattle.std.specs.List.{IsDistinct};
 ghost use Rattle.std.specs.Map.Iter.{deref};
 ghost use Rattle.micromap.specs.Extend.{distinct};
-ghost use Rattle.micromap.specs.Operations.{intersection, intersection_hint, intersection_remaining, intersection_advanced, Commutes, GivesMembers, GivesNext};
+ghost use Rattle.micromap.specs.Operations.{intersection, intersection_hint, intersection_remaining, intersection_advanced, GivesMembers, GivesNext};
 
 use super::{Wanted, next_where};
 use crate::Set;
@@ -52,16 +52,6 @@ impl<'a, T: Eq, O> Clone for IntersectionIn<'a, T, O> {
     }
 }
 
-impl<'a, T: Eq, const M: usize> IntersectionIn<'a, T, Set<T, M>> {
-    // Returns what `next` does.
-    #[inline]
-    fn step(&mut self) -> Option<&'a T>
-        ensures { GivesNext deref (intersection_remaining T.eq) (intersection_advanced T.eq) self.old result self.new }
-    {
-        next_where(&mut self.rest, self.other, Wanted::Common)
-    }
-}
-
 impl<'a, T: Eq, const M: usize> Iterator for IntersectionIn<'a, T, Set<T, M>> {
     type Item = &'a T;
 
@@ -69,9 +59,8 @@ impl<'a, T: Eq, const M: usize> Iterator for IntersectionIn<'a, T, Set<T, M>> {
 
     ghost remaining = { item_count (intersection_remaining T.eq) };
 
-    #[tactic(auto, using(crate::proofs::OperationSteps::progress))]
     fn next(&mut self) -> Option<&'a T> {
-        self.step()
+        next_where(&mut self.rest, self.other, Wanted::Common)
     }
 
     fn size_hint(&self) -> (usize, Option<usize>)
@@ -112,7 +101,6 @@ impl<T: Eq, const N: usize> Set<T, N> {
         ensures bounded { length (intersection_remaining T.eq result) ≤ N }
         ensures unique { IsDistinct T.eq (intersection T.eq self.now other.now) }
         ensures builds { let xs = intersection T.eq self.now other.now in distinct T.eq xs ≡ xs }
-        ensures swapped { Commutes T.eq (intersection T.eq) self.now other.now }
         ensures runs { GivesMembers (intersection_remaining T.eq) (intersection_advanced T.eq) }
     {
         IntersectionIn {

@@ -5,7 +5,7 @@ ghost use Rattle.std.specs.Iterator.SizeHint.{IsWithinCount};
 ghost use Rattle.std.specs.List.{IsDistinct};
 ghost use Rattle.std.specs.Map.Iter.{deref};
 ghost use Rattle.micromap.specs.Extend.{distinct};
-ghost use Rattle.micromap.specs.Operations.{symmetric_difference, symmetric_hint, symmetric_remaining, symmetric_advanced, Commutes, GivesMembers, GivesNext};
+ghost use Rattle.micromap.specs.Operations.{symmetric_difference, symmetric_hint, symmetric_remaining, symmetric_advanced, GivesMembers, GivesNext};
 
 use super::difference::DifferenceIn;
 use super::hint_of_both;
@@ -114,7 +114,6 @@ impl<T: Eq, const N: usize> Set<T, N> {
         ensures bounded { length (symmetric_remaining T.eq result) ≤ N + M }
         ensures unique { IsDistinct T.eq (symmetric_difference T.eq self.now other.now) }
         ensures builds { let xs = symmetric_difference T.eq self.now other.now in distinct T.eq xs ≡ xs }
-        ensures swapped { Commutes T.eq (symmetric_difference T.eq) self.now other.now }
         ensures runs { GivesMembers (symmetric_remaining T.eq) (symmetric_advanced T.eq) }
     {
         SymmetricDifferenceIn {

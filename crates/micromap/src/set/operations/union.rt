@@ -5,7 +5,7 @@ ghost use Rattle.std.specs.Iterator.SizeHint.{IsWithinCount};
 ghost use Rattle.std.specs.List.{IsDistinct};
 ghost use Rattle.std.specs.Map.Iter.{deref};
 ghost use Rattle.micromap.specs.Extend.{distinct};
-ghost use Rattle.micromap.specs.Operations.{intersection, union, union_hint, union_remaining, union_advanced, Commutes, GivesMembers, GivesNext};
+ghost use Rattle.micromap.specs.Operations.{union, union_hint, union_remaining, union_advanced, GivesMembers, GivesNext};
 
 use super::difference::DifferenceIn;
 use super::hint_of_both;
@@ -105,9 +105,6 @@ impl<T: Eq, const N: usize> Set<T, N> {
         ensures bounded { length (union_remaining T.eq result) ≤ N + M }
         ensures unique { IsDistinct T.eq (union T.eq self.now other.now) }
         ensures builds { let xs = union T.eq self.now other.now in distinct T.eq xs ≡ xs }
-        ensures swapped { Commutes T.eq (union T.eq) self.now other.now }
-        ensures lengths { length (union T.eq self.now other.now)
-            + length (intersection T.eq self.now other.now) ≡ length self.now + length other.now }
         ensures runs { GivesMembers (union_remaining T.eq) (union_advanced T.eq) }
     {
         UnionIn {

@@ -1,5 +1,5 @@
 use Rattle.std.proofs.Common.{◌<◌, length, ℕ, arith, mul-le-mul_right, le_of_lt, length-set}
-use Rattle.micromap_walk.proofs.FilledLemmas.{refill_set, taken_some, taken_items, taken_filled}
+use Rattle.micromap_walk.proofs.Laws.FilledLemmas.{refill_set, taken_some, taken_items, taken_filled}
 use Rattle.micromap_walk.proofs.owning.take_slot.Goals as goal
 
 pub offset_bounds-as_mut_slice-index : goal.offset_bounds-as_mut_slice-index

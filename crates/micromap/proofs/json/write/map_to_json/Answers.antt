@@ -1,7 +1,7 @@
 use Rattle.std.proofs.Common.{◌≡◌, ◌≤◌, Some, false, string_bytes, subst, rules}
 use Rattle.serde_json.specs.{Data.depth, Read.max_depth, Read.read, View.view, Written.compact_text, Written.has_float}
 use Rattle.serde_json.proofs.Views.{view-Object}
-use Rattle.micromap_core.proofs.Walked.{walk_begins, walk_ends}
+use Rattle.micromap_walk.proofs.Laws.Walked.{walk_begins, walk_ends}
 use Rattle.micromap.proofs.JsonWriting.{none_written, writes_one, written, written_text}
 use Rattle.micromap.proofs.json.write.map_to_json.Goals as goal
 

@@ -1,5 +1,5 @@
 use Rattle.serde_json.specs.View.{members_view}
-use Rattle.micromap_core.proofs.Walked.{Walked}
+use Rattle.micromap_walk.proofs.Laws.Walked.{Walked}
 use Rattle.micromap.proofs.JsonWriting.{HasWritten}
 use Rattle.micromap.proofs.json.write.map_to_json.Given as goal
 

@@ -1,5 +1,5 @@
 use Rattle.std.proofs.lemmas.Bool.{false≢true}
-use Rattle.micromap.proofs.ItemLemmas.{each_infallible, zip-keys}
+use Rattle.micromap.proofs.Laws.ItemLemmas.{each_infallible, zip-keys}
 use Rattle.micromap.proofs.set.Set.clone.Goals as goal
 
 pub returns-in_err-map-clause-succeeds : goal.returns-in_err-map-clause-succeeds

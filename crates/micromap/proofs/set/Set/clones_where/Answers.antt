@@ -1,6 +1,7 @@
 use Rattle.std.proofs.{Common.refl, lemmas.List.Elements.same_from_all_zip}
-use Rattle.micromap_core.proofs.{DistinctLemmas.IsDistinct-filter, Walked.walk_ends}
-use Rattle.micromap.proofs.AddedItems.{clone_fits, clone_goes_on, length-passing, next_holds}
+use Rattle.micromap_core.proofs.Laws.SublistLaws.{IsDistinct-filter}
+use Rattle.micromap_walk.proofs.Laws.Walked.{walk_ends}
+use Rattle.micromap.proofs.Laws.AddedItems.{clone_fits, clone_goes_on, length-passing, next_holds}
 use Rattle.micromap.proofs.set.Set.clones_where.Goals as goal
 
 pub returns-in_err-clone-clause-succeeds : goal.returns-in_err-clone-clause-succeeds

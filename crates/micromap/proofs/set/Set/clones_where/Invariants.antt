@@ -1,5 +1,5 @@
 use Rattle.std.specs.{Prelude.filter, Prelude.length, List.AllZip}
-use Rattle.micromap_core.proofs.Walked.{Walked}
+use Rattle.micromap_walk.proofs.Laws.Walked.{Walked}
 use Rattle.micromap.specs.Operations.{passes}
 use Rattle.micromap.proofs.set.Set.clones_where.Given as goal
 

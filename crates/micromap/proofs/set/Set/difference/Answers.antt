@@ -1,6 +1,6 @@
-use Rattle.micromap_core.proofs.DistinctLemmas.{IsDistinct-filter}
+use Rattle.micromap_core.proofs.Laws.SublistLaws.{IsDistinct-filter}
 use Rattle.micromap.specs.Operations.{difference_remaining}
-use Rattle.micromap.proofs.{AddedItems.added_all, AddedItems.length-passing, OperationSteps.left_in_order}
+use Rattle.micromap.proofs.{Laws.AddedItems.added_all, Laws.AddedItems.length-passing, Laws.OperationSteps.left_in_order}
 use Rattle.micromap.proofs.set.Set.difference.Goals as goal
 
 pub returns-clause-bounded : goal.returns-clause-bounded

@@ -1,6 +1,6 @@
 use Rattle.std.proofs.Common.{◌≡◌, ◌≢◌, length, sym, ◌∙◌, rules, ne_eqb}
-use Rattle.micromap_core.proofs.DistinctLemmas.{both_sides, not_both_sides}
-use Rattle.micromap.proofs.OperationLaws.{members_answered}
+use Rattle.micromap_core.proofs.Laws.DistinctLemmas.{both_sides, not_both_sides}
+use Rattle.micromap.proofs.Laws.OperationLaws.{members_answered}
 use Rattle.micromap.proofs.set.Set.eq_with.Goals as goal
 
 pub returns-then-len : goal.returns-then-len

@@ -1,7 +1,7 @@
-use Rattle.micromap_core.proofs.DistinctLemmas.{IsDistinct-filter}
+use Rattle.micromap_core.proofs.Laws.SublistLaws.{IsDistinct-filter}
 use Rattle.micromap.specs.Operations.{intersection_remaining}
-use Rattle.micromap.proofs.{AddedItems.added_all, AddedItems.length-passing, OperationLaws.intersection_turned}
-use Rattle.micromap.proofs.OperationSteps.{left_in_order}
+use Rattle.micromap.proofs.Laws.AddedItems.{added_all, length-passing}
+use Rattle.micromap.proofs.Laws.OperationSteps.{left_in_order}
 use Rattle.micromap.proofs.set.Set.intersection.Goals as goal
 
 pub returns-clause-bounded : goal.returns-clause-bounded
@@ -13,9 +13,6 @@ returns-clause-unique g c = IsDistinct-filter g.T.PartialEq.eq _ _ c.iter.ensure
 
 pub returns-clause-builds : goal.returns-clause-builds
 returns-clause-builds g c = added_all g.met.T.Eq.laws _ (returns-clause-unique g c)
-
-pub returns-clause-swapped : goal.returns-clause-swapped
-returns-clause-swapped g c = intersection_turned g.met.T.Eq.laws c.args.self.now c.args.other.now
 
 pub returns-clause-runs : goal.returns-clause-runs
 returns-clause-runs g c = left_in_order _ _ _

@@ -1,6 +1,6 @@
 use Rattle.std.proofs.Common.{refl}
 use Rattle.std.proofs.lemmas.Map.Entries.{length-keys_of}
-use Rattle.micromap.proofs.ItemLemmas.{content_items}
+use Rattle.micromap.proofs.Laws.ItemLemmas.{content_items}
 use Rattle.micromap.proofs.set.Set.into_capacity.Goals as goal
 
 pub returns-in-Ok-clause-refuses : goal.returns-in-Ok-clause-refuses

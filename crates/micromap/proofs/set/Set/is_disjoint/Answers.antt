@@ -1,5 +1,5 @@
 use Rattle.std.proofs.Common.{◌∙◌}
-use Rattle.micromap.proofs.OperationLaws.{disjoint_answered, disjoint_turned}
+use Rattle.micromap.proofs.Laws.OperationLemmas.{disjoint_answered, disjoint_turned}
 use Rattle.micromap.proofs.set.Set.is_disjoint.Goals as goal
 
 pub returns-then-len : goal.returns-then-len

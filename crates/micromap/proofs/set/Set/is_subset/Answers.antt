@@ -1,6 +1,6 @@
 use Rattle.std.proofs.Common.{◌<◌, length, sym, rules}
-use Rattle.micromap_core.proofs.DistinctLemmas.{missing_in_shorter}
-use Rattle.micromap.proofs.OperationLaws.{subset_answered}
+use Rattle.micromap_core.proofs.Laws.DistinctLemmas.{missing_in_shorter}
+use Rattle.micromap.proofs.Laws.OperationLemmas.{subset_answered}
 use Rattle.micromap.proofs.set.Set.is_subset.Goals as goal
 
 pub returns-then-len : goal.returns-then-len

@@ -1,4 +1,4 @@
-use Rattle.micromap.proofs.SetStreamLemmas.{entries_of-keys, items_read_back}
+use Rattle.micromap.proofs.Laws.SetStreamLemmas.{entries_of-keys, items_read_back}
 use Rattle.micromap.proofs.set.Set.read_entries.Goals as goal
 
 pub returns-in-Ok-clause-reads : goal.returns-in-Ok-clause-reads

@@ -1,5 +1,5 @@
 use Rattle.std.proofs.Common.{is_some, ap, ◌∙◌}
-use Rattle.micromap.proofs.ItemLemmas.{is_some-find}
+use Rattle.micromap.proofs.Laws.ItemLemmas.{is_some-find}
 use Rattle.micromap.proofs.set.Set.remove.Goals as goal
 
 pub returns-clause-answer : goal.returns-clause-answer

@@ -1,6 +1,6 @@
 use Rattle.std.{proofs.Common.arith, proofs.Common.rules, specs.Fn.CalledAt, specs.Fn.TakesAt}
-use Rattle.micromap_core.proofs.{ClosureLemmas.retained_keys, DistinctLemmas.length-sublist}
-use Rattle.micromap.proofs.RetainItems.{callable_inner}
+use Rattle.micromap_core.proofs.{Laws.ClosureLaws.retained_keys, Laws.SublistLaws.length-sublist}
+use Rattle.micromap.proofs.Laws.RetainItems.{callable_inner}
 use Rattle.micromap.proofs.set.Set.retain.Goals as goal
 
 pub retain-requires : goal.retain-requires

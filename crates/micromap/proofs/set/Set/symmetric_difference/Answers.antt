@@ -1,5 +1,5 @@
-use Rattle.micromap.proofs.{AddedItems.added_all, OperationLaws.IsDistinct-symmetric_difference, OperationLaws.symmetric_difference_turned}
-use Rattle.micromap.proofs.OperationSteps.{left_in_order}
+use Rattle.micromap.proofs.{Laws.AddedItems.added_all, Laws.OperationLemmas.IsDistinct-symmetric_difference}
+use Rattle.micromap.proofs.Laws.OperationSteps.{left_in_order}
 use Rattle.micromap.proofs.set.Set.symmetric_difference.Goals as goal
 
 pub returns-clause-unique : goal.returns-clause-unique
@@ -7,9 +7,6 @@ returns-clause-unique g c = IsDistinct-symmetric_difference g.met.T.Eq.laws _ _ 
 
 pub returns-clause-builds : goal.returns-clause-builds
 returns-clause-builds g c = added_all g.met.T.Eq.laws _ (returns-clause-unique g c)
-
-pub returns-clause-swapped : goal.returns-clause-swapped
-returns-clause-swapped g c = symmetric_difference_turned g.met.T.Eq.laws _ _
 
 pub returns-clause-runs : goal.returns-clause-runs
 returns-clause-runs g c = left_in_order _ _ _

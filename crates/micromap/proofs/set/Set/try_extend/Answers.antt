@@ -1,7 +1,7 @@
 use Rattle.std.proofs.Common.{◌≡◌, false, length, refl, ap, sym, ◌∙◌, arith}
 use Rattle.std.proofs.lemmas.List.{length_push}
 use Rattle.micromap.{specs.Items.item_fits, proofs.Laws.SetLaws.not_item_fits}
-use Rattle.micromap_core.proofs.PuttingLemmas.{putting_begins, putting_goes_on, runs_up_to, runs_whole}
+use Rattle.micromap_core.proofs.Laws.PuttingLemmas.{putting_begins, putting_goes_on, runs_up_to, runs_whole}
 use Rattle.micromap.proofs.set.Set.try_extend.Goals as goal
 
 pub loop-x-init : goal.loop-x-init

@@ -1,6 +1,6 @@
 use Rattle.std.specs.Prelude.{◌≡◌, ◌+◌, ◌≤◌, length, true}
 use Rattle.micromap.specs.{Build.most_items, Items.IsItems, Items.put_item, Items.item_fits}
-use Rattle.micromap_core.proofs.PuttingLemmas.{Putting}
+use Rattle.micromap_core.proofs.Laws.PuttingLemmas.{Putting}
 use Rattle.micromap.proofs.set.Set.try_extend.Given as goal
 
 abbrev pub invariant-loop-x : goal.invariant-loop-x

@@ -2,7 +2,7 @@ use Rattle.std.proofs.Common.{ap, ◌∙◌}
 use Rattle.std.specs.Map.{keys_of}
 use Rattle.std.proofs.lemmas.{Map.Entries.length-keys_of, Result.IfErr-weaker, Result.on_ok_weaker}
 use Rattle.micromap_core.specs.Build.{put_all}
-use Rattle.micromap.proofs.ItemLemmas.{keys_put_all_items, misfit-keys}
+use Rattle.micromap.proofs.Laws.ItemLemmas.{keys_put_all_items, misfit-keys}
 use Rattle.micromap.proofs.set.Set.try_extend_from.Goals as goal
 
 pub returns-clause-items : goal.returns-clause-items

@@ -1,6 +1,6 @@
 use Rattle.std.proofs.lemmas.Result.{err_from_is_err_and}
-use Rattle.micromap_core.proofs.KeyedLemmas.{few_distinct, full_at, many_taken}
-use Rattle.micromap.proofs.ExtendLemmas.{items_keyed}
+use Rattle.micromap_core.proofs.Laws.KeyedLemmas.{few_distinct, full_at, many_taken}
+use Rattle.micromap.proofs.Laws.ExtendLemmas.{items_keyed}
 use Rattle.micromap.proofs.set.Set.try_from_iter.Goals as goal
 
 pub returns-clause-whole : goal.returns-clause-whole

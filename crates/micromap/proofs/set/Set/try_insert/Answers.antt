@@ -1,6 +1,6 @@
 use Rattle.std.proofs.Common.{ap, sym, ◌∙◌}
 use Rattle.std.specs.Map.{keys_of}
-use Rattle.micromap.proofs.ItemLemmas.{tried-keys}
+use Rattle.micromap.proofs.Laws.ItemLemmas.{tried-keys}
 use Rattle.micromap.proofs.set.Set.try_insert.Goals as goal
 
 pub returns-clause-items : goal.returns-clause-items

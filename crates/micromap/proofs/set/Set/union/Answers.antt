@@ -1,7 +1,7 @@
 use Rattle.std.proofs.Common.{length, ap, arith, length-append}
 use Rattle.micromap.specs.Operations.{difference_remaining, union_remaining}
-use Rattle.micromap.proofs.{AddedItems.added_all, OperationSteps.left_in_order}
-use Rattle.micromap.proofs.OperationLaws.{IsDistinct-union, length-union, union_turned}
+use Rattle.micromap.proofs.{Laws.AddedItems.added_all, Laws.OperationSteps.left_in_order}
+use Rattle.micromap.proofs.Laws.OperationLemmas.{IsDistinct-union}
 use Rattle.micromap.proofs.set.Set.union.Goals as goal
 
 pub returns-clause-bounded : goal.returns-clause-bounded
@@ -19,12 +19,6 @@ returns-clause-unique g c = IsDistinct-union g.met.T.Eq.laws _ _ c.iter.ensures.
 
 pub returns-clause-builds : goal.returns-clause-builds
 returns-clause-builds g c = added_all g.met.T.Eq.laws _ (returns-clause-unique g c)
-
-pub returns-clause-swapped : goal.returns-clause-swapped
-returns-clause-swapped g c = union_turned g.met.T.Eq.laws _ _
-
-pub returns-clause-lengths : goal.returns-clause-lengths
-returns-clause-lengths g c = length-union g.T.PartialEq.eq _ _
 
 pub returns-clause-runs : goal.returns-clause-runs
 returns-clause-runs g c = left_in_order _ _ _

@@ -1,4 +1,4 @@
-use Rattle.micromap.proofs.SetStreamLemmas.{entries_of-keys}
+use Rattle.micromap.proofs.Laws.SetStreamLemmas.{entries_of-keys}
 use Rattle.micromap.proofs.set.Set.write_entries.Goals as goal
 
 pub returns-clause-whole : goal.returns-clause-whole

@@ -1,5 +1,5 @@
 use Rattle.std.specs.Prelude.{length}
-use Rattle.micromap.{specs.Operations.passes, proofs.OperationSteps.MeetsNone}
+use Rattle.micromap.{specs.Operations.passes, proofs.Laws.OperationSteps.MeetsNone}
 use Rattle.micromap.proofs.set.operations.next_where.Given as goal
 
 -- no member is met yet

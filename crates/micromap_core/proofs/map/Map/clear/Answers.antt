@@ -1,4 +1,4 @@
-use Rattle.micromap_core.proofs.MapLemmas.{IsContent-nil}
+use Rattle.micromap_core.proofs.Laws.MapLemmas.{IsContent-nil}
 use Rattle.micromap_core.proofs.map.Map.clear.Goals as goal
 
 pub invariant_of-self : goal.invariant_of-self

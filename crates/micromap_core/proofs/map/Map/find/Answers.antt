@@ -1,14 +1,13 @@
 use Rattle.std.proofs.Common.{◌≡◌, ◌+◌, ◌-◌, Some, length, ap, sym, ◌∙◌, arith, option_map}
-use Rattle.std.specs.Map.{keys_of}
-use Rattle.std.proofs.lemmas.Map.Entries.{length-keys_of}
-use Rattle.micromap_core.proofs.MapLemmas.{found_at, not_found}
-use Rattle.micromap_core.proofs.ScanLemmas.{not_yet-start, not_yet-on, not_yet-found, not_yet-missing}
+use Rattle.std.{specs.Map.keys_of, proofs.lemmas.Map.Entries.length-keys_of}
+use Rattle.micromap_core.proofs.Laws.MapLemmas.{found_at, not_found}
+use Rattle.micromap_core.proofs.Laws.ScanLemmas.{not_yet-start, not_yet-on, not_yet-found, not_yet-missing}
 use Rattle.micromap_core.proofs.map.Map.find.Goals as goal
 
 pub loop-key-init : goal.loop-key-init
 loop-key-init g c =
     let none : length (keys_of c.args.self.now) - length (keys_of c.args.self.now) ≡ 0 = omega arith in
-    rw (c.keys-keys.ensures.answer, none) (not_yet-start _ _)
+    rw (c.keys-keys.ensures, c.self.view_is, none) (not_yet-start _ _)
 
 pub loop-key-preserved : goal.loop-key-preserved
 loop-key-preserved g c =
@@ -53,7 +52,7 @@ pub returns : goal.returns
 returns g c =
     let none = not_found (g.P.Probe.matches c.args.probe.now) c.args.self.now
     (not_yet-missing c.loop-key.invariant c.in_default.ensures.steps.0) in
-    record { pair = sym none.entry; value = sym none.value; content = c.keys-keys.ensures.content }
+    record { pair = sym none.entry; value = sym none.value; content = rw (← c.self.view_is) c.self.invariant }
 
 pub returns-then-matches : goal.returns-then-matches
 returns-then-matches g c =
@@ -71,5 +70,5 @@ returns-then-matches g c =
     record {
       pair = pair ∙ sym found.entry;
       value = ap (option_map (λ p. p.1)) pair ∙ sym found.value;
-      content = c.keys-keys.ensures.content;
+      content = rw (← c.self.view_is) c.self.invariant;
     }

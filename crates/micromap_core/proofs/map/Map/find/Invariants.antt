@@ -1,6 +1,6 @@
 use Rattle.std.proofs.Common.{◌-◌, length}
 use Rattle.std.specs.Map.{keys_of}
-use Rattle.micromap_core.proofs.ScanLemmas.{NotYet}
+use Rattle.micromap_core.proofs.Laws.ScanLemmas.{NotYet}
 use Rattle.micromap_core.proofs.map.Map.find.Given as goal
 
 abbrev pub invariant-loop-key : goal.invariant-loop-key

@@ -1,6 +1,6 @@
 use Rattle.std.proofs.Common.{refl, sym, ◌∙◌}
 use Rattle.micromap_core.proofs.map.Map.first_missing.Goals as goal
-use Rattle.micromap_core.proofs.SameLemmas.{missing_step}
+use Rattle.micromap_core.proofs.Laws.SameLemmas.{missing_step}
 
 pub loop-key-init : goal.loop-key-init
 loop-key-init g c = rw (c.into_iter-key-iterator.ensures.into_iter_gives, c.keys-key-items.ensures.answer) refl

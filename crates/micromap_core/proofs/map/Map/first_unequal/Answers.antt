@@ -1,5 +1,5 @@
 use Rattle.std.proofs.Common.{sym, ◌∙◌}
-use Rattle.micromap_core.proofs.SameLemmas.{unequal_step}
+use Rattle.micromap_core.proofs.Laws.SameLemmas.{unequal_step}
 use Rattle.micromap_core.proofs.map.Map.first_unequal.Goals as goal
 
 pub loop-key-preserved : goal.loop-key-preserved

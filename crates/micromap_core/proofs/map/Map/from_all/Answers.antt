@@ -1,11 +1,23 @@
+use Rattle.micromap_core.specs.Build.{put_or_refuse}
+use Rattle.micromap_core.proofs.Laws.KeyedLemmas.{pairs_keyed, runs_counted}
 use Rattle.micromap_core.proofs.map.Map.from_all.Goals as goal
 
-pub returns-then-put_fitting-clause-built : goal.returns-then-put_fitting-clause-built
-returns-then-put_fitting-clause-built g c =
-    let ran = rw (c.new-whole.ensures.answer, c.if-put_fitting.true) at c.put_fitting.ensures.built in
-    (ran.0, ran.1, ran.2)
+pub returns-then-extend_fitting-clause-built : goal.returns-then-extend_fitting-clause-built
+returns-then-extend_fitting-clause-built g c =
+    let ran = rw (c.new-whole.ensures.answer, c.if-extend_fitting.true) at c.extend_fitting.ensures.built in
+    (ran.0, ran.1, ran.2.0)
 
-pub returns-else-put_fitting-clause-built : goal.returns-else-put_fitting-clause-built
-returns-else-put_fitting-clause-built g c =
-    let ran = rw (c.new-whole.ensures.answer, c.if-put_fitting.false) at c.put_fitting.ensures.built in
-    (ran.0, ran.1, ran.2)
+pub returns-then-extend_fitting-clause-many : goal.returns-then-extend_fitting-clause-many
+unfolding put_or_refuse
+returns-then-extend_fitting-clause-many g c = runs_counted g.met.K.Eq.laws (pairs_keyed g.K.PartialEq.eq g.row.N)
+    g.I.Iterator.next_gives c.args.items (returns-then-extend_fitting-clause-built g c)
+
+pub returns-else-extend_fitting-clause-built : goal.returns-else-extend_fitting-clause-built
+returns-else-extend_fitting-clause-built g c =
+    let ran = rw (c.new-whole.ensures.answer, c.if-extend_fitting.false) at c.extend_fitting.ensures.built in
+    (ran.0, ran.1, ran.2.0)
+
+pub returns-else-extend_fitting-clause-many : goal.returns-else-extend_fitting-clause-many
+unfolding put_or_refuse
+returns-else-extend_fitting-clause-many g c = runs_counted g.met.K.Eq.laws (pairs_keyed g.K.PartialEq.eq g.row.N)
+    g.I.Iterator.next_gives c.args.items (returns-else-extend_fitting-clause-built g c)

@@ -1,5 +1,5 @@
 use Rattle.std.proofs.Common.{ap, sym, ◌∙◌, option_copied, option_map}
-use Rattle.micromap_core.proofs.{MapLemmas.found_at, MapLemmas.not_found, StepsLemmas.steps-bound}
+use Rattle.micromap_core.proofs.{Laws.MapLemmas.found_at, Laws.MapLemmas.not_found, Laws.StepsLemmas.steps-bound}
 use Rattle.micromap_core.proofs.map.Map.get_counted.Goals as goal
 
 pub pair_at-requires : goal.pair_at-requires

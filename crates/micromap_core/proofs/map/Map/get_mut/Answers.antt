@@ -1,5 +1,5 @@
 use Rattle.std.proofs.Common.{ap, sym, inl, ◌∙◌, option_map}
-use Rattle.micromap_core.proofs.MapLemmas.{with_value_at-put}
+use Rattle.micromap_core.proofs.Laws.MapLemmas.{with_value_at-put}
 use Rattle.micromap_core.proofs.map.Map.get_mut.Goals as goal
 
 -- the key is stored, and a write at its index puts

@@ -1,5 +1,5 @@
 use Rattle.std.proofs.Common.{ap, sym, inl, ◌∙◌, option_map}
-use Rattle.micromap_core.proofs.MapLemmas.{written_at}
+use Rattle.micromap_core.proofs.Laws.MapLemmas.{written_at}
 use Rattle.micromap_core.proofs.map.Map.get_mut_by.Goals as goal
 
 -- a stored key matches, and a write at its index sets its value; or none matches

@@ -1,7 +1,7 @@
 use Rattle.std.proofs.Common.{suc, length, ap, sym, arith}
 use Rattle.std.specs.Option.{option_map_or}
 use Rattle.std.proofs.lemmas.Map.Entries.{length-keys_of}
-use Rattle.micromap_core.proofs.ScanLemmas.{not_yet-found, not_yet-missing, not_yet-start, not_yet-on}
+use Rattle.micromap_core.proofs.Laws.ScanLemmas.{not_yet-found, not_yet-missing, not_yet-start, not_yet-on}
 use Rattle.micromap_core.proofs.map.Map.index_counted.Goals as goal
 
 pub loop-stored-init : goal.loop-stored-init

@@ -1,6 +1,6 @@
 use Rattle.std.specs.Prelude.{◌≡◌, ◌+◌}
 use Rattle.std.specs.Map.{keys_of}
-use Rattle.micromap_core.proofs.ScanLemmas.{NotYet}
+use Rattle.micromap_core.proofs.Laws.ScanLemmas.{NotYet}
 use Rattle.micromap_core.proofs.map.Map.index_counted.Given as goal
 
 abbrev pub invariant-loop-stored : goal.invariant-loop-stored

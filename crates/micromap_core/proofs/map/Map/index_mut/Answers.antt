@@ -1,5 +1,5 @@
 use Rattle.std.proofs.Common.{refl, ap, sym, ◌∙◌, option_map}
-use Rattle.micromap_core.proofs.MapLemmas.{with_value_at-put}
+use Rattle.micromap_core.proofs.Laws.MapLemmas.{with_value_at-put}
 use Rattle.micromap_core.proofs.map.Map.index_mut.Goals as goal
 
 -- a write at the index of the key puts

@@ -1,5 +1,5 @@
 use Rattle.std.proofs.Common.{refl, ap, sym, ◌∙◌, option_map}
-use Rattle.micromap_core.proofs.MapLemmas.{written_at}
+use Rattle.micromap_core.proofs.Laws.MapLemmas.{written_at}
 use Rattle.micromap_core.proofs.map.Map.index_mut_by.Goals as goal
 
 -- a write at the index of the key that matches sets its value

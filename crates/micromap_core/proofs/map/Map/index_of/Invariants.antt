@@ -1,5 +1,5 @@
 use Rattle.std.specs.Map.{keys_of}
-use Rattle.micromap_core.proofs.ScanLemmas.{NotYet}
+use Rattle.micromap_core.proofs.Laws.ScanLemmas.{NotYet}
 use Rattle.micromap_core.proofs.map.Map.index_of.Given as goal
 
 abbrev pub invariant-loop-key : goal.invariant-loop-key

@@ -1,4 +1,4 @@
-use Rattle.micromap_walk.proofs.Runs.{gives_in_order}
+use Rattle.micromap_walk.proofs.Laws.Runs.{gives_in_order}
 use Rattle.micromap_core.proofs.map.Map.into_values.Goals as goal
 
 pub returns-clause-runs : goal.returns-clause-runs

@@ -1,5 +1,5 @@
 use Rattle.std.proofs.Common.{length, refl, arith, ap, sym, ◌∙◌}
-use Rattle.micromap_core.proofs.StepsLemmas.{look_up_steps-bound, most_steps-product, most_steps, walk_step, all_step}
+use Rattle.micromap_core.proofs.Laws.StepsLemmas.{look_up_steps-bound, most_steps-product, most_steps, total_step, all_step}
 use Rattle.micromap_core.proofs.map.Map.is_within_counted.Goals as goal
 
 pub loop-key-init : goal.loop-key-init
@@ -17,7 +17,7 @@ returns-then-not-has_value_counted g c = record {
     arith,
     c.loop-key.invariant.count,
     c.has_value_counted.ensures.count,
-    walk_step g.K.PartialEq.eq g.V.PartialEq.eq c.args.other.now c.in-Some.ensures.steps c.if-not-has_value_counted.ensures.answer,
+    total_step g.K.PartialEq.eq g.V.PartialEq.eq c.args.other.now c.in-Some.ensures.steps c.if-not-has_value_counted.ensures.answer,
   );
 }
 
@@ -29,7 +29,7 @@ loop-key-preserved g c = record {
     arith,
     c.loop-key.invariant.count,
     c.has_value_counted.ensures.count,
-    walk_step g.K.PartialEq.eq g.V.PartialEq.eq c.args.other.now c.in-Some.ensures.steps c.if-not-has_value_counted.ensures.answer,
+    total_step g.K.PartialEq.eq g.V.PartialEq.eq c.args.other.now c.in-Some.ensures.steps c.if-not-has_value_counted.ensures.answer,
   );
   bounded = omega (
     arith,

@@ -1,5 +1,5 @@
 use Rattle.std.specs.Map.Iter.{deref_pair}
-use Rattle.micromap_walk.proofs.Runs.{shows_in_order}
+use Rattle.micromap_walk.proofs.Laws.Runs.{shows_in_order}
 use Rattle.micromap_core.proofs.map.Map.iter.Goals as goal
 
 pub returns-clause-runs : goal.returns-clause-runs

@@ -1,4 +1,4 @@
-use Rattle.micromap_core.proofs.MapLemmas.{IsContent-nil}
+use Rattle.micromap_core.proofs.Laws.MapLemmas.{IsContent-nil}
 use Rattle.micromap_core.proofs.map.Map.new.Goals as goal
 
 pub invariant_of-result : goal.invariant_of-result

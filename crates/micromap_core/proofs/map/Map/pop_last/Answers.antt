@@ -1,5 +1,5 @@
 use Rattle.std.proofs.Common.{arith, sym, ◌∙◌}
-use Rattle.micromap_core.{specs.Pairs.without_at, proofs.Lists.remove_last}
+use Rattle.micromap_core.{specs.Pairs.without_at, proofs.Laws.Lists.remove_last}
 use Rattle.micromap_core.proofs.map.Map.pop_last.Goals as goal
 
 pub returns-in_default-clause-answer : goal.returns-in_default-clause-answer

@@ -1,5 +1,5 @@
 use Rattle.std.proofs.Common.{refl, arith}
-use Rattle.micromap_core.proofs.MapLemmas.{not_found, push-put, push-put_key, IsContent-push}
+use Rattle.micromap_core.proofs.Laws.MapLemmas.{not_found, push-put, push-put_key, IsContent-push}
 use Rattle.micromap_core.proofs.map.Map.push_pair.Goals as goal
 
 pub push-requires : goal.push-requires

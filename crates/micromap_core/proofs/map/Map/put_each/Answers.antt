@@ -1,9 +1,9 @@
 use Rattle.std.proofs.Common.{ℕ, ◌+◌, ◌<◌, ◌∙◌, ap, arith, length, refl, subst, sym, Bool, List}
 use Rattle.std.proofs.lemmas.{Bool.false≢true, Map.Entries.length-keys_of}
 use Rattle.micromap_core.specs.{Build.put_all, Build.MisfitIn, Pairs.IsContent}
-use Rattle.micromap_core.proofs.{KeyedLemmas.many_left, KeyedLemmas.pairs_keyed, Laws.Equalities.of_lawful}
-use Rattle.micromap_core.proofs.PuttingLemmas.{putting_begins, putting_goes_on, walk_puts, walk_stops}
-use Rattle.micromap_core.proofs.Walked.{walk_begins, walk_goes_on}
+use Rattle.micromap_core.proofs.{Laws.KeyedLemmas.many_left, Laws.KeyedLemmas.pairs_keyed, Laws.Equalities.of_lawful}
+use Rattle.micromap_core.proofs.Laws.PuttingLemmas.{putting_begins, putting_goes_on, walk_puts, walk_stops}
+use Rattle.micromap_walk.proofs.Laws.Walked.{walk_begins, walk_goes_on}
 use Rattle.micromap_core.proofs.map.Map.put_each.Goals as goal
 
 -- where one of the items doesn't fit, what would be put is more than there is room for

@@ -1,6 +1,7 @@
 use Rattle.std.specs.Prelude.{◌≡◌, ◌+◌, length, true}
 use Rattle.micromap_core.specs.{Build.pair_fits, Build.put_pair, Pairs.IsContent}
-use Rattle.micromap_core.proofs.{PuttingLemmas.Putting, Walked.Walked}
+use Rattle.micromap_core.proofs.Laws.PuttingLemmas.{Putting}
+use Rattle.micromap_walk.proofs.Laws.Walked.{Walked}
 use Rattle.micromap_core.proofs.map.Map.put_each.Given as goal
 
 abbrev pub invariant-loop-key : goal.invariant-loop-key

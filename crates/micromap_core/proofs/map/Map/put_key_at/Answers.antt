@@ -1,4 +1,4 @@
-use Rattle.micromap_core.proofs.MapLemmas.{found_at, IsContent-set_key}
+use Rattle.micromap_core.proofs.Laws.MapLemmas.{found_at, IsContent-set_key}
 use Rattle.std.proofs.Common.{sym, ◌∙◌, arith}
 use Rattle.micromap_core.proofs.map.Map.put_key_at.Goals as goal
 

@@ -1,4 +1,4 @@
-use Rattle.micromap_core.proofs.{ClosureLemmas.keys_in_order, ClosureLemmas.shorter_retained, MapLemmas.IsContent-sublist}
+use Rattle.micromap_core.proofs.{Laws.ClosureLaws.keys_in_order, Laws.ClosureLaws.shorter_retained, Laws.MapLemmas.IsContent-sublist}
 use Rattle.micromap_core.proofs.map.Map.retain.Goals as goal
 
 -- the keys that are kept are some of those before

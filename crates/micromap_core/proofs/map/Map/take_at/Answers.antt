@@ -1,5 +1,5 @@
 use Rattle.std.proofs.Common.{arith}
-use Rattle.micromap_core.proofs.MapLemmas.{IsContent-remove}
+use Rattle.micromap_core.proofs.Laws.MapLemmas.{IsContent-remove}
 use Rattle.micromap_core.specs.Pairs.{without_at}
 use Rattle.micromap_core.proofs.map.Map.take_at.Goals as goal
 

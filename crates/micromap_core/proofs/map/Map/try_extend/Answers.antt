@@ -1,7 +1,7 @@
 use Rattle.std.proofs.Common.{◌≡◌, ◌∙◌, ap, arith, false, length, refl, sym}
 use Rattle.std.proofs.lemmas.List.{length_push}
 use Rattle.micromap_core.{specs.Pairs.fits, proofs.Laws.MapLaws.not_fits}
-use Rattle.micromap_core.proofs.PuttingLemmas.{putting_begins, putting_goes_on, runs_up_to, runs_whole}
+use Rattle.micromap_core.proofs.Laws.PuttingLemmas.{putting_begins, putting_goes_on, runs_up_to, runs_whole}
 use Rattle.micromap_core.proofs.map.Map.try_extend.Goals as goal
 
 pub loop-key-init : goal.loop-key-init

@@ -1,6 +1,6 @@
 use Rattle.std.specs.Prelude.{◌≡◌, ◌+◌, ◌≤◌, length, true}
 use Rattle.micromap_core.specs.{Build.most_items, Build.pair_fits, Build.put_pair, Pairs.IsContent}
-use Rattle.micromap_core.proofs.PuttingLemmas.{Putting}
+use Rattle.micromap_core.proofs.Laws.PuttingLemmas.{Putting}
 use Rattle.micromap_core.proofs.map.Map.try_extend.Given as goal
 
 abbrev pub invariant-loop-key : goal.invariant-loop-key

@@ -1,5 +1,5 @@
 use Rattle.std.proofs.lemmas.Result.{err_from_is_err_and}
-use Rattle.micromap_core.proofs.KeyedLemmas.{few_distinct, full_at, many_taken, pairs_keyed}
+use Rattle.micromap_core.proofs.Laws.KeyedLemmas.{few_distinct, full_at, many_taken, pairs_keyed}
 use Rattle.micromap_core.proofs.map.Map.try_from_iter.Goals as goal
 
 pub returns : goal.returns

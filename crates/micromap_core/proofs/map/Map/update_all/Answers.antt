@@ -1,5 +1,5 @@
 use Rattle.std.proofs.Common.{arith}
-use Rattle.micromap_core.proofs.{ClosureLemmas.keys_updated, MapLemmas.IsContent-same_keys}
+use Rattle.micromap_core.proofs.{Laws.ClosureLaws.keys_updated, Laws.MapLemmas.IsContent-same_keys}
 use Rattle.micromap_core.proofs.map.Map.update_all.Goals as goal
 
 pub update_all-requires : goal.update_all-requires

@@ -1,6 +1,6 @@
 use Rattle.std.proofs.Common.{◌<◌, length, refl, rules, sym}
-use Rattle.micromap_core.proofs.ClosureLemmas.{asks_value, update_keys_end, updates_missing, updates_stored}
-use Rattle.micromap_core.proofs.MapLemmas.{IsContent-same_keys}
+use Rattle.micromap_core.proofs.Laws.ClosureLemmas.{asks_value, update_keys_end, updates_missing, updates_stored}
+use Rattle.micromap_core.proofs.Laws.MapLemmas.{IsContent-same_keys}
 use Rattle.micromap_core.proofs.map.Map.update_disjoint.Goals as goal
 
 pub update-requires : goal.update-requires

@@ -1,4 +1,4 @@
-use Rattle.micromap_core.proofs.ClosureLemmas.{UpdatingKeys}
+use Rattle.micromap_core.proofs.Laws.ClosureLemmas.{UpdatingKeys}
 use Rattle.micromap_core.proofs.map.Map.update_disjoint.Given as goal
 
 abbrev pub invariant-loop-position : goal.invariant-loop-position

@@ -1,4 +1,4 @@
-use Rattle.micromap_core.proofs.MapLemmas.{IsContent-with_value_at}
+use Rattle.micromap_core.proofs.Laws.MapLemmas.{IsContent-with_value_at}
 use Rattle.std.proofs.Common.{refl, arith}
 use Rattle.micromap_core.proofs.map.Map.value_at_mut.Goals as goal
 

@@ -1,7 +1,7 @@
 use Rattle.std.proofs.Common.{[], ◌∷◌, ◌++◌, ◌∙◌, ap, append-nil, append_assoc, length, refl, sym}
 use Rattle.std.proofs.lemmas.Result.{MatchResult-from_err}
 use Rattle.micromap_core.proofs.StreamLemmas.{still_faultless}
-use Rattle.micromap_core.proofs.Walked.{walk_before, walk_begins, walk_ends, walk_goes_on, walk_within}
+use Rattle.micromap_walk.proofs.Laws.Walked.{walk_before, walk_begins, walk_ends, walk_goes_on, walk_within}
 use Rattle.micromap_core.proofs.map.Map.write_entries.Goals as goal
 
 pub loop-key-init : goal.loop-key-init

@@ -1,5 +1,6 @@
 use Rattle.std.specs.Prelude.{◌≡◌, ◌++◌}
-use Rattle.micromap_core.{specs.Stream.Faultless, proofs.Walked.Walked}
+use Rattle.micromap_walk.proofs.Laws.Walked.{Walked}
+use Rattle.micromap_core.specs.Stream.{Faultless}
 use Rattle.micromap_core.proofs.map.Map.write_entries.Given as goal
 
 abbrev pub invariant-loop-key : goal.invariant-loop-key

@@ -1,7 +1,7 @@
 use Rattle.std.proofs.Common.{◌≡◌, ◌||◌, ◌∙◌, ap, false, sym, take}
 use Rattle.std.specs.{List.list_any, Map.keys_of}
 use Rattle.std.proofs.lemmas.{List.nil_from_length, List.take_all, List.Folds.list_any_more, Map.Keys.IsDistinct-cons}
-use Rattle.micromap_core.proofs.{DistinctLemmas.fails_everywhere, DistinctLemmas.IsDistinct-nil, Views.any-map}
+use Rattle.micromap_core.proofs.{Laws.DistinctLemmas.fails_everywhere, Laws.DistinctLemmas.IsDistinct-nil, Laws.Views.any-map}
 use Rattle.micromap_core.proofs.map.build.are_distinct.Goals as goal
 
 pub loop-item-preserved : goal.loop-item-preserved

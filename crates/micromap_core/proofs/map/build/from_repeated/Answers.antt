@@ -1,7 +1,7 @@
 use Rattle.std.proofs.Common.{◌≡◌, ◌∙◌, [], ap, get_or, rules, subst, sym, take_all, true}
 use Rattle.std.proofs.lemmas.List.Sums.{fold_more}
 use Rattle.micromap_core.specs.{Build.build, Build.pair_fits, Build.put_pair, Pairs.IsContent}
-use Rattle.micromap_core.proofs.KeyedLemmas.{array_fits, array_fits_at, pairs_keyed, IsContent-build}
+use Rattle.micromap_core.proofs.Laws.KeyedLemmas.{array_fits, array_fits_at, pairs_keyed, IsContent-build}
 use Rattle.micromap_core.proofs.map.build.from_repeated.Goals as goal
 
 pub insert-requires : goal.insert-requires

@@ -2,7 +2,8 @@ use Rattle.std.proofs.Common.{◌≡◌, [], ap, sym, ◌∙◌}
 use Rattle.std.proofs.lemmas.List.{nil_from_length}
 use Rattle.std.specs.Map.Iter.{deref}
 use Rattle.micromap_walk.specs.Filled.{items_of}
-use Rattle.micromap_walk.proofs.{FilledLemmas.first_some, FilledLemmas.items_first, FilledLemmas.rest_filled, Runs.first_goes}
+use Rattle.micromap_walk.proofs.Laws.FilledLemmas.{first_some, items_first, rest_filled}
+use Rattle.micromap_walk.proofs.Laws.Runs.{first_goes}
 use Rattle.micromap_walk.proofs.borrowing.ColumnIterIterator.next.Goals as goal
 
 pub returns-in_err-slot-clause-steps : goal.returns-in_err-slot-clause-steps

@@ -1,6 +1,6 @@
 use Rattle.std.proofs.Common.{refl, sym, ◌∙◌}
 use Rattle.std.specs.Map.Iter.{deref_pair}
-use Rattle.micromap_walk.proofs.Runs.{first_goes}
+use Rattle.micromap_walk.proofs.Laws.Runs.{first_goes}
 use Rattle.micromap_walk.proofs.borrowing.IterIterator.next.Goals as goal
 
 pub returns-clause-steps : goal.returns-clause-steps

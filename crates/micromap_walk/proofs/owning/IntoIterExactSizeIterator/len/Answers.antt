@@ -1,5 +1,5 @@
 use Rattle.std.proofs.Common.{◌-◌, length, ap, sym, ◌∙◌, length-drop}
-use Rattle.micromap_walk.proofs.{FilledLemmas.left_equal, FilledLemmas.length_filled, ZipLemmas.length_zip}
+use Rattle.micromap_walk.proofs.{Laws.FilledLemmas.left_equal, Laws.FilledLemmas.length_filled, Laws.ZipLemmas.length_zip}
 use Rattle.micromap_walk.proofs.owning.IntoIterExactSizeIterator.len.Goals as goal
 
 pub returns-clause-value : goal.returns-clause-value

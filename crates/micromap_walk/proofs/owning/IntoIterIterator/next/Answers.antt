@@ -1,5 +1,5 @@
 use Rattle.std.proofs.Common.{◌≤◌, length, refl, sym, ◌∙◌, arith, drop_of_length-le}
-use Rattle.micromap_walk.proofs.Runs.{first_goes}
+use Rattle.micromap_walk.proofs.Laws.Runs.{first_goes}
 use Rattle.micromap_walk.proofs.owning.IntoIterIterator.next.Goals as goal
 
 pub returns-then-index-len-clause-steps : goal.returns-then-index-len-clause-steps

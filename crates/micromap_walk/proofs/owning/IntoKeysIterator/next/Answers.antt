@@ -1,6 +1,6 @@
 use Rattle.std.proofs.Common.{ap, sym, ◌∙◌}
 use Rattle.std.specs.Map.{keys_of}
-use Rattle.micromap_walk.proofs.Runs.{first_goes}
+use Rattle.micromap_walk.proofs.Laws.Runs.{first_goes}
 use Rattle.micromap_walk.proofs.owning.IntoKeysIterator.next.Goals as goal
 
 pub returns-in_err-key-clause-steps : goal.returns-in_err-key-clause-steps

@@ -1,6 +1,6 @@
 use Rattle.std.proofs.Common.{ap, sym, ◌∙◌}
 use Rattle.std.specs.Map.{values_of}
-use Rattle.micromap_walk.proofs.Runs.{first_goes}
+use Rattle.micromap_walk.proofs.Laws.Runs.{first_goes}
 use Rattle.micromap_walk.proofs.owning.IntoValuesIterator.next.Goals as goal
 
 pub returns-in_err-_key-clause-steps : goal.returns-in_err-_key-clause-steps

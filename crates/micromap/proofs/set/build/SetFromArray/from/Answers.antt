@@ -1,9 +1,9 @@
 use Rattle.std.proofs.Common.{◌≡◌, ◌∙◌, [], ap, get_or, rules, subst, sym, take_all, true}
 use Rattle.std.proofs.lemmas.List.Sums.{fold_more}
-use Rattle.micromap_core.proofs.KeyedLemmas.{array_fits, array_fits_at, bounded-built, distinct-built}
+use Rattle.micromap_core.proofs.Laws.KeyedLemmas.{array_fits, array_fits_at, bounded-built, distinct-built}
 use Rattle.micromap_core.proofs.Laws.Equalities.{lawful}
 use Rattle.micromap.specs.{Extend.distinct, Items.item_fits, Items.put_item, Items.IsItems}
-use Rattle.micromap.proofs.ExtendLemmas.{items_keyed}
+use Rattle.micromap.proofs.Laws.ExtendLemmas.{items_keyed}
 use Rattle.micromap.proofs.set.build.SetFromArray.from.Goals as goal
 
 pub insert-requires : goal.insert-requires

@@ -1,7 +1,7 @@
 use Rattle.std.proofs.Common.{refl, ap, ◌∙◌}
 use Rattle.std.specs.Map.{keys_of}
 use Rattle.std.proofs.lemmas.Result.{MatchResult-from_err}
-use Rattle.micromap.proofs.ItemLemmas.{content_items, each_infallible, zip-keys}
+use Rattle.micromap.proofs.Laws.ItemLemmas.{content_items, each_infallible, zip-keys}
 use Rattle.micromap.proofs.set.clone.SetClone.clone.Goals as goal
 
 pub returns : goal.returns

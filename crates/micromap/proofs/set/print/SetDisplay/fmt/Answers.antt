@@ -1,6 +1,6 @@
 use Rattle.std.{proofs.Common.Some, proofs.Common.Ok, proofs.Common.rules, specs.Fmt.DisplaysOnOk, specs.Fmt.formatter_spec}
-use Rattle.micromap_core.proofs.PrintLemmas.{plain_append, WritesAs, styled_append, with_options, styled_from}
-use Rattle.micromap_core.proofs.PrintLemmas.{failed_plain, failed_styled, printing_begins, printing_more, printing_ends}
+use Rattle.micromap_core.proofs.Laws.PrintLemmas.{plain_append, WritesAs, styled_append, with_options, styled_from, failed_plain}
+use Rattle.micromap_core.proofs.Laws.PrintLemmas.{failed_styled, printing_begins, printing_more, printing_ends}
 use Rattle.micromap.proofs.set.print.SetDisplay.fmt.Goals as goal
 
 pub loop-item-init : goal.loop-item-init

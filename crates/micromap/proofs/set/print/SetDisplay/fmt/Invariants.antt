@@ -1,7 +1,7 @@
 use denote.Text.{Utf8}
 use denote.Shadow.{shadow}
 use Rattle.std.specs.Fmt.{DisplaysOnOk, formatter_spec}
-use Rattle.micromap_core.proofs.PrintLemmas.{Printing, WritesAs}
+use Rattle.micromap_core.proofs.Laws.PrintLemmas.{Printing, WritesAs}
 use Rattle.micromap.proofs.set.print.SetDisplay.fmt.Given as goal
 
 abbrev pub invariant-loop-item : goal.invariant-loop-item

@@ -1,6 +1,6 @@
 use Rattle.std.proofs.Common.{◌≡◌, ◌+◌, ◌∙◌, ap, arith, option_map, sym, unwrap_or, Some}
 use Rattle.micromap_core.specs.{Build.count_one, Pairs.at, Pairs.put, Pairs.with_value_at}
-use Rattle.micromap_core.proofs.MapLemmas.{with_value_at-put}
+use Rattle.micromap_core.proofs.Laws.MapLemmas.{with_value_at-put}
 use Rattle.micromap_core.proofs.map.build.Map+K+usize+N.count.Goals as goal
 
 -- the stored value is the count

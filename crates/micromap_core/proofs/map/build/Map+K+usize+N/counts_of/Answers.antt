@@ -1,6 +1,7 @@
 use Rattle.std.proofs.Common.{[], arith, sym}
 use Rattle.std.proofs.{Math.Bool.and_comm, lemmas.List.length_push}
-use Rattle.micromap_core.proofs.{CountLemmas.counted_low, PuttingLemmas.putting_begins, PuttingLemmas.putting_goes_on}
+use Rattle.micromap_core.proofs.{Laws.CountLemmas.counted_low, Laws.KeyedLemmas.counts_keyed, Laws.KeyedLemmas.runs_counted}
+use Rattle.micromap_core.proofs.Laws.PuttingLemmas.{putting_begins, putting_goes_on}
 use Rattle.micromap_core.proofs.map.build.Map+K+usize+N.counts_of.Goals as goal
 
 pub loop-item-init : goal.loop-item-init
@@ -30,3 +31,21 @@ loop-item-preserved g c =
           (sym c.count-all_fit.ensures.answer));
       content = c.count-all_fit.ensures.content;
     }
+
+pub returns-then-all_fit-clause-many : goal.returns-then-all_fit-clause-many
+returns-then-all_fit-clause-many g c =
+    let l = c.loop-item in
+    runs_counted g.met.K.Eq.laws (counts_keyed g.K.PartialEq.eq g.row.N) g.I.Iterator.next_gives c.args.items (
+      l.yielded,
+      λ _. rw (← c.into_iter-item-iterator.ensures.into_iter_gives) (c.next.new.self, (l.item-iterator, l.yielded_by, c.in-None.ensures.steps)),
+      rw c.if-all_fit.true at l.invariant.put.all,
+    )
+
+pub returns-else-all_fit-clause-many : goal.returns-else-all_fit-clause-many
+returns-else-all_fit-clause-many g c =
+    let l = c.loop-item in
+    runs_counted g.met.K.Eq.laws (counts_keyed g.K.PartialEq.eq g.row.N) g.I.Iterator.next_gives c.args.items (
+      l.yielded,
+      λ _. rw (← c.into_iter-item-iterator.ensures.into_iter_gives) (c.next.new.self, (l.item-iterator, l.yielded_by, c.in-None.ensures.steps)),
+      rw c.if-all_fit.false at l.invariant.put.all,
+    )

@@ -1,6 +1,6 @@
 use Rattle.std.specs.Prelude.{◌+◌, ◌≤◌, [], length}
 use Rattle.micromap_core.specs.{Build.count_one, Build.most_items, Pairs.fits, Pairs.IsContent}
-use Rattle.micromap_core.proofs.PuttingLemmas.{Putting}
+use Rattle.micromap_core.proofs.Laws.PuttingLemmas.{Putting}
 use Rattle.micromap_core.proofs.map.build.Map+K+usize+N.counts_of.Given as goal
 
 abbrev pub invariant-loop-item : goal.invariant-loop-item

@@ -1,7 +1,7 @@
 use Rattle.std.proofs.Common.{◌≡◌, [], ◌∷◌, ◌++◌, ◌+◌, ◌∙◌, ap, get_or, refl, rules, subst, sym, take, arith}
 use Rattle.std.proofs.lemmas.List.{take_all, take_more}
 use Rattle.micromap_core.specs.Pairs.{IsContent}
-use Rattle.micromap_core.proofs.KeyedLemmas.{array_fits, built_in_turn, pairs_keyed, IsContent-build}
+use Rattle.micromap_core.proofs.Laws.KeyedLemmas.{array_fits, built_in_turn, pairs_keyed, IsContent-build}
 use Rattle.micromap_core.proofs.map.build.MapFromArrayTuple2.from.Goals as goal
 
 pub push-requires : goal.push-requires

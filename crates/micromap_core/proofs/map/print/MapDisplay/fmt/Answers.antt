@@ -1,8 +1,9 @@
 use Rattle.std.proofs.{Common.rules, Common.Ok, Common.Some, Padding.displays_at_plain}
 use Rattle.std.specs.Fmt.{◌++?◌}
 use Rattle.micromap_core.specs.Print.{map_text, pair_text}
-use Rattle.micromap_core.proofs.PrintLemmas.{failed_plain, failed_styled, printing_begins, printing_ends, printing_more, styled_append}
-use Rattle.micromap_core.proofs.PrintLemmas.{styled_from, unstyled_writes, with_options, WritesAs}
+use Rattle.micromap_core.proofs.Laws.PrintLemmas.{failed_plain, failed_styled, printing_begins, printing_ends, printing_more}
+use Rattle.micromap_core.proofs.Laws.PrintLemmas.{styled_append, styled_from, with_options, WritesAs}
+use Rattle.micromap_core.proofs.UnstyledLemmas.{unstyled_writes}
 use Rattle.micromap_core.proofs.map.print.MapDisplay.fmt.Goals as goal
 
 pub loop-key-init : goal.loop-key-init

@@ -1,6 +1,6 @@
 use denote.Shadow.{shadow}
 use denote.Text.{Utf8}
-use Rattle.micromap_core.{specs.Print.pair_text, proofs.PrintLemmas.Printing, proofs.PrintLemmas.WritesAs}
+use Rattle.micromap_core.{specs.Print.pair_text, proofs.Laws.PrintLemmas.Printing, proofs.Laws.PrintLemmas.WritesAs}
 use Rattle.micromap_core.proofs.map.print.MapDisplay.fmt.Given as goal
 
 abbrev pub invariant-loop-key : goal.invariant-loop-key

@@ -1,6 +1,6 @@
 use Rattle.std.proofs.Common.{◌∙◌, ap, arith, string_bytes}
 use Rattle.micromap_core.specs.Texts.{key_texts}
-use Rattle.micromap_core.proofs.{ConvertedLemmas.into_texts, Laws.Equalities.lawful_bytes}
+use Rattle.micromap_core.proofs.{Laws.ConvertedLemmas.into_texts, Laws.Equalities.lawful_bytes}
 use Rattle.micromap_core.proofs.Laws.TextLaws.{length_texts, unique_texts}
 use Rattle.micromap_core.proofs.map.texts.Map+String+V+N.into_text_bufs.Goals as goal
 

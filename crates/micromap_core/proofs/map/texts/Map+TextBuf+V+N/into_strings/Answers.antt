@@ -1,6 +1,6 @@
 use Rattle.std.proofs.Common.{◌∙◌, string_bytes}
 use Rattle.std.specs.declared.alloc.Global.{Global}
-use Rattle.micromap_core.proofs.{ConvertedLemmas.from_texts, ConvertedLemmas.unique_from_texts, Laws.Equalities.lawful_string}
+use Rattle.micromap_core.proofs.{Laws.ConvertedLemmas.from_texts, Laws.ConvertedLemmas.unique_from_texts, Laws.Equalities.lawful_string}
 use Rattle.micromap_core.proofs.Laws.TextLaws.{length_texts}
 use Rattle.micromap_core.proofs.map.texts.Map+TextBuf+V+N.into_strings.Goals as goal
 

@@ -1,5 +1,6 @@
 use Rattle.std.proofs.Common.{arith}
-use Rattle.micromap.{specs.Operations.difference_remaining, proofs.OperationSteps.length-parts, proofs.OperationSteps.length-difference}
+use Rattle.micromap.{specs.Operations.difference_remaining, proofs.Laws.OperationSteps.length-parts}
+use Rattle.micromap.proofs.Laws.OperationSteps.{length-difference}
 use Rattle.micromap.proofs.set.operations.difference.DifferenceInSetIterator.size_hint.Goals as goal
 
 pub returns-clause-lower : goal.returns-clause-lower

@@ -1,5 +1,5 @@
 use Rattle.std.proofs.Common.{arith}
-use Rattle.micromap.{specs.Operations.intersection_remaining, proofs.OperationSteps.length-intersection}
+use Rattle.micromap.{specs.Operations.intersection_remaining, proofs.Laws.OperationSteps.length-intersection}
 use Rattle.micromap.proofs.set.operations.intersection.IntersectionInSetIterator.size_hint.Goals as goal
 
 pub returns-clause-upper : goal.returns-clause-upper

@@ -1,4 +1,4 @@
-use Rattle.micromap.proofs.OperationSteps.{progress, second_gives}
+use Rattle.micromap.proofs.Laws.OperationSteps.{progress, second_gives}
 use Rattle.micromap.proofs.set.operations.symmetric_difference.SymmetricDifferenceInSetSetIterator.next.Goals as goal
 
 pub returns-in-None-clause-steps : goal.returns-in-None-clause-steps

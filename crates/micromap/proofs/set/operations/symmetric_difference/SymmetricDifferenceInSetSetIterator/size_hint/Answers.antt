@@ -1,5 +1,5 @@
 use Rattle.std.proofs.lemmas.List.{length-append}
-use Rattle.micromap.{specs.Operations.symmetric_remaining, proofs.OperationSteps.lower_sum, proofs.OperationSteps.upper_sum}
+use Rattle.micromap.{specs.Operations.symmetric_remaining, proofs.Laws.OperationSteps.lower_sum, proofs.Laws.OperationSteps.upper_sum}
 use Rattle.micromap.proofs.set.operations.symmetric_difference.SymmetricDifferenceInSetSetIterator.size_hint.Goals as goal
 
 pub returns-clause-upper : goal.returns-clause-upper

@@ -1,6 +1,6 @@
 use Rattle.std.{proofs.Common.refl, specs.Map.Calls.MayWrite}
 use Rattle.micromap_core.specs.Entry.{entry_put, with_entry_value}
-use Rattle.micromap_core.proofs.{Lists.slice_get_some, EntryLemmas.occupied_written}
+use Rattle.micromap_core.proofs.{Laws.Lists.slice_get_some, EntryLemmas.occupied_written}
 use Rattle.micromap_core.proofs.map.entry.methods.EntryIn+K+Map+K+V+N.and_modify.Goals as goal
 
 -- the closure was called on the value, and left another

@@ -1,5 +1,5 @@
 use Rattle.std.proofs.Common.{refl}
-use Rattle.micromap_core.proofs.{EntryLemmas.occupied_written, Lists.slice_get_some}
+use Rattle.micromap_core.proofs.{EntryLemmas.occupied_written, Laws.Lists.slice_get_some}
 use Rattle.micromap_core.proofs.map.entry.occupied.OccupiedIn+Map+K+V+N.insert.Goals as goal
 
 pub returns-clause-written : goal.returns-clause-written
