@@ -69,10 +69,13 @@ fn perform<K: Eq + Copy, V: Copy, const N: usize>(
     ensures after { pairs.new ≡ after K.eq N pairs.old (call_of call.now) }
 {
     match *call {
-        Call::Insert(key, value) => match pairs.checked_insert(key, value) {
-            Some(old) => Answer::Value(old),
-            None => Answer::Refused,
-        },
+        Call::Insert(key, value) => {
+            if pairs.fits(&key) {
+                Answer::Value(pairs.insert(key, value))
+            } else {
+                Answer::Refused
+            }
+        }
         Call::InsertKeyValue(key, value) => {
             if pairs.fits(&key) {
                 Answer::Entry(pairs.insert_key_value(key, value))

@@ -7,6 +7,7 @@
 mod calls;
 mod counted;
 mod expected;
+pub mod keyed;
 mod marked;
 mod refusing;
 mod report;

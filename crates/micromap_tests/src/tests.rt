@@ -1,6 +1,7 @@
-//! Tests of what no contract says. Each subject has a module.
+//! Tests by subject: what no contract says, callers that are proved, and the tests of the Rust crate.
 
 mod building;
+mod capacities;
 mod cloning;
 mod comparison;
 mod entries;

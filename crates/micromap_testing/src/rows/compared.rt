@@ -3,7 +3,7 @@ use crate::{Call, lockstep};
 use micromap::{Map, Steps};
 
 // The order and the capacity of two maps don't matter.
-pub(super) fn row_4() -> bool {
+pub(super) fn row_4_equality_ignores_order_and_capacity() -> bool {
     let mut first = Map::from([('a', 97), ('b', 98), ('c', 99)]);
     let mut second = Map::from([('c', 99), ('c', 99), ('c', 99), ('b', 98)]);
     second.fits(&'a')
@@ -25,13 +25,13 @@ fn pair_of_maps() -> (Map<u8, u8, 1>, Map<u8, u8, 2>) {
 }
 
 // Room alone tells two maps apart, by calls that aren't fair.
-pub(super) fn row_5() -> bool {
+pub(super) fn row_5_room_tells_maps_apart() -> bool {
     let (mut first, mut second) = pair_of_maps();
     first.eq_with(&second) && !lockstep(&mut first, &mut second, &[Call::Insert(2, 20)])
 }
 
 // Calls that are fair don't.
-pub(super) fn row_6() -> bool {
+pub(super) fn row_6_fair_calls_do_not_tell_maps_apart() -> bool {
     let (mut first, mut second) = pair_of_maps();
     let calls = [
         Call::Insert(1, 11),
@@ -46,7 +46,7 @@ pub(super) fn row_6() -> bool {
 }
 
 // One unequal value, which is named from both sides.
-pub(super) fn row_20() -> bool {
+pub(super) fn row_20_each_side_names_the_difference() -> bool {
     let first = Map::from([(1, 10), (2, 20)]);
     let second = Map::from([(2, 20), (1, 11)]);
     !first.eq_with(&second)
@@ -56,7 +56,7 @@ pub(super) fn row_20() -> bool {
 }
 
 // Maps that are the same stay so, in whatever order each keeps its pairs.
-pub(super) fn row_31() -> bool {
+pub(super) fn row_31_maps_that_are_the_same_stay_so() -> bool {
     let mut first = Map::from([(1, 10), (2, 20), (3, 30)]);
     let mut second: Map<u8, u8, 4> = Map::new();
     for (key, value) in [(2, 20), (3, 30), (1, 10)] {
@@ -82,7 +82,7 @@ fn has_pairs<const N: usize>(map: &Map<u8, u8, N>, keys: &[u8], values: &[u8]) -
 }
 
 // A look-up costs the index of the key plus one, or the length where the key is missing.
-pub(super) fn row_19() -> bool {
+pub(super) fn row_19_steps_of_a_look_up() -> bool {
     let map = Map::from([(5, 50), (6, 60), (7, 70)]);
     let whole = map.len() == 3;
     let mut steps = Steps::new();
@@ -93,7 +93,7 @@ pub(super) fn row_19() -> bool {
 }
 
 // A comparison costs a look-up of each key, and nothing where the lengths differ.
-pub(super) fn row_32() -> bool {
+pub(super) fn row_32_steps_of_a_comparison() -> bool {
     let map = Map::from([(1, 10), (2, 20), (3, 30)]);
     let turned = Map::from([(3, 30), (2, 20), (1, 10)]);
     let shorter = Map::from([(1, 10), (2, 20)]);

@@ -6,7 +6,7 @@ use micromap::{Map, Overfull, Text};
 use std::alloc::{AllocError, Global};
 
 // The three outcomes of `checked_insert`.
-pub(super) fn row_1() -> bool {
+pub(super) fn row_1_checked_insert_has_three_outcomes() -> bool {
     let mut map = Map::<_, _, 3>::new();
     map.checked_insert(1, "a") == Some(None)
         && map.checked_insert(1, "A") == Some(Some("a"))
@@ -19,7 +19,7 @@ pub(super) fn row_1() -> bool {
 }
 
 // A map with no room at all.
-pub(super) fn row_2() -> bool {
+pub(super) fn row_2_a_map_without_slots() -> bool {
     let mut map: Map<u8, u8, 0> = Map::new();
     map.get(&1).is_none()
         && map.checked_insert(1, 1).is_none()
@@ -29,7 +29,7 @@ pub(super) fn row_2() -> bool {
 }
 
 // The pairs that a removal leaves keep their order.
-pub(super) fn row_3() -> bool {
+pub(super) fn row_3_a_removal_keeps_the_order() -> bool {
     let mut three = keys(&[1, 2, 3]);
     without(&[1, 2, 3, 4], 2, &[1, 3, 4])
         && without(&[1, 2, 3], 2, &[1, 3])
@@ -54,7 +54,7 @@ fn without(old: &[u8], key: u8, new: &[u8]) -> bool {
 }
 
 // Equal keys that aren't identical: one call keeps the stored one, the other replaces it.
-pub(super) fn row_7() -> bool {
+pub(super) fn row_7_insert_keeps_the_stored_key() -> bool {
     let mut map: Map<Marked, char, 1> = Map::new();
     if map.insert(Marked::new(1, 'x'), 'p').is_some() {
         return false;
@@ -80,7 +80,7 @@ fn stores(map: &Map<Marked, char, 1>, key: Marked, mark: char, value: char) -> b
 }
 
 // A value that is made where its key is new alone.
-pub(super) fn row_12() -> bool {
+pub(super) fn row_12_an_entry_makes_a_value_for_a_new_key() -> bool {
     let mut map: Map<char, u8, 10> = Map::new();
     first_value(&mut map, 'f', 43) == Some(43)
         && first_value(&mut map, 'f', 44) == Some(43)
@@ -98,7 +98,7 @@ fn first_value(map: &mut Map<char, u8, 10>, key: char, value: u8) -> Option<u8> 
 }
 
 // Keys that are texts, found by a probe.
-pub(super) fn row_24(alloc: Global) -> Result<bool, AllocError> {
+pub(super) fn row_24_texts_are_found_by_a_probe(alloc: Global) -> Result<bool, AllocError> {
     let mut map: Map<String, i32, 10> = Map::new();
     for (name, value) in [("one", 1), ("two", 3), ("three", 5)] {
         map.checked_insert(String::from_str(alloc, name)?, value);
@@ -113,7 +113,7 @@ pub(super) fn row_24(alloc: Global) -> Result<bool, AllocError> {
 }
 
 // A repeated key has its last value, at the index where it came first.
-pub(super) fn row_11() -> bool {
+pub(super) fn row_11_a_repeated_key_has_its_last_value() -> bool {
     let days = Map::from([(1, "sun"), (2, "mon"), (3, "tue"), (1, "wed"), (2, "thu")]);
     days.len() == 3 && days.capacity() == 5 && has(days, [(1, "wed"), (2, "thu"), (3, "tue")])
 }
@@ -124,7 +124,7 @@ fn has<const N: usize>(mut map: Map<u8, &'static str, N>, pairs: [(u8, &'static 
 }
 
 // The first item that doesn't fit is named by its position.
-pub(super) fn row_28() -> bool {
+pub(super) fn row_28_the_first_misfit_is_named() -> bool {
     let items = [(1, "a"), (2, "b"), (1, "c"), (3, "d")];
     let small: Result<Map<u8, &str, 2>, Overfull> = Map::try_from_iter(items.into_iter());
     let large: Result<Map<u8, &str, 3>, Overfull> = Map::try_from_iter(items.into_iter());
@@ -133,7 +133,7 @@ pub(super) fn row_28() -> bool {
 }
 
 // Keys by reference and by value, both from the front.
-pub(super) fn row_9() -> bool {
+pub(super) fn row_9_keys_come_from_the_front() -> bool {
     let mut map: Map<&str, u8, 2> = Map::new();
     map.checked_insert("foo", 0);
     map.checked_insert("bar", 0);
@@ -146,7 +146,7 @@ pub(super) fn row_9() -> bool {
 }
 
 // A drained map is empty at once.
-pub(super) fn row_10() -> bool {
+pub(super) fn row_10_a_drained_map_is_empty_at_once() -> bool {
     let mut map: Map<char, u8, 3> = Map::new();
     for (letter, code) in [('a', 97), ('b', 98), ('c', 99)] {
         map.checked_insert(letter, code);
@@ -163,7 +163,7 @@ pub(super) fn row_10() -> bool {
 }
 
 // Values written at some keys, one of which isn't there.
-pub(super) fn row_13() -> bool {
+pub(super) fn row_13_update_disjoint_passes_over_a_missing_key() -> bool {
     let mut map: Map<u8, usize, 3> = Map::new();
     for (key, value) in [(1, 10), (2, 20), (3, 30)] {
         map.checked_insert(key, value);
@@ -175,7 +175,7 @@ pub(super) fn row_13() -> bool {
 }
 
 // Values doubled, from the front.
-pub(super) fn row_29() -> bool {
+pub(super) fn row_29_update_all_doubles_the_values() -> bool {
     let mut map: Map<&str, u8, 3> = Map::new();
     map.checked_insert("one", 2);
     map.checked_insert("two", 3);
@@ -185,7 +185,7 @@ pub(super) fn row_29() -> bool {
 }
 
 // A clone of an iterator has the same items left, and a default iterator is at its end.
-pub(super) fn row_30() -> bool {
+pub(super) fn row_30_clones_of_iterators() -> bool {
     let mut map: Map<u8, u8, 3> = Map::new();
     for key in [1, 2, 3] {
         map.checked_insert(key, 0);

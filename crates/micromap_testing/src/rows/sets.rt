@@ -14,7 +14,7 @@ fn numbers<const N: usize>(items: &[i32]) -> Set<i32, N> {
 }
 
 // The items are visited from front to end, and the kept ones stay in their order.
-pub(super) fn row_8() -> bool {
+pub(super) fn row_8_retain_goes_from_the_front() -> bool {
     let mut set: Set<i32, 4> = numbers(&[1, 2, 3, 4]);
     let visits = [1, 2, 3, 4];
     let mut visited = 0usize;
@@ -28,14 +28,14 @@ pub(super) fn row_8() -> bool {
 }
 
 // The items before the first misfit are in the set.
-pub(super) fn row_14() -> bool {
+pub(super) fn row_14_items_before_the_misfit_stay() -> bool {
     let mut set: Set<i32, 3> = numbers(&[1, 2]);
     let ended = set.try_extend([2, 5, 6, 7].into_iter());
     matches!(ended, Err(Overfull { at: 2 })) && set.iter().eq(&[1, 2, 5])
 }
 
 // A full set refuses a new item, and returns one that equals a stored one.
-pub(super) fn row_16() -> bool {
+pub(super) fn row_16_a_full_set_refuses_a_new_item() -> bool {
     let mut set: Set<i32, 2> = Set::new();
     set.checked_insert(1).is_none()
         && set.checked_insert(2).is_none()
@@ -45,7 +45,7 @@ pub(super) fn row_16() -> bool {
 }
 
 // The texts of maps and sets; a set passes a width to its items.
-pub(super) fn row_17(alloc: Global) -> bool {
+pub(super) fn row_17_printed_maps_and_sets(alloc: Global) -> bool {
     let none: Map<u8, u8, 2> = Map::new();
     displays(
         alloc,
@@ -64,7 +64,7 @@ fn displays_wide<T: Display>(alloc: Global, value: &T, text: &str) -> bool {
 }
 
 // The hints on the way through a difference, and the members and first hints of the other operations.
-pub(super) fn row_15() -> bool {
+pub(super) fn row_15_hints_of_the_operations() -> bool {
     let a = Set::from([1, 2, 3]);
     let d = Set::from([3, 4]);
     hints_narrow(&a, &d) && gives_others(&a, &d)
@@ -96,7 +96,7 @@ fn gives_others(a: &Set<i32, 3>, d: &Set<i32, 2>) -> bool {
 }
 
 // Subsets and disjoint sets, and what the union and the intersection count together.
-pub(super) fn row_21() -> bool {
+pub(super) fn row_21_subsets_and_disjoint_sets() -> bool {
     let a = Set::from([1, 2]);
     let b = Set::from([2, 3]);
     let none: Set<i32, 0> = Set::new();
@@ -114,7 +114,7 @@ pub(super) fn row_21() -> bool {
 }
 
 // The words of one sentence without those of another, and the references to texts without those to equal ones.
-pub(super) fn row_22(alloc: Global) -> Result<bool, AllocError> {
+pub(super) fn row_22_differences_of_words(alloc: Global) -> Result<bool, AllocError> {
     let surf = words("I love the surf and the sand.");
     let hate = words("I hate the hate and the sand.");
     Ok(surf.difference(&hate).copied().eq(["love", "surf"]) && leaves_the_apple(alloc)?)
@@ -146,7 +146,7 @@ fn leaves_the_apple(alloc: Global) -> Result<bool, AllocError> {
 }
 
 // The sets of clones.
-pub(super) fn row_23() -> Result<bool, AllocError> {
+pub(super) fn row_23_sets_of_clones() -> Result<bool, AllocError> {
     let less = Set::from([0, 1, 2, 3, 4]).sub(&Set::from([1, 3, 4, 5]))?;
     let shared = Set::from([1, 2, 3]).bitand(&Set::from([2, 3, 4, 5]))?;
     Ok(less.iter().eq(&[0, 2]) && shared.iter().eq(&[2, 3]))

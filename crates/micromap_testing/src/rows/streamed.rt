@@ -10,7 +10,7 @@ use std::convert::Infallible;
 type Read<const N: usize> = Result<Map<u8, &'static str, N>, ReadFault<Infallible>>;
 
 // A misfit ends the reading, and what comes after it is left.
-pub(super) fn row_25() -> bool {
+pub(super) fn row_25_a_misfit_ends_the_reading() -> bool {
     let pairs = [(1, "a"), (2, "b"), (1, "c"), (3, "d"), (4, "e")];
     let mut source = SliceSource::over(&pairs);
     let small: Read<2> = Map::read_entries(&mut source);
@@ -63,7 +63,7 @@ impl EntrySink<u8, u8> for OnePair {
 }
 
 // A sink that fails has what came before.
-pub(super) fn row_26() -> bool {
+pub(super) fn row_26_a_failing_sink_has_what_came_before() -> bool {
     let map = Map::from([(1, 10), (2, 20), (3, 30)]);
     let mut sink = OnePair {
         taken: None,
@@ -79,7 +79,9 @@ fn fails<T: Drop>(read: Result<T, JsonFault>, fault: JsonFault) -> bool {
 }
 
 // An object is read, or the first fault in their order is returned.
-pub(super) fn row_18(alloc: Global) -> Result<bool, AllocError> {
+pub(super) fn row_18_an_object_is_read_or_its_first_fault(
+    alloc: Global,
+) -> Result<bool, AllocError> {
     let letters = "{\"a\":1,\"b\":2,\"c\":3}";
     let mut wanted: Map<String, i64, 3> = Map::new();
     for (name, value) in [("a", 1), ("b", 2), ("c", 3)] {
@@ -106,7 +108,7 @@ pub(super) fn row_18(alloc: Global) -> Result<bool, AllocError> {
 }
 
 // A map and a set are written, and a set is read.
-pub(super) fn row_27(alloc: Global) -> Result<bool, AllocError> {
+pub(super) fn row_27_json_of_a_map_and_a_set(alloc: Global) -> Result<bool, AllocError> {
     let mut map: Map<String, i64, 2> = Map::new();
     let mut set: Set<String, 2> = Set::new();
     for (name, value) in [("b", 2), ("a", 1)] {

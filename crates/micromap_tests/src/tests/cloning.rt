@@ -1,10 +1,11 @@
-//! Clones and copies of maps and sets, a caller's proof that numbers never lack memory, and operations on two sets in
-//! which the clone of an item fails at its turn: both sets stay as they were, and each clone that was made is dropped.
-ghost use Rattle.std.specs.Prelude.{◌≡◌, Ok};
+//! Clones and copies of maps and sets, also by the trait and a derived `Clone`, a caller's proof that numbers never lack
+//! memory, and operations on two sets in which the clone of an item fails at its turn: both sets stay as they were, and
+//! each clone that was made is dropped.
+ghost use Rattle.std.specs.Prelude.{◌≡◌, IfOk, Ok};
 
-use micromap::{Map, Set};
+use micromap::{Map, Set, TextBuf};
 use micromap_testing::{Counted, Counts, counted_set, holds};
-use std::alloc::AllocError;
+use std::alloc::{AllocError, Global};
 
 // A copy of a map of numbers.
 fn copy_of_numbers<const N: usize>(map: &Map<u8, u64, N>) -> Result<Map<u8, u64, N>, AllocError>
@@ -43,6 +44,42 @@ fn a_copy_of_a_set_goes_its_own_way(rt: HostRuntime) {
     set.checked_insert(3);
     assert!(rt; holds(&set, &[2, 1, 3]));
     assert!(rt; holds(&other, &[2, 1]));
+}
+
+// A map whose keys are maps, and a set of maps.
+#[derive(Clone, Drop)]
+struct Routes {
+    prices: Map<Map<u8, u16, 2>, u32, 3>,
+    closed: Set<Map<TextBuf, u8, 2>, 2>,
+}
+
+// Two clones, by the bound alone.
+fn twice<T: Clone + Drop>(value: &T) -> Result<(T, T), AllocError>
+    ensures { IfOk result (λ two. T.is_clone value.now two.0 × T.is_clone value.now two.1) }
+{
+    Ok((value.clone()?, value.clone()?))
+}
+
+fn two_routes(alloc: Global) -> Result<Routes, AllocError> {
+    let mut prices = Map::new();
+    prices.checked_insert(Map::from([(1, 10), (2, 20)]), 7);
+    prices.checked_insert(Map::from([(1, 10), (3, 30)]), 8);
+    let mut named = Map::new();
+    named.checked_insert(TextBuf::new(alloc, "north")?, 1);
+    let mut closed = Set::new();
+    closed.checked_insert(named);
+    Ok(Routes { prices, closed })
+}
+
+#[test]
+fn a_map_of_maps_is_cloned_by_a_derive(rt: HostRuntime) -> Result<(), AllocError> {
+    let routes = two_routes(rt.alloc())?;
+    let (mut one, other) = twice(&routes)?;
+    one.prices.clear();
+    assert!(rt; other.prices == routes.prices);
+    assert!(rt; other.closed == routes.closed);
+    assert_eq!(rt; other.prices.get(&Map::from([(2, 20), (1, 10)])), Some(&7));
+    Ok(())
 }
 
 // Keys with even ids, each with the value of the next.

@@ -116,6 +116,51 @@ fn compared<const N: usize, const M: usize>(
 }
 
 #[test]
+fn a_step_is_counted_whether_the_keys_are_equal_or_not(rt: HostRuntime) {
+    let mut steps = Steps::new();
+    assert!(rt; steps.same(&1, &1));
+    assert!(rt; !steps.same(&1, &2));
+    assert!(rt; steps.count() == 2);
+}
+
+// A look-up that is counted if the counter has room for it.
+fn looked_up_if_counted<'a>(
+    map: &'a Map<u8, u8, 3>,
+    key: u8,
+    steps: &mut Steps,
+) -> Option<Option<&'a u8>> {
+    if steps.count() <= u128::MAX - 3 && map.len() <= 3 {
+        Some(map.get_counted(&key, steps))
+    } else {
+        None
+    }
+}
+
+#[test]
+fn a_caller_tests_that_a_look_up_can_be_counted(rt: HostRuntime) {
+    let map = Map::from([(1, 10), (2, 20), (3, 30)]);
+    let mut steps = Steps::new();
+    assert!(rt; looked_up_if_counted(&map, 2, &mut steps) == Some(Some(&20)));
+    assert!(rt; looked_up_if_counted(&map, 4, &mut steps) == Some(None));
+    assert!(rt; steps.count() == 5);
+}
+
+// An empty map, if the capacity that is asked for is its own.
+fn with_capacity<const N: usize>(capacity: usize) -> Option<Map<u8, u8, N>> {
+    if capacity == N {
+        Some(Map::with_capacity(capacity))
+    } else {
+        None
+    }
+}
+
+#[test]
+fn a_caller_tests_the_capacity(rt: HostRuntime) {
+    assert!(rt; with_capacity::<3>(3).is_some_and(|map| map.is_empty()));
+    assert!(rt; with_capacity::<3>(4).is_none());
+}
+
+#[test]
 fn a_look_up_stops_at_its_key(rt: HostRuntime) {
     let empty: Map<u8, u8, 4> = Map::new();
     assert!(rt; looked_up(&empty, 5) == (None, 0));

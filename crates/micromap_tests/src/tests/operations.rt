@@ -164,6 +164,25 @@ fn hints_on_the_way(rt: HostRuntime) {
 }
 
 #[test]
+fn a_clone_has_the_members_left(rt: HostRuntime) -> Result<(), AllocError> {
+    let first = Set::from([1, 2, 3, 4]);
+    let second = Set::from([3, 4, 5, 6]);
+    let mut difference = first.difference(&second);
+    assert!(rt; difference.next() == Some(&1));
+    assert!(rt; difference.clone()?.eq(&[2]) && difference.eq(&[2]));
+    let mut intersection = first.intersection(&second);
+    assert!(rt; intersection.next() == Some(&3));
+    assert!(rt; intersection.clone()?.eq(&[4]) && intersection.eq(&[4]));
+    let mut union = first.union(&second);
+    assert!(rt; union.next() == Some(&3));
+    assert!(rt; union.clone()?.eq(&[4, 5, 6, 1, 2]) && union.eq(&[4, 5, 6, 1, 2]));
+    let mut either = first.symmetric_difference(&second);
+    assert!(rt; either.next() == Some(&1));
+    assert!(rt; either.clone()?.eq(&[2, 5, 6]) && either.eq(&[2, 5, 6]));
+    Ok(())
+}
+
+#[test]
 fn references_by_what_they_point_to(rt: HostRuntime) -> Result<(), AllocError> {
     let [one, two, three, again] = &[1, 2, 3, 3];
     let a = Set::from([one, two, three]);

@@ -1,4 +1,4 @@
-use Rattle.micromap.proofs.SetStreamLemmas.{items_read}
+use Rattle.micromap.proofs.Laws.SetStreamLaws.{items_read}
 use Rattle.micromap_tests.proofs.tests.streams.items_of.Goals as goal
 
 pub returns-in-Ok : goal.returns-in-Ok
