@@ -6,7 +6,6 @@ use Rattle.std.proofs.Math.Seq.{take-append_seam}
 use Rattle.std.proofs.lemmas.Cmp.{nat_eq_equiv}
 use Rattle.std.proofs.lemmas.Grind.{common_steps}
 use Rattle.std.proofs.lemmas.List.{take-append-le}
-use Rattle.std.proofs.lemmas.Map.Entries.{lookup_from_place}
 use Rattle.std.proofs.lemmas.Map.Made.{is_some-lookup}
 use Rattle.std.proofs.lemmas.Map.Steps.{length-le_from_keys}
 use Rattle.std.proofs.lemmas.Option.{none-some}
@@ -16,41 +15,14 @@ use Rattle.std.specs.Option.{option_map, option_map_or}
 use Rattle.std.specs.Set.{is_member}
 use Rattle.std.proofs.lemmas.Bool.{false≢true}
 use Rattle.micromap.specs.Items.{put_item, item_fits, IsItems}
-use Rattle.micromap.specs.Pairs.{at, has, IsContent, IsUnique}
+use Rattle.micromap.specs.Pairs.{at, has, pair, IsContent, IsUnique}
+use Rattle.micromap.proofs.Laws.ChainLaws.{at_find, find_passes, member_passes, none_fails, none_passes}
 use Rattle.micromap.proofs.Laws.Equalities.{lawful_nat}
+use Rattle.micromap.proofs.Laws.MapLaws.{at_pair, pair_key}
 use Rattle.micromap.proofs.Laws.SetLaws.{each_difference, is_member_put_item, length_put_item, unique_put_item}
 use Rattle.micromap_examples.specs.Order.{is_blocked, is_ready, is_next, IsOrdered, needs, is_affected, is_next_affected, is_touched}
 use Rattle.micromap_examples.specs.Order.{DependsOn, IsChain}
 use Rattle.micromap_examples.proofs.ReachLemmas.{either_way}
-
--- the first element that passes a test is one of the list, and passes it
-pub found_place : {X : Type 0} (test : X → Bool) (xs : List X) (x : X) → find test xs ≡ Some x
-    → (i : ℕ) × (slice_get xs i ≡ Some x)
-found_place test [] x found = absurd (none-some x found)
-found_place test (y ∷ xs) x found =
-    either_way (test y) (λ passes. (0, grind (arith, found, passes)))
-    (λ fails. let rest = found_place test xs x (grind (arith, found, fails)) in
-    (suc rest.0, rest.1))
-
-pub found_passes : {X : Type 0} (test : X → Bool) (xs : List X) (x : X) → find test xs ≡ Some x
-    → test x ≡ true
-found_passes test [] x found = absurd (none-some x found)
-found_passes test (y ∷ xs) x found = grind (arith, found, found_passes test xs x)
-
--- the first pair that passes a test is what its key finds
-pub at_found : (test : ℕ × List ℕ → Bool) (plan : List (ℕ × List ℕ)) (p : ℕ × List ℕ)
-    → IsUnique nat_eq plan
-    → find test plan ≡ Some p → at nat_eq plan p.0 ≡ Some p.1
-at_found test plan p unique found =
-    let place = found_place test plan p found in
-    lookup_from_place nat_eq_equiv plan place.0 p.0 p.1 unique place.1
-
--- where no pair passes a test, none that a key finds does
-pub none_found : (test : ℕ × List ℕ → Bool) (plan : List (ℕ × List ℕ)) (target : ℕ) (needs : List ℕ)
-    → find test plan ≡ None → at nat_eq plan target ≡ Some needs → test (target, needs) ≡ false
-none_found test [] target needs none here = grind (arith, here)
-none_found test (q ∷ plan) target needs none here =
-    grind (arith, common_steps, none, here, none_found test plan target needs)
 
 -- an element of a list with one more behind it is one of the list, or that one
 last_or_before : (xs : List ℕ) (x i y : ℕ) → slice_get (xs ++ x ∷ []) i ≡ Some y
@@ -81,18 +53,11 @@ pub IsOrdered-append : (plan : List (ℕ × List ℕ)) (order : List ℕ) (targe
 IsOrdered-append plan order target ordered ready i x here =
     ordered_at plan order target i x ordered ready (last_or_before order target i x here)
 
--- what is among some items is among those that have them all
-within : (xs ys : List ℕ) (x : ℕ) → is_member nat_eq xs x ≡ true
-    → list_all (is_member nat_eq ys) xs ≡ true
-    → is_member nat_eq ys x ≡ true
-within [] ys x there all = grind (arith, there)
-within (y ∷ xs) ys x there all = grind (arith, common_steps, there, all, within xs ys x)
-
 all_within : (needs xs ys : List ℕ) → list_all (is_member nat_eq xs) needs ≡ true
     → list_all (is_member nat_eq ys) xs ≡ true → list_all (is_member nat_eq ys) needs ≡ true
 all_within [] xs ys there all = refl
 all_within (x ∷ needs) xs ys there all =
-    grind (arith, there, all, within xs ys x, all_within needs xs ys)
+    grind (arith, there, all, (member_passes (is_member nat_eq ys) xs).1 x, all_within needs xs ys)
 
 needs_within : (needs : Option (List ℕ)) (xs ys : List ℕ) → list_all (is_member nat_eq ys) xs ≡ true
     → option_map_or (list_all (is_member nat_eq xs)) needs false ≡ true
@@ -146,23 +111,20 @@ pub is_ready-has : (plan : List (ℕ × List ℕ)) (built : List ℕ) (target : 
     → has nat_eq plan target ≡ true
 is_ready-has plan built target ready = grind (arith, ready)
 
-found_at : (test : ℕ × List ℕ → Bool) (o : Option (ℕ × List ℕ)) (plan : List (ℕ × List ℕ))
-    (target : ℕ)
-    → IsUnique nat_eq plan → find test plan ≡ o → option_map (λ p. p.0) o ≡ Some target
-    → (needs : List ℕ) × (at nat_eq plan target ≡ Some needs) × (test (target, needs) ≡ true)
-found_at test None plan target unique found next = absurd (none-some target next)
-found_at test (Some p) plan target unique found next =
-    let here = at_found test plan p unique found in
-    let passes = found_passes test plan p found in
-    (p.1, grind (arith, here, next), grind (arith, passes, next))
-
 -- the key of the first pair that passes a test finds a value with which it passes
 pub key_found : (test : ℕ × List ℕ → Bool) (plan : List (ℕ × List ℕ)) (target : ℕ)
     → IsUnique nat_eq plan
     → Some target ≡ option_map (λ p. p.0) (find test plan)
     → (needs : List ℕ) × (at nat_eq plan target ≡ Some needs) × (test (target, needs) ≡ true)
-key_found test plan target unique next =
-    found_at test (find test plan) plan target unique refl (sym next)
+key_found test plan target unique next = by (find test plan) refl (sym next)
+  where
+    by : (o : Option (ℕ × List ℕ)) → find test plan ≡ o → option_map (λ p. p.0) o ≡ Some target
+        → (needs : List ℕ) × (at nat_eq plan target ≡ Some needs) × (test (target, needs) ≡ true)
+    by None found is = absurd (none-some target is)
+    by (Some p) found is =
+        let here = (at_find test nat_eq plan lawful_nat unique).1 p found in
+        let passes = (find_passes test plan).1 p found in
+        (p.1, grind (arith, here, is), grind (arith, passes, is))
 
 none_mapped : (o : Option (ℕ × List ℕ)) → option_map (λ p. p.0) o ≡ None → o ≡ None
 none_mapped None none = refl
@@ -173,8 +135,15 @@ pub none_at_key : (test : ℕ × List ℕ → Bool) (plan : List (ℕ × List �
     (needs : List ℕ)
     → option_map (λ p. p.0) (find test plan) ≡ None → at nat_eq plan target ≡ Some needs
     → test (target, needs) ≡ false
-none_at_key test plan target needs none =
-    none_found test plan target needs (none_mapped (find test plan) none)
+none_at_key test plan target needs none here = by (pair nat_eq plan target) refl
+  where
+    by : (o : Option (ℕ × List ℕ)) → pair nat_eq plan target ≡ o → test (target, needs) ≡ false
+    by None stored = let value = at_pair nat_eq plan target in grind (arith, here, stored, value)
+    by (Some p) stored =
+        let fails = (none_passes test plan).1 (none_mapped (find test plan) none) (nat_eq target) p stored in
+        let value = at_pair nat_eq plan target in
+        let key = pair_key nat_eq plan target p stored in
+        grind (arith, common_steps, fails, value, here, stored, key)
 
 -- the next target is ready, and isn't built
 pub next_is_ready : (plan : List (ℕ × List ℕ)) (built : List ℕ) (target : ℕ) → IsUnique nat_eq plan
@@ -242,16 +211,11 @@ all_kept_pass test keep (x ∷ xs) each =
     let here : keep x ≡ true → test x ≡ true = each x (grind (arith, common_steps)) in
     grind (arith, here, rest)
 
-any_fails : (test : ℕ → Bool) (xs : List ℕ) → list_all test xs ≡ false
-    → list_any (λ x. not (test x)) xs ≡ true
-any_fails test [] fails = sym fails
-any_fails test (x ∷ xs) fails = grind (arith, fails, any_fails test xs)
-
 blocked_at : (needs : Option (List ℕ)) (built : List ℕ) → is_some needs ≡ true
     → option_map_or (list_all (is_member nat_eq built)) needs false ≡ false
     → option_map_or (list_any (λ need. not (is_member nat_eq built need))) needs false ≡ true
 blocked_at None built here fails = here
-blocked_at (Some needs) built here fails = any_fails (is_member nat_eq built) needs fails
+blocked_at (Some needs) built here fails = grind (arith, fails, (none_fails (is_member nat_eq built) needs).1)
 
 -- if all that is ready is built, what isn't built is blocked
 pub left_blocked : (plan : List (ℕ × List ℕ)) (built : List ℕ)

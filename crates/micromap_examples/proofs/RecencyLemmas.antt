@@ -10,7 +10,8 @@ use Rattle.std.specs.List.{IsDistinct}
 use Rattle.std.proofs.lemmas.Bool.{cases_Bool, cases_lt}
 use Rattle.std.proofs.lemmas.List.{append-nil, drop_all, take_more}
 use Rattle.micromap.specs.Pairs.{at, fits, has, pair, put, take_out, IsContent, IsUnique}
-use Rattle.micromap.proofs.Laws.MapLaws.{at_pair, length_take_out, not_fits, put_new, put_taken_out, take_out_missing, at_alike}
+use Rattle.micromap.proofs.Laws.ChainLaws.{has_alike}
+use Rattle.micromap.proofs.Laws.MapLaws.{at_pair, length_take_out, not_fits, put_new, put_taken_out, take_out_missing}
 use Rattle.micromap.proofs.Laws.MapLaws.{has_behind, pair_key, take_out_alike}
 use Rattle.micromap.specs.Equalities.{Lawful}
 use Rattle.micromap.proofs.Laws.Equalities.{of_lawful}
@@ -74,13 +75,10 @@ module _ {K V : Type 0} (eq : K → K → Bool) (laws : Lawful eq) where
   missing : (xs : List (K × V)) (k : K) → has eq xs k ≡ false → at eq xs k ≡ None
   missing xs k none = grind (arith, none)
 
-  has_alike : (pairs : List (K × V)) (q k : K) → eq q k ≡ true → has eq pairs q ≡ has eq pairs k
-  has_alike pairs q k same = ap is_some (at_alike eq q k pairs laws same)
-
   -- a key was used if there is a last use of it
   has_last : (xs : List (K × V)) (k : K) → has eq (last_uses eq xs) k ≡ has eq xs k
   has_last [] k = refl
-  has_last (p ∷ xs) k = grind (arith, has_last xs k, has_alike xs p.0 k, (of_lawful eq laws).symm k p.0)
+  has_last (p ∷ xs) k = grind (arith, has_last xs k, has_alike eq p.0 k xs laws, (of_lawful eq laws).symm k p.0)
 
   has_push : (xs : List (K × V)) (p : K × V) (k : K) → has eq (xs ++ p ∷ []) k ≡ (eq k p.0 || has eq xs k)
   has_push [] p k = grind arith
@@ -91,7 +89,7 @@ module _ {K V : Type 0} (eq : K → K → Bool) (laws : Lawful eq) where
   unfolding take_out
   last_uses_push [] p = refl
   last_uses_push (e ∷ xs) p =
-      grind (arith, last_uses_push xs p, has_push xs p e.0, (of_lawful eq laws).symm p.0 e.0, has_alike xs p.0 e.0, has_last xs p.0, take_out_missing eq (last_uses eq xs) p.0)
+      grind (arith, last_uses_push xs p, has_push xs p e.0, (of_lawful eq laws).symm p.0 e.0, has_alike eq p.0 e.0 xs laws, has_last xs p.0, take_out_missing eq (last_uses eq xs) p.0)
 
   -- no key is equal to one behind it
   abbrev Apart : List (K × V) → Type 0
@@ -122,7 +120,7 @@ module _ {K V : Type 0} (eq : K → K → Bool) (laws : Lawful eq) where
   newest_push N (e ∷ xs) k p apart = elim (cases_lt (length xs) N) [
     | inl below ↦ rw (newest_all N (e ∷ xs) (omega (arith, below))) refl
     | inr above ↦ rw (newest_more N e xs above) (newest_push N xs k p apart.1 ∙ elim (cases_Bool (eq k e.0)) [
-      | inl same ↦ rw same (ap (λ l. newest N (l ++ p ∷ [])) (take_out_missing eq xs k (missing xs k (has_alike xs k e.0 same ∙ apart.0))))
+      | inl same ↦ rw same (ap (λ l. newest N (l ++ p ∷ [])) (take_out_missing eq xs k (missing xs k (has_alike eq k e.0 xs laws same ∙ apart.0))))
       | inr other ↦ rw other (sym (newest_more N e (take_out eq xs k ++ p ∷ []) (grind (arith, above, length_take_out eq xs k, length-append (take_out eq xs k) (p ∷ [])))))
     ])
   ]

@@ -3,6 +3,7 @@
 
 pub mod any_capacity;
 pub mod balances;
+pub mod basics;
 pub mod change;
 pub mod count;
 pub mod find;

@@ -1,15 +1,15 @@
 //! Texts as keys, items or values: owned ones (`TextBuf`, `String`), borrowed ones (`&str`), JSON and printing.
 #![tactic(auto, using(micromap::proofs::Rules::caller))]
 
-ghost use Rattle.std.specs.Prelude.{◌≡◌, ◌↔◌, ◌+◌, ◌-◌, ◌<◌, ◌^◌, [], ℕ, ℤ, IfErr, IfOk, IsFalse, IsNone, List, None, Ok, OnErr, Some, filter, fold, length, map, min, not, string_bytes, unwrap_or};
+ghost use Rattle.std.specs.Prelude.{◌≡◌, ◌↔◌, ◌+◌, ◌-◌, ◌<◌, ◌^◌, [], ℕ, ℤ, IfErr, IfOk, IsFalse, IsNone, List, None, Ok, OnErr, Some, drop, filter, fold, length, map, min, not, string_bytes, unwrap_or};
 ghost use Rattle.std.proofs.lemmas.Cmp.{nat_list_eq_equiv};
 ghost use Rattle.std.specs.Bool.{OnTrue};
 ghost use Rattle.std.specs.Borrow.{Bor};
 ghost use Rattle.std.specs.Fmt.{decimal};
 ghost use Rattle.std.specs.Iterator.{Drains};
-ghost use Rattle.std.specs.List.{find, list_all};
+ghost use Rattle.std.specs.List.{find, list_all, slice_get};
 ghost use Rattle.std.specs.Map.{lookup, values_of};
-ghost use Rattle.std.specs.Option.{IfSome, is_some, option_and_then, option_copied};
+ghost use Rattle.std.specs.Option.{IfSome, is_some, option_and_then, option_copied, option_map};
 ghost use Rattle.std.specs.Ordering.{int_eq};
 ghost use Rattle.std.specs.Set.{distinct_count};
 ghost use Rattle.std.specs.Str.{bytes_eq, str_to_ascii_lowercase};
@@ -21,7 +21,7 @@ ghost use Rattle.micromap.specs.Pairs.{at, fits, has, put_if_fits, take_out};
 ghost use Rattle.micromap.specs.Print.{map_text};
 ghost use Rattle.micromap.specs.Probe.{alike, equal, is_str};
 ghost use Rattle.micromap.specs.Same.{Same};
-ghost use Rattle.micromap.specs.Texts.{key_strs, str_eq};
+ghost use Rattle.micromap.specs.Texts.{key_strs, key_texts, str_eq};
 ghost use Rattle.micromap.specs.declared.json.JsonFault.TheVariants.{Memory};
 
 use micromap::json::{JsonFault, map_from_json, map_to_json};
@@ -110,9 +110,9 @@ pub fn remove_each(ages: &mut Map<TextBuf, u8, 16>, names: &[&str])
 
 /// Counts a `&str` key, up to the greatest number, if it fits.
 /// The kit's borrow checker doesn't cover an entry of a map with `&str` keys.
-pub fn count_word<'a>(counts: &mut Map<&'a str, u32, 64>, word: &'a str) -> bool
-    ensures answer { result ≡ fits str_eq 64 counts.old word.entry }
-    ensures counts { counts.new ≡ put_if_fits str_eq 64 counts.old word.entry (min (unwrap_or (at str_eq counts.old word.entry) 0 + 1) (2 ^ 32 - 1)) }
+pub fn count_word<'a>(counts: &mut Map<&'a str, u32, 8>, word: &'a str) -> bool
+    ensures answer { result ≡ fits str_eq 8 counts.old word.entry }
+    ensures counts { counts.new ≡ put_if_fits str_eq 8 counts.old word.entry (min (unwrap_or (at str_eq counts.old word.entry) 0 + 1) (2 ^ 32 - 1)) }
 {
     match counts.get_mut(&word) {
         Some(count) => {
@@ -182,6 +182,33 @@ pub fn drop_named(settings: &mut Map<String, String, 32>, names: &[&str])
             ensures same { value.new ≡ value.old }
         { names.iter().all(|name| *name != key.as_str()) },
     );
+}
+
+/// Numbers by name, which can be cloned.
+/// A map with `String` keys hasn't the trait `Clone`, so this impl isn't derived.
+#[derive(Drop)]
+pub struct Layer {
+    /// The numbers by name.
+    pub numbers: Map<String, i64, 16>,
+}
+
+/// The clone has the same names, by their bytes, with the same numbers, in the same order.
+impl Clone for Layer {
+    ghost is_clone = { λ layer new. key_texts new.numbers ≡ key_texts layer.numbers };
+
+    fn clone(&self) -> Result<Layer, AllocError> {
+        let numbers = self.numbers.clone()?;
+        Ok(Layer { numbers })
+    }
+}
+
+/// Removes the first of the `String` keys, as of a queue, and returns its value.
+pub fn next_number(numbers: &mut Map<String, i64, 16>) -> Option<i64>
+    ensures number { result ≡ option_map (λ p. p.1) (slice_get (key_texts numbers.old) 0) }
+    ensures rest { key_texts numbers.new ≡ drop 1 (key_texts numbers.old) }
+{
+    let (_, number) = numbers.pop_first()?;
+    Some(number)
 }
 
 /// Reads a map with owned texts as keys from JSON, or says what is wrong with it.
