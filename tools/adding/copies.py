@@ -8,8 +8,9 @@ import subprocess
 from pages.sources import LIBRARY
 
 TOP = os.path.dirname(os.path.dirname(os.path.dirname(os.path.realpath(__file__))))
-PROGRAM = "micromap_first"  # the crate whose files CRATE gets
+PROGRAMS = ("micromap_first", "micromap_contract")  # the crates whose files CRATE gets: without a contract, and with one
 ORIGIN, LICENSE, LIST, IGNORED = "crates/micromap/ORIGIN", "crates/micromap/LICENSE", "crates.txt", ".gitignore"
+TASKS = "crates/micromap/TASKS.md"
 
 
 class Refused(Exception):
@@ -35,7 +36,7 @@ def sum_of(content):
     return hashlib.sha256(content).hexdigest()
 
 
-def files_of(top, crate, left_out=("must-fail", "claims", "out")):
+def files_of(top, crate, left_out=("must-fail", "wrong-bodies", "out")):
     """The paths of a crate's files from a repository's top, but for hidden ones and those in some of its folders."""
     folder = f"{top}/crates/{crate}"
     for at, folders, names in os.walk(folder):
@@ -46,13 +47,19 @@ def files_of(top, crate, left_out=("must-fail", "claims", "out")):
 def library():
     """The files of the copy, with their content."""
     files = {path: read(f"{TOP}/{path}") for crate in LIBRARY for path in files_of(TOP, crate)}
-    return files | {LICENSE: read(f"{TOP}/LICENSE")}
+    return files | {TASKS: without_links(text_of(f"{TOP}/{TASKS}")).encode(), LICENSE: read(f"{TOP}/LICENSE")}
 
 
-def program_as(crate):
-    """The files of the first program by their paths in a crate of this name, with their content."""
-    start = f"crates/{PROGRAM}/"
-    return {it.replace(start, f"crates/{crate}/", 1): read(f"{TOP}/{it}") for it in files_of(TOP, PROGRAM)}
+def without_links(text):
+    """A document without its links to the files of crates that aren't copied, whose names stay."""
+    copied = "|".join(LIBRARY)
+    return re.sub(rf"\[(`\w+`)\]\(\.\./(?!(?:{copied})/)[^)]*\)", r"\1", text)
+
+
+def program_as(crate, program=PROGRAMS[0]):
+    """The files of a first program by their paths in a crate of this name, with their content."""
+    start = f"crates/{program}/"
+    return {it.replace(start, f"crates/{crate}/", 1): read(f"{TOP}/{it}") for it in files_of(TOP, program)}
 
 
 def row_name(line):
@@ -68,7 +75,7 @@ def rows_of(top):
 
 def rows_for(crate):
     own = rows_of(TOP)
-    return {it: own[it] for it in LIBRARY} | ({crate: own[PROGRAM].replace(PROGRAM, crate, 1)} if crate else {})
+    return {it: own[it] for it in LIBRARY} | ({crate: own[PROGRAMS[0]].replace(PROGRAMS[0], crate, 1)} if crate else {})
 
 
 def with_rows(listed, rows):

@@ -1,26 +1,29 @@
-"""The callers of `micromap_uses`, as TASKS.md lists them, and what a crate gets that one of them is copied into."""
+"""The callers of the two crates of the gallery, as TASKS.md lists them, and what a crate gets that one is copied into."""
 import difflib
 import os
 import re
 from pathlib import Path
 
-from adding.copies import LIST, TOP, Refused, rows_of, text_of, with_rows
-from pages.sources import blocks, doc_of
+from adding.copies import LIST, TASKS, TOP, Refused, rows_of, text_of, with_rows
+from pages.sources import blocks, doc_of, head_of, line_of, name_of, needed, with_module
 
-TASKS, GALLERY = "crates/micromap/TASKS.md", "micromap_uses"
-
-
-def items_of(file):
-    return [*blocks(text_of(f"{TOP}/crates/{GALLERY}/src/{file}.rt"))]
+GALLERY = ("micromap_uses", "micromap_tasks")  # no two files of them have the same name
+LINK = r"\[`(\w+)`\]\(\.\./((\w+)/src/([\w/]+)\.rt)(?:#L\d+)?\)"  # of a row: name, path, crate and file
+ROW = re.compile(rf"(.+) \| {LINK} \| (.+)$", re.M)
 
 
 def files():
-    return sorted({it.stem for it in Path(f"{TOP}/crates/{GALLERY}/src").iterdir()} - {"lib"})
+    """The crate of each file of the gallery."""
+    paths = (it for crate in GALLERY for it in sorted(Path(f"{TOP}/crates/{crate}/src").iterdir()) if it.stem != "lib")
+    return {it.stem: it.parent.parent.name for it in paths}
 
 
-def name_of(item):
-    """The name of a function or a type; of an impl that of its type."""
-    return re.match(r"(?:pub )?(?:impl(?:<.*?>)? (?:.* for )?|(?:const )?\w+ )(\w+)", item.code)[1]
+def source_of(file):
+    return text_of(f"{TOP}/crates/{files()[file]}/src/{file}.rt")
+
+
+def items_of(file):
+    return [*blocks(source_of(file))]
 
 
 def examples():
@@ -30,100 +33,67 @@ def examples():
 
 
 def tasks_of(text):
-    """The functions of the tables, each with the file that is named last before it, and its task."""
-    file = ""
-    for line in text.split("\n"):
-        heading, row = re.match(r"## .*`(\w+)\.rt`$", line), re.match(r"(.+) \| `(\w+)`$", line)
-        file = heading[1] if heading else file
-        if row:
-            yield row[2], file, row[1]
+    """The functions of the tables that are in the gallery, each with its file and its task."""
+    return [(name, file, task) for task, name, _, crate, file, _ in ROW.findall(text) if crate in GALLERY]
 
 
 def by_hand(text, word):
     """The rows with this word whose functions are in a larger example."""
-    rows = re.findall(r"(.+) \| `(\w+)`, in `(.+)`$", text, re.M)
-    return [f"{name} of {path}, which is copied by hand" for task, name, path in rows if word.lower() in task.lower()]
+    rows = (it for it in ROW.findall(text) if it[3] not in GALLERY and word.lower() in it[0].lower())
+    return [f"{name} of {path}, which is copied by hand" for _, name, path, *_ in rows]
+
+
+def with_lines(text):
+    """TASKS.md, where the link of each row leads to the line at which its function or type begins."""
+
+    def renewed(link):
+        line = line_of(text_of(f"{TOP}/crates/{link[2]}"), link[1])
+        return f"[`{link[1]}`](../{link[2]}{f'#L{line}' if line else ''})"
+
+    return re.sub(LINK, renewed, text)
+
+
+def bare(code):
+    """A text of code without what its layout may change."""
+    return re.sub(r"\s|,(?=\s*[)}\]])", "", code)
+
+
+def wrong_of_rows(text):
+    """The rows of TASKS.md whose function or type isn't in its file, or hasn't the code that the row shows first."""
+    for _, name, path, crate, file, shown in ROW.findall(text):
+        source = text_of(f"{TOP}/crates/{path}")
+        own = "\n".join(it.code for it in needed(name, items_of(file))) if crate in GALLERY else source
+        code = re.match(r"`([^`]+)`", shown)
+        if not line_of(source, name):
+            yield f"{TASKS}: {path} has no {name}"
+        elif not code or bare(code[1].replace("\\|", "|")) not in bare(own):
+            yield f"{TASKS}: the row of {name} shows code that {path} doesn't have there: {shown}"
 
 
 def wrong_of_tasks():
     """What is amiss in TASKS.md, and in the comments of the gallery."""
-    named, own = {it[:2] for it in tasks_of(text_of(f"{TOP}/{TASKS}"))}, {*examples().items()}
-    for file in files():
-        bare = (it for it in items_of(file) if re.match("pub (?:fn|struct) ", it.code) and not doc_of(it.above))
-        yield from (f"{GALLERY}/src/{file}.rt: {name_of(it)} has no comment that says its task" for it in bare)
-    yield from (f"{TASKS}: {GALLERY}/src/{file}.rt has no {name}" for name, file in sorted(named - own))
+    text = text_of(f"{TOP}/{TASKS}")
+    named, own = {it[:2] for it in tasks_of(text)}, {*examples().items()}
+    for file, crate in files().items():
+        silent = (it for it in items_of(file) if re.match("pub (?:fn|struct) ", it.code) and not doc_of(it.above))
+        yield from (f"{crate}/src/{file}.rt: {name_of(it)} has no comment that says its task" for it in silent)
+    yield from wrong_of_rows(text)
     yield from (f"{TASKS} has no row of {name} of {file}.rt" for name, file in sorted(own - named))
 
 
-def needed(name, items):
-    """The items of a name, with the functions that they call and the types that they name, and so on, in order."""
-    taken, left = [], [it for it in items if name_of(it) == name]
-    while left:
-        taken.append(left.pop())
-        code = re.sub(r"^ *(?:pub )?fn \w+", "", taken[-1].code, flags=re.M)
-        calls = {*re.findall(r"(?<![\w.:])(\w+)(?:::<[^;]*?>)?\(", code)}
-        words = calls | {it for it in re.findall(r"\w+", code) if not it.islower()}
-        left += [it for it in items if it not in taken + left and name_of(it) in words]
-    return sorted(taken, key=items.index)
-
-
-def clauses_of(code):
-    """The lines of an item that are antt: clauses, ghost members and lines `ghost use`."""
-    found = re.finditer(r"^( *)(?:requires|ensures|ghost)\b.*(?:\n\1 .*)*", code, re.M)
-    return "\n".join(re.sub(r"^ *ensures\*? \w+", "", it[0]) for it in found)
-
-
-def is_named(word, text):
-    """Whether a text has a word, or the signs of an operator, which stand in the place of the gaps `◌`."""
-    signs = [it for it in word.split("◌") if it]
-    if "◌" in word:
-        return all(it in re.split(r"[\s()]+", text) for it in signs)
-    return bool(re.search(rf"(?<!\w){re.escape(word)}(?!\w)", text))
-
-
-def head_of(file, items):
-    """The line `tactic` of a file, and those of its imports that some items name."""
-    code, lines = "\n".join(it.code for it in items), []
-    for line in text_of(f"{TOP}/crates/{GALLERY}/src/{file}.rt").split("\n"):
-        found = re.fullmatch(r"((?:ghost )?use .*(?:\.|::))(?:\{(.*)\}|(\w+));", line)
-        if not found:
-            lines += [line] if re.match(r"#!\[|$", line) else []
-        else:
-            text = clauses_of(code) if line.startswith("ghost") else code
-            names = [it for it in (found[2] or found[3]).split(", ") if is_named(it, text)]
-            listed = names[0] if len(names) == 1 and not line.startswith("ghost") else f"{{{', '.join(names)}}}"
-            lines += [f"{found[1]}{listed};"] if names else []
-    return re.sub(r"\n{3,}", "\n\n", "\n".join(lines)).strip()
-
-
-def own_files(texts):
-    """The files of specs/, and of laws in proofs/, that some texts of the gallery name, and those that these name."""
-    named = re.findall(rf"(?:Rattle\.{GALLERY}\.|\bcrate::)(specs|proofs)(?:\.|::)([A-Z]\w*)(?:\.\{{|::)", "\n".join(texts))
-    found = {it: text_of(f"{TOP}/crates/{GALLERY}/{it}") for it in (f"{folder}/{name}.antt" for folder, name in named)}
-    return found | own_files(found.values()) if found else {}
+def own_files(gallery, texts):
+    """The files of specs/, and of laws in proofs/, that some texts of a gallery's crate name, and those that these name."""
+    named = re.findall(rf"(?:Rattle\.{gallery}\.|\bcrate::)(specs|proofs)(?:\.|::)([A-Z]\w*)(?:\.\{{|::)", "\n".join(texts))
+    found = {it: text_of(f"{TOP}/crates/{gallery}/{it}") for it in (f"{folder}/{name}.antt" for folder, name in named)}
+    return found | own_files(gallery, found.values()) if found else {}
 
 
 def proofs_of(file, items):
     """The proof files of some items and of their methods, by their paths in the crate."""
-    crate = Path(f"{TOP}/crates/{GALLERY}")
+    crate = Path(f"{TOP}/crates/{files()[file]}")
     names = {name for it in items for name in re.findall(r"^ *(?:pub )?fn (\w+)", it.code, re.M)}
     own = sorted(it for it in crate.glob(f"proofs/{file}/**/*.antt") if it.parent.name.lstrip("+") in names)
     return {str(it.relative_to(crate)): it.read_text() for it in own}
-
-
-def with_module(text, line):
-    """A source with a line `mod`, in order among those like it, or else behind its head."""
-    lines = text.split("\n")
-    alike = [n for n, it in enumerate(lines) if re.fullmatch(r"(?:pub )?mod \w+;", it)]
-    if line in lines or f"pub {line}" in lines:
-        return text
-    if alike:
-        later = (n for n in alike if lines[n].split("mod ")[1] > line.split("mod ")[1])
-        lines.insert(next(later, alike[-1] + 1), line)
-    else:
-        head = next((n for n, it in enumerate(lines) if not re.match(r"//!|#!\[", it)), len(lines))
-        lines[head:head] = ["", line]
-    return "\n".join(lines)
 
 
 def found(name):
@@ -140,13 +110,13 @@ def found(name):
 def files_for(name, crate):
     """The files of an example by their paths in a crate of this name, with the paths of that crate in them."""
     file, module = found(name), name.lower()
-    items = needed(name, items_of(file))
-    source = "\n\n".join([head_of(file, items), *(it.above + it.code for it in items)]) + "\n"
+    gallery, items = files()[file], needed(name, items_of(file))
+    source = "\n\n".join([head_of(source_of(file), items), *(it.above + it.code for it in items)]) + "\n"
     proofs = proofs_of(file, items)
-    new = {f"src/{module}.rt": source} | own_files([source, *proofs.values()])
+    new = {f"src/{module}.rt": source} | own_files(gallery, [source, *proofs.values()])
     new |= {it.replace(f"proofs/{file}/", f"proofs/{module}/", 1): text for it, text in proofs.items()}
-    moved = [(rf"Rattle\.{GALLERY}\.(proofs|specs\.contracts|specs\.declared)\.{file}\.", rf"Rattle.{crate}.\1.{module}.")]
-    for old, its in [*moved, (rf"\b{GALLERY}\b", crate), (rf"`{file}\.rt`", f"`{module}.rt`")]:
+    moved = [(rf"Rattle\.{gallery}\.(proofs|specs\.contracts|specs\.declared)\.{file}\.", rf"Rattle.{crate}.\1.{module}.")]
+    for old, its in [*moved, (rf"\b{gallery}\b", crate), (rf"`{file}\.rt`", f"`{module}.rt`")]:
         new = {it: re.sub(old, its, text) for it, text in new.items()}
     return new
 
@@ -167,6 +137,6 @@ def with_example(name, dest, crate):
     for where, its in re.findall(rf"^({folder}/(?:specs|proofs))/(\w+)\.antt$", "\n".join(new), re.M):
         lib, line = f"{where}/Lib.antt", f"pub mod {its}\n"
         text = listed.get(lib, text_of(f"{dest}/{lib}"))
-        listed[lib] = text + line * (line not in text)
+        listed[lib] = text if line in text else text + line
     row = [rows[crate], *(it for it in ("micromap", "micromap_core") if it not in rows[crate].partition(":")[2].split())]
     return new | listed | {LIST: with_rows(text_of(f"{dest}/{LIST}"), {crate: " ".join(row)})}

@@ -40,15 +40,15 @@ def shown(clause):
 def signature(function, where=()):
     """The lines of a function's signature and of its clauses."""
     head, _, own = function.head.partition(" where ")
-    where = bounds([*where, *parts(own)])
     clauses = (f"{kind} {label}".strip() + f": {text}" for kind, label, text in filter(shown, function.clauses))
-    return [head, *[f"where {where}"] * bool(where), *(f"    {it}" for it in clauses)]
+    return [head, *bounds([*where, *parts(own)]), *(f"    {it}" for it in clauses)]
 
 
 def bounds(given):
-    """Bounds without those of `Drop`."""
+    """The line `where` of bounds without those of `Drop`, if one is left."""
     kept = (re.sub(r"(?<=[:+]) Drop\b(?: \+)?|\s*\+ Drop\b", "", it) for it in given)
-    return ", ".join(it for it in kept if not it.endswith(":"))
+    left = ", ".join(it for it in kept if not it.endswith(":"))
+    return [f"where {left}"] if left else []
 
 
 def is_repeated(call):
@@ -71,7 +71,8 @@ def members(item):
     yield from (f"    {it}" for it in item.types if not is_of_sets(item))
     for docs, name, _, text in item.ghosts:
         yield from (f"    {line.strip()}" for line in docs.split("\n") if line)
-        yield from [f"    ghost {name}: {text}"] * (of_trait or name not in UNSHOWN)
+        if of_trait or name not in UNSHOWN:
+            yield f"    ghost {name}: {text}"
     for it in item.functions:
         yield from (f"    {line}" for line in said_above(it.doc) if of_trait)
         yield from (f"    {line}" for line in signature(it) if of_trait or any(map(shown, it.clauses)))
@@ -93,7 +94,7 @@ class Api:
         self.entries, self.traits = collections.defaultdict(list), collections.defaultdict(list)
         self.ends = {label: collections.defaultdict(list) for label in ENDS}
         for it in sources.items:
-            is_inner = it.path.startswith("crates/micromap_walk/") or it.path.endswith("set/walk.rt") and it.kind == "type"
+            is_inner = it.path.startswith("crates/micromap_walk/") or it.path.endswith("set/iter.rt") and it.kind == "type"
             if not is_inner and (it.kind != "impl" or self.subject(it) in sources.types):
                 self.take(it)
         self.places = dict(AT)
@@ -114,8 +115,8 @@ class Api:
         elif item.trait:
             self.take_impl(item, owner)
         elif item.kind in ("impl", "fn"):
-            is_of_some = re.match("(?:Map|Set)<(?!K, V, N>|T, N>)", item.whom)
-            where = [f"Self = {item.whom}"] * bool(is_of_some) + item.bounds
+            is_of_all = not re.match("(?:Map|Set)<(?!K, V, N>|T, N>)", item.whom)
+            where = item.bounds if is_of_all else [f"Self = {item.whom}", *item.bounds]
             for it in functions:
                 self.entries[self.sources.call(item, it)].append((it.doc, signature(it, where), item))
         else:
@@ -132,14 +133,16 @@ class Api:
         call, trait = self.sources.call(item), item.trait.partition("<")[0]
         of_trait = owner in ("K", "Map", "Set") and trait in self.sources.types
         is_alone = owner in ("Map", "Set") and call not in AT and not of_trait
-        doc = item.doc or "\n\n".join(it.doc for it in item.functions if it.doc)
-        where = bounds(item.bounds)
-        above = said_above(item.doc * (not is_alone and (trait != "PartialEq" or call not in AT)))
+        doc, above = "", []
+        if is_alone:
+            doc = item.doc or "\n\n".join(it.doc for it in item.functions if it.doc)
+        elif trait != "PartialEq" or call not in AT:
+            above = said_above(item.doc)
         head = f"impl {item.trait} for {self.sources.public(item.whom)}"
-        code = [*above, head, *[f"where {where}"] * bool(where), *members(item)]
+        code = [*above, head, *bounds(item.bounds), *members(item)]
         at = trait if of_trait else call if is_alone else AT.get(call, owner)
         if not is_repeated(call) and not (trait == "Clone" and is_of_sets(item)):
-            self.entries[at].append((doc * is_alone, code, item))
+            self.entries[at].append((doc, code, item))
 
     def type_of(self, item):
         """A type as a user sees it: its variants or its public fields, or the whole of a trait."""
@@ -170,8 +173,10 @@ class Api:
         self.wrong += [f"{API}: no source has {it}" for it in listed if it not in self.entries]
         times = {it: listed.count(it) for it in self.entries if it not in self.places}
         self.wrong += [f"{API}: {it} has {count} headings" for it, count in times.items() if count != 1]
-        inner = lambda call: (it for it, place in self.places.items() if place == call)
-        groups = {title: [at for it in names if it in self.entries for at in (it, *inner(it))] for title, names in headed.items()}
+        inner = collections.defaultdict(list)
+        for it, place in self.places.items():
+            inner[place].append(it)
+        groups = {title: [at for it in names if it in self.entries for at in (it, *inner[it])] for title, names in headed.items()}
         return {title: group for title, group in groups.items() if group}
 
     def heading(self, call):
@@ -191,7 +196,8 @@ class Api:
         stated = {it.trait.partition("<")[0] for it in self.sources.items if it.trait and self.subject(it) == name}
         stated = [f"`{it}`" for it in sorted(stated - {"Model", *self.traits[name]}) if name in ("Map", "Set")]
         if traits and not any(map(is_of_sets, items)):
-            yield f"Implements {', '.join(traits)}" + f", and with contracts {', '.join(stated)}" * bool(stated) + "."
+            more = f", and with contracts {', '.join(stated)}" if stated else ""
+            yield f"Implements {', '.join(traits)}{more}."
 
     def text(self):
         """The page, with what is written there by hand."""
@@ -200,14 +206,17 @@ class Api:
         made |= {title: self.end(label) for label, title in ENDS.items()} | {"Words": index(self.texts(), self.wrong)}
         self.wrong += [f"{API} has no section {it}" for it in made if f"\n## {it}\n" not in page]
         self.check(page)
-        filled = lambda found: "\n".join([f"## {found[1]}{found[2].rstrip()}", *made.get(found[1], ()), "", ""])
+
+        def filled(found):
+            return "\n".join([f"## {found[1]}{found[2].rstrip()}", *made.get(found[1], ()), "", ""])
+
         return re.sub(SECTION, filled, page, flags=re.M | re.S).strip() + "\n"
 
     def group(self, title, names):
         """The lines of a group."""
         shared = [it for it in names if self.places.get(it) == title]
         own = [it for it in names if it in self.entries and it not in self.places]
-        block = self.blocks(shared, shared * (title in AS_OF_MAPS)) if shared else ()
+        block = self.blocks(shared, shared if title in AS_OF_MAPS else ()) if shared else ()
         return [*block, *(line for it in own for line in self.section(it))]
 
     def row(self, title, names):
@@ -228,9 +237,12 @@ class Api:
 
     def blocks(self, names, documented=()):
         """The code of some calls in one block, with the text above it of those that are documented here, and their examples."""
-        above = lambda it: said_above("\n\n".join(self.said(it))) if it in documented else []
-        lines = lambda it: self.code(it).split("\n")[: 1 if "requires the same" in self.doc(it) else None]
-        yield from ("", "```rust", "\n\n".join("\n".join([*above(it), *lines(it)]) for it in names), "```")
+        pieces = []
+        for it in names:
+            above = said_above("\n\n".join(self.said(it))) if it in documented else []
+            lines = self.code(it).split("\n")
+            pieces.append("\n".join([*above, *(lines[:1] if "requires the same" in self.doc(it) else lines)]))
+        yield from ("", "```rust", "\n\n".join(pieces), "```")
         yield from (f"\n{it}" for name in names for it in prose(self.doc(name))[1])
 
     def said(self, name):
@@ -246,15 +258,16 @@ class Api:
     def check(self, page):
         """Adds what texts don't say: what `content` states, that a call requires something, or how often it compares."""
         content = next(it for it in prose(self.doc("Map::len"))[0] if "`content`" in it)
-        self.wrong += [f"{API} doesn't have what the text of Map::len says of `content`"] * (content not in page)
+        if content not in page:
+            self.wrong.append(f"{API} doesn't have what the text of Map::len says of `content`")
         for name in (it for it, pieces in self.entries.items() if not any(item.kind in TYPES for _, _, item in pieces)):
             doc, code, path = self.doc(name), self.code(name), self.entries[name][0][2].path
             required = [it for it in re.findall("^ *requires.*", code, re.M) if not re.search(UNSAID, it)]
             if bool(required) != bool(re.search(REQUIRES, doc)):
                 self.wrong.append(f"{path}: the text of {name} doesn't say what it requires, or says it and no clause does")
             is_keyed = re.search(r"\b(?:key|item|probe|items): ", code.split("\n")[0])
-            of_type = self.doc(name.partition("::")[0]) * ("Entry::" in name)
-            if not is_keyed and re.search(EQUALITY, re.sub(NO_SCAN, "", code)) and not re.search(COMPARES, doc + of_type):
+            said = doc + self.doc(name.partition("::")[0]) if "Entry::" in name else doc
+            if not is_keyed and re.search(EQUALITY, re.sub(NO_SCAN, "", code)) and not re.search(COMPARES, said):
                 self.wrong.append(f"{path}: nothing says how often {name} compares")
 
     def end(self, label):
@@ -269,7 +282,8 @@ class Api:
             others = [it for it in changing if it not in names]
             are_most = len(others) < len(names)
             cell = ", ".join(f"`{it}`" for it in (others if are_most else names))
-            yield f"`{text}` | {'each of a map or a set by `&mut self`, but ' * are_most}{cell}"
+            but = "each of a map or a set by `&mut self`, but " if are_most else ""
+            yield f"`{text}` | {but}{cell}"
 
     def texts(self):
         """Each piece of code, each clause and each view, with the imports of its file."""

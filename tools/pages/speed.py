@@ -2,9 +2,10 @@
 import math
 import os
 import re
-from collections import defaultdict
+from collections import defaultdict, namedtuple
+from statistics import geometric_mean
 
-from pages.chart import Levels, chart, coarse, shown
+from pages.chart import draw, drawn_of, sum_of
 from pages.sources import read
 
 # The record has where it is from, and then lines as tools/speed/main.rs prints them. The ratios are those of RIVALS.
@@ -29,20 +30,23 @@ CHOICE_WORDS = {
 }
 # The README's table has the times of one of these, at some capacities, in a row that begins with these words.
 FOUND, FOUND_CAPACITIES, FOUND_WORDS = "get, hit", [2, 4, 8, 16, 32], "Finds one of"
+# A number, and a `~` where it isn't steady.
+Ratio = namedtuple("Ratio", "number mark")
+# What was measured of a workload at a capacity: the Rust crate's nanoseconds, and the ratio of each rival's time to them.
+Cell = namedtuple("Cell", "nanoseconds ratios")
 PART = r"(^<!-- made by tools/compare: ([^\n]*) -->\n).*?(^<!-- end -->$)"
 
 
 def parsed(text):
-    """A record's or the driver's lines, as where it is from, {(subject, workload): {capacity: (nanoseconds, ratios)}} and
-    {type: {capacity: sizes}}. A ratio is a number with its mark."""
+    """A record's or the driver's lines, as where it is from, {(subject, workload): {capacity: cell}} and {type: {capacity: sizes}}."""
     source, times, sizes = "", defaultdict(dict), defaultdict(dict)
     for kind, *words in (line.split("\t") for line in text.splitlines()):
         if kind == "source":
             source = words[0]
         elif kind == "time":
             subject, workload, capacity, nanoseconds, *ratios = words
-            marked = [(float(it.rstrip("~")), "~" * it.endswith("~")) for it in ratios]
-            times[subject, workload][int(capacity)] = float(nanoseconds), marked
+            marked = [Ratio(float(it.rstrip("~")), "~" if it.endswith("~") else "") for it in ratios]
+            times[subject, workload][int(capacity)] = Cell(float(nanoseconds), marked)
         elif kind == "size":
             sizes[words[0]][int(words[1])] = int(words[2]), int(words[3])
     return source, times, sizes
@@ -57,30 +61,40 @@ def record(source, times, sizes):
     return "".join("\t".join(map(str, it)) + "\n" for it in lines)
 
 
+def shown(ratio):
+    return f"{ratio.number:.2f}{ratio.mark}"
+
+
+def coarse(ratio):
+    """A ratio to about two digits."""
+    digits = 2 if ratio.number < 1 else 1 if ratio.number < 10 else 0
+    return f"{ratio.number:.{digits}f}{ratio.mark}"
+
+
 def mean(ratios):
     """The geometric mean, marked if one of them is."""
-    numbers, marks = zip(*ratios)
-    return math.exp(sum(map(math.log, numbers)) / len(numbers)), max(marks)
+    return Ratio(geometric_mean(it.number for it in ratios), max(it.mark for it in ratios))
 
 
 def averaged(runs):
     """The geometric means of several runs' figures."""
-    def cell(cells):
-        nanoseconds, ratios = zip(*cells)
-        return mean([(it, "") for it in nanoseconds])[0], [mean(it) for it in zip(*ratios)]
-
-    return {key: {at: cell([run[key][at] for run in runs]) for at in cells} for key, cells in runs[0].items()}
+    times = defaultdict(dict)
+    for key, at in ((key, at) for key, cells in runs[0].items() for at in cells):
+        cells = [run[key][at] for run in runs]
+        ratios = [mean(it) for it in zip(*(cell.ratios for cell in cells))]
+        times[key][at] = Cell(geometric_mean(it.nanoseconds for it in cells), ratios)
+    return times
 
 
 def ratios_of(cells, rival):
     """A rival's ratios at each capacity; none where it doesn't take part."""
-    return [ratios[rival] for _, ratios in cells.values() if rival < len(ratios)]
+    return [it.ratios[rival] for it in cells.values() if rival < len(it.ratios)]
 
 
 def over(cells, rival, other):
     """A rival's ratios over another one's."""
     both = zip(ratios_of(cells, rival), ratios_of(cells, other))
-    return [(first[0] / second[0], max(first[1], second[1])) for first, second in both]
+    return [Ratio(first.number / second.number, max(first.mark, second.mark)) for first, second in both]
 
 
 def brief(nanoseconds):
@@ -112,7 +126,7 @@ def choice_table(times):
     lines = heading("", (it for name in names for it in (f"{name} at {first}", *others)))
     for workload, words in CHOICE_WORDS.items():
         cells = times["numbers", workload]
-        own = (brief(cells[at][0] * cells[at][1][0][0]) for at in CHOICE_CAPACITIES)
+        own = (brief(cells[at].nanoseconds * cells[at].ratios[0].number) for at in CHOICE_CAPACITIES)
         others = (dict(zip(cells, over(cells, rival, 0))) for rival in CHOICES)
         lines.append(row([words, *own, *(coarse(it[at]) for it in others for at in CHOICE_CAPACITIES)]))
     return lines
@@ -139,7 +153,7 @@ def over_layout(cells):
 
 def mean_of_all(times, of):
     """The mean of some ratios over all workloads."""
-    return f"{mean([one for cells in times.values() for one in of(cells)])[0]:.2f}"
+    return shown(mean([one for cells in times.values() for one in of(cells)]))
 
 
 def summary(source, times):
@@ -148,7 +162,7 @@ def summary(source, times):
     took, wins = f"this library takes {mean_of_all(times, own_of)} times that crate's time", []
     yield f"- **Beside the Rust crate**: in the mean of {len(times)} workloads {took}."
     for at in times["numbers", FOUND]:
-        ratios = (times["numbers", it][at][1] for it in CHOICE_WORDS)
+        ratios = (times["numbers", it][at].ratios for it in CHOICE_WORDS)
         wins.append(f"{sum(it[0] < min(it[rival] for rival in CHOICES) for it in ratios)} with {at}")
     uses = f"of the {len(CHOICE_WORDS)} uses in the next table"
     yield f"- **Beside two hash maps**: {uses}, `Map` is the fastest in {', '.join(wins[:-1])} and {wins[-1]} keys."
@@ -158,7 +172,7 @@ def speed_list(times):
     """In which workloads this library is as fast as the Rust crate, faster and slower, each with its mean ratio, the least
     and the greatest."""
     ratios = {": ".join(it).removeprefix("numbers: "): own_of(cells) for it, cells in times.items()}
-    means = {name: round(mean(those)[0], 2) for name, those in ratios.items()}
+    means = {name: round(mean(those).number, 2) for name, those in ratios.items()}
     cells = {name: f"`{name}` {shown(mean(those))} ({shown(min(those))}–{shown(max(those))})" for name, those in ratios.items()}
     groups = {
         "As fast, to a twentieth": (0.95, 1.05),
@@ -179,23 +193,28 @@ def worst(cells, ratios):
 
 def layout_table(times):
     """The table of what takes over a fifth longer than the layout, and what holds of the rest and of all."""
-    means = {key: mean(over_layout(it))[0] for key, it in times.items()}
+    means = {key: mean(over_layout(it)) for key, it in times.items()}
     yield from ["| | Over the Rust crate | Over the layout |", "|---|---|---|"]
-    for key in sorted((it for it in means if means[it] > 1.2), key=means.get, reverse=True):
+    for key in sorted((it for it in means if means[it].number > 1.2), key=means.get, reverse=True):
         yield row([": ".join(key), *(worst(times[key], of(times[key])) for of in (own_of, over_layout))])
-    rest, of_all = [it for it in means.values() if it <= 1.2], mean_of_all(times, over_layout)
-    yield f"\nAll others take {min(rest):.2f} to {max(rest):.2f} times the layout's time. The mean of all is {of_all}."
+    rest, of_all = [it for it in means.values() if it.number <= 1.2], mean_of_all(times, over_layout)
+    yield f"\nAll others take {shown(min(rest))} to {shown(max(rest))} times the layout's time. The mean of all is {of_all}."
 
 
-def drawn(source, times):
-    levels, rivals = Levels([ratio for cells in times.values() for ratio, _ in own_of(cells)]), [0, *CHOICES]
-    cells = {name: times["numbers", name] for name in PANELS}
-    panels = [(name, mean(own_of(it)), [*it], [ratios_of(it, rival) for rival in rivals]) for name, it in cells.items()]
-    return chart("Time relative to the Rust crate's: numbers as keys and values", source, levels, [RIVALS[it] for it in rivals], panels)
+def draw_chart(text):
+    """Draws the chart anew from a record."""
+    source, times, _ = parsed(text)
+    rivals, panels = [0, *CHOICES], []
+    for name in PANELS:
+        cells = times["numbers", name]
+        lines = [[it.number for it in ratios_of(cells, rival)] for rival in rivals]
+        panels.append((f"{name}: {shown(mean(own_of(cells)))}", [*cells], lines))
+    names = [RIVALS[it].replace("`", "") for it in rivals]
+    draw(CHART, text, "Time relative to the Rust crate's, with numbers as keys and values", source, names, panels)
 
 
 def made(text):
-    """The files that a record makes: the chart, and the pages with their parts."""
+    """The pages with the parts that a record makes."""
     source, times, sizes = parsed(text)
     makers = {
         "what it takes to find a key": lambda part: found_table(times, part),
@@ -209,11 +228,13 @@ def made(text):
     def part_of(found):
         return "\n".join([found[1], *makers[found[2]](found[0]), "", found[3]])
 
-    parts = {path: re.sub(PART, part_of, read(path), flags=re.M | re.S) for path in (README, SPEED)}
-    return {CHART: drawn(source, times)} | parts
+    return {path: re.sub(PART, part_of, read(path), flags=re.M | re.S) for path in (README, SPEED)}
 
 
 def wrong_of_speed():
-    """Which files aren't what the record makes."""
-    stale = (path for path, it in made(read(RECORD)).items() if not os.path.exists(path) or read(path) != it)
+    """Which files aren't what the record makes. Of the chart only the sum of its record is compared, which needs no matplotlib."""
+    text = read(RECORD)
+    stale = [path for path, page in made(text).items() if read(path) != page]
+    if not os.path.exists(CHART) or drawn_of(read(CHART)) != sum_of(text):
+        stale.append(CHART)
     return [f"{path} isn't what {RECORD} has: run tools/compare --chart" for path in stale]

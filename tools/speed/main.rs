@@ -1,5 +1,6 @@
 //! Times `workloads` at the Rust crate, at the static library that is made of that folder and at `layout`, in turns, and
-//! prints lines of words with tabs between them, for `tools/compare` to make its tables of:
+//! prints lines of words with tabs between them, for `tools/compare` to make its tables of. Its arguments are the number of
+//! turns, and words of the workloads that are timed, as `numbers: get, hit`:
 //!
 //!     time  SUBJECT  WORKLOAD  CAPACITY  NANOSECONDS  RATIO..
 //!     size  TYPE  CAPACITY  BYTES  BYTES
@@ -170,8 +171,10 @@ fn measured(subject: &Subject, workload: usize, at: usize, turns: usize) -> (f64
 
 fn main() {
     let turns = std::env::args().nth(1).and_then(|word| word.parse().ok()).filter(|turns| *turns > 0).expect("a number of turns");
+    let only = std::env::args().nth(2).unwrap_or_default();
     for subject in subjects() {
-        for (workload, name) in subject.workloads.iter().enumerate() {
+        let is_wanted = |name: &str| format!("{}: {name}", subject.name).contains(&only);
+        for (workload, name) in subject.workloads.iter().enumerate().filter(|(_, name)| is_wanted(name)) {
             for (at, capacity) in CAPACITIES.iter().enumerate() {
                 let (nanoseconds, ratios) = measured(&subject, workload, at, turns);
                 println!("time\t{}\t{name}\t{capacity}\t{nanoseconds:.2}\t{}", subject.name, ratios.join("\t"));

@@ -6,7 +6,7 @@ import sys
 import tempfile
 from pathlib import Path
 
-from adding.copies import IGNORED, LIBRARY, LIST, ORIGIN, PROGRAM, TOP
+from adding.copies import IGNORED, LIBRARY, LIST, ORIGIN, PROGRAMS, TOP
 from adding.copies import library, origin_of, program_as, rows_for, text_of, write
 from adding.gallery import GALLERY, examples, with_example
 from pages.links import HOME, dead_links
@@ -24,7 +24,8 @@ class Trial:
         self.room, self.wrong = room, []
 
     def expect(self, holds, what):
-        self.wrong += [] if holds else [f"tools/add: {what}"]
+        if not holds:
+            self.wrong.append(f"tools/add: {what}")
 
     def make(self, name, files):
         os.makedirs(f"{self.room}/{name}", exist_ok=True)
@@ -58,9 +59,10 @@ def try_copies(trial):
     trial.make("new", {})
     trial.adds("new", "first")
     own, origin = rows_for("first"), {ORIGIN: origin_of(library()).encode()}
-    wanted = library() | program_as("first") | origin | {IGNORED: b"out/\n", LIST: "".join(f"{it}\n" for it in own.values()).encode()}
+    listed = "".join(f"{it}\n" for it in own.values()).encode()
+    wanted = library() | program_as("first") | origin | {IGNORED: b"out/\n", LIST: listed}
     trial.expect_files("new", wanted, "a new copy isn't as it must be")
-    trial.expect(not re.search("/(must-fail|claims|out)/", " ".join(wanted)), "a new copy has wrong bodies or out/")
+    trial.expect(not re.search("/(must-fail|wrong-bodies|out)/", " ".join(wanted)), "a new copy has wrong bodies or out/")
     trial.adds("new")
     trial.expect_files("new", wanted, "a second addition changes something")
     older = library() | {"crates/micromap/src/gone.rt": b"", "crates/micromap/src/lib.rt": b"// older\n"}
@@ -70,6 +72,15 @@ def try_copies(trial):
     rows = f"# mine\n{own['micromap']} # a comment\nother:\n{own['micromap_walk']}\n{own['micromap_core']}\n"
     wanted = library() | origin | {LIST: rows.encode()}
     trial.expect_files("older", wanted, "an older copy isn't brought up to date")
+
+
+def try_contract(trial):
+    """A new copy with the program that has a contract."""
+    trial.make("contract", {})
+    trial.adds("--contract", "contract", "second")
+    made, wanted = state(f"{trial.room}/contract"), program_as("second", PROGRAMS[1])
+    differing = [it for it in wanted if made.get(it) != wanted[it]]
+    trial.expect(not differing and b"\nsecond: micromap micromap_core\n" in made[LIST], f"the program with a contract: {differing}")
 
 
 def try_refusals(trial):
@@ -97,8 +108,7 @@ def try_refusals(trial):
 def amiss_in(name, made):
     """What isn't as it must be in the files that the crate `first`, and the list of crates, get with an example."""
     text, at = "\n".join(made.values()), "crates/first"
-    if GALLERY in text:
-        yield f"names {GALLERY}"
+    yield from (f"names {it}" for it in GALLERY if it in text)
     for folder, its in re.findall(r"Rattle\.first\.(specs|proofs)\.([A-Z]\w*)\.", text):
         if f"{at}/{folder}/{its}.antt" not in made or f"pub mod {its}\n" not in made[f"{at}/{folder}/Lib.antt"]:
             yield f"names {folder}/{its}.antt, which isn't there or isn't listed"
@@ -121,7 +131,7 @@ def try_examples(trial):
     trial.make("new", {"crates/first/src/swap.rt": b"// mine\n"})
     refusals = {
         "map_of_lists": "the nearest are map_of_list",
-        "histogram": "the nearest are counts_or_none",
+        "histogram": "the nearest are counts_by_tens, counts_or_none",
         "is_held": "crates/first/specs/Permissions.antt",
         "swap": "crates/first/src/swap.rt",
     }
@@ -145,10 +155,11 @@ def check():
     """Tries all of this, looks for the program in the README, and returns the status."""
     with tempfile.TemporaryDirectory() as room:
         trial = Trial(os.path.realpath(room))
-        for tries in (try_copies, try_documents, try_examples, try_refusals):
+        for tries in (try_copies, try_contract, try_documents, try_examples, try_refusals):
             tries(trial)
-    program = text_of(f"{TOP}/crates/{PROGRAM}/src/main.rt")
-    has_program = f"```rust\n{program}```\n" in text_of(f"{TOP}/README.md")
-    trial.expect(has_program, f"no block of README.md is the whole program of {PROGRAM}")
+    for it in PROGRAMS:
+        program = text_of(f"{TOP}/crates/{it}/src/main.rt")
+        has_program = f"```rust\n{program}```\n" in text_of(f"{TOP}/README.md")
+        trial.expect(has_program, f"no block of README.md is the whole program of {it}")
     print("\n".join(trial.wrong) or "tools/add: copies are made, brought up to date and refused as they must be")
     return 1 if trial.wrong else 0
